@@ -1,0 +1,3 @@
+pub mod Computes
+pub mod Laws
+pub mod Log

@@ -1,0 +1,11 @@
+pub mod Base
+pub mod Utf8
+pub mod Tree
+pub mod Fields
+pub mod File
+pub mod Text
+pub mod Command
+pub mod Spelling
+pub mod Walk
+pub mod Smtlib
+pub mod Faithful
