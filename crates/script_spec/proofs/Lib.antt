@@ -5,3 +5,7 @@ pub mod Numerals
 pub mod Reading
 pub mod Pieces
 pub mod Symbols
+pub mod Unfolding
+pub mod Means
+pub mod Sorts
+pub mod Bodies

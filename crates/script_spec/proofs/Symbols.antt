@@ -9,11 +9,13 @@ use mathlib.Core.List.{List, [], _∷_, _++_}
 use lib.Dec.{T, eqb, eqb→eq}
 use Rattle.script_spec.specs.Base.{Bytes, bytes, between, any, all, empty, same}
 use Rattle.script_spec.specs.Tree.{ExtType, IPAddr, Decimal, Datetime, Duration}
-use Rattle.script_spec.specs.Spelling.{extName}
+use Rattle.script_spec.specs.Text.{decimal}
+use Rattle.script_spec.specs.Tree.{PlainOp, And, Bvadd, Bvlshr, Bvmul, Bvneg, Bvnego, Bvsaddo, Bvsdiv, Bvshl, Bvsle, Bvslt, Bvsmod, Bvsmulo, Bvsrem, Bvssubo, Bvsub, Bvudiv, Bvule, Bvult, Bvurem, Eq, Ite, Not, OptionGet, Or, SetInter, SetMember, SetSubset}
+use Rattle.script_spec.specs.Spelling.{extName, plainName}
 use Rattle.script_spec.specs.Smtlib.{separator}
 use Rattle.script_spec.specs.Faithful.{digitsOnly, lettered, stem, isExtName, used}
 use Rattle.script_spec.proofs.Laws.{and-parts, and-both, or-cases, or-left, or-right, is-true, is-false, all-map}
-use Rattle.script_spec.proofs.Numerals.{isDigit, digit-unlike}
+use Rattle.script_spec.proofs.Numerals.{isDigit, digit-unlike, decimal-digits}
 use Rattle.script_spec.proofs.Pieces.{wordByte}
 use Rattle.script_spec.proofs.Computes
 
@@ -131,6 +133,9 @@ lettered-suffix (b ∷ x) y = and-not (eqb b 116) (digitsOnly (x ++ (95 ∷ y)))
 
 -- ---- symbols of the theories
 
+pub decimal-word : (n : ℕ) → T (all wordByte (decimal n))
+decimal-word n = all-map isDigit wordByte digit-word (decimal n) (decimal-digits n)
+
 -- a symbol that uses no name
 unfoldable pub plain : Bytes → Bool
 plain w = all wordByte w && (not (lettered 116 w) && empty (used w))
@@ -157,13 +162,63 @@ used-digit : (b : ℕ) (s : Bytes) → T (isDigit b) → used (b ∷ s) ≡ []
 unfolding isDigit Computes.base
 used-digit b s h = used-none (b ∷ s) (rw (stem-cons b s (rw (digit-unlike b 95 h tt) tt)) (digit-lettered b (stem s) h)) (digit-isExtName b s h)
 
-pub digits-plain : (s : Bytes) → T (all isDigit s) → T (plain s)
+digits-plain : (s : Bytes) → T (all isDigit s) → T (plain s)
 unfolding plain Computes.base Computes.faithful
 digits-plain [] h = tt
 digits-plain (b ∷ s) h =
     let d = and-parts (isDigit b) (all isDigit s) h .0 in
     and-both (all wordByte (b ∷ s)) (not (lettered 116 (b ∷ s)) && empty (used (b ∷ s))) (all-map isDigit wordByte digit-word (b ∷ s) h)
     (and-both (not (lettered 116 (b ∷ s))) (empty (used (b ∷ s))) (digit-term b s d) (rw (used-digit b s d) tt))
+
+pub decimal-plain : (n : ℕ) → T (plain (decimal n))
+decimal-plain n = digits-plain (decimal n) (decimal-digits n)
+
+pub plainName-plain : (o : PlainOp) → T (plain (plainName o))
+unfolding plain plainName wordByte Computes.base Computes.smtlib Computes.faithful
+plainName-plain And = tt
+plainName-plain Bvadd = tt
+plainName-plain Bvlshr = tt
+plainName-plain Bvmul = tt
+plainName-plain Bvneg = tt
+plainName-plain Bvnego = tt
+plainName-plain Bvsaddo = tt
+plainName-plain Bvsdiv = tt
+plainName-plain Bvshl = tt
+plainName-plain Bvsle = tt
+plainName-plain Bvslt = tt
+plainName-plain Bvsmod = tt
+plainName-plain Bvsmulo = tt
+plainName-plain Bvsrem = tt
+plainName-plain Bvssubo = tt
+plainName-plain Bvsub = tt
+plainName-plain Bvudiv = tt
+plainName-plain Bvule = tt
+plainName-plain Bvult = tt
+plainName-plain Bvurem = tt
+plainName-plain Eq = tt
+plainName-plain Ite = tt
+plainName-plain Not = tt
+plainName-plain OptionGet = tt
+plainName-plain Or = tt
+plainName-plain SetInter = tt
+plainName-plain SetMember = tt
+plainName-plain SetSubset = tt
+
+-- ---- extension names
+
+pub extName-word : (x : ExtType) → T (all wordByte (extName x))
+unfolding extName wordByte Computes.base Computes.smtlib
+extName-word IPAddr = tt
+extName-word Decimal = tt
+extName-word Datetime = tt
+extName-word Duration = tt
+
+pub extName-lettered : (x : ExtType) → T (not (lettered 116 (extName x)))
+unfolding extName Computes.base Computes.faithful
+extName-lettered IPAddr = tt
+extName-lettered Decimal = tt
+extName-lettered Datetime = tt
+extName-lettered Duration = tt
 
 pub used-extName : (x : ExtType) → used (extName x) ≡ extName x ∷ []
 unfolding extName Computes.base Computes.faithful
