@@ -9,3 +9,6 @@ pub mod Unfolding
 pub mod Means
 pub mod Sorts
 pub mod Bodies
+pub mod Terms
+pub mod Declarations
+pub mod Roles

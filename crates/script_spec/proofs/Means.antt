@@ -42,7 +42,7 @@ tokens-open : (s : Bytes) → tokens (40 ∷ s) ≡ mark 40 ∷ tokens s
 unfolding Computes.base Computes.smtlib
 tokens-open s = refl
 
-namesIn-wordEnd : (ok : Bytes → Bool) (w : Bytes) → T (all ok (used w)) → T (all ok (namesIn (wordEnd w)))
+pub namesIn-wordEnd : (ok : Bytes → Bool) (w : Bytes) → T (all ok (used w)) → T (all ok (namesIn (wordEnd w)))
 unfolding wordEnd namesIn all
 namesIn-wordEnd ok [] h = tt
 namesIn-wordEnd ok (b ∷ w) h = rw (append-nil (used (b ∷ w))) h
