@@ -1,3 +1,5 @@
+pub mod Agree
 pub mod Computes
 pub mod Laws
 pub mod Log
+pub mod Steps
