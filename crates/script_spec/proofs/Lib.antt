@@ -6,3 +6,4 @@ pub mod Invariant
 pub mod Laws
 pub mod Log
 pub mod Steps
+pub mod TypeLog
