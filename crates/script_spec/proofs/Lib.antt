@@ -5,5 +5,6 @@ pub mod Grow
 pub mod Invariant
 pub mod Laws
 pub mod Log
+pub mod NewLog
 pub mod Steps
 pub mod TypeLog

@@ -28,16 +28,16 @@ pub record Logs (e : Enums) (ins : List Tm) (P : List Thing → Type 0) (log : L
   pub inv : Inv e ins s later
   pub has : P later
 
-absent : (b : Bool) → T (not b) → T b → ⊥
+pub absent : (b : Bool) → T (not b) → T b → ⊥
 absent true n h = n
 absent false n h = h
 
 module _ (e : Enums) (ins : List Tm) where
-  logs-same : {P : List Thing → Type 0} {log : List Thing} {s : State} → Inv e ins s log → P log → Logs e ins P log s
+  pub logs-same : {P : List Thing → Type 0} {log : List Thing} {s : State} → Inv e ins s log → P log → Logs e ins P log s
   logs-same {log = log} i p = record { later = log; grown = λ th m. m; inv = i; has = p }
 
   -- a log that has grown before
-  logs-then : {P Q : List Thing → Type 0} {log log′ : List Thing} {s : State} → Grows log log′ → (l : Logs e ins P log′ s) → (P (l .later) → Q (l .later)) → Logs e ins Q log s
+  pub logs-then : {P Q : List Thing → Type 0} {log log′ : List Thing} {s : State} → Grows log log′ → (l : Logs e ins P log′ s) → (P (l .later) → Q (l .later)) → Logs e ins Q log s
   logs-then g l f = record { later = l .later; grown = λ th m. l .grown th (g th m); inv = l .inv; has = f (l .has) }
 
   -- the comment and the declaration of a type speak by the declaration alone
