@@ -7,4 +7,5 @@ pub mod Laws
 pub mod Log
 pub mod NewLog
 pub mod Steps
+pub mod TermLog
 pub mod TypeLog
