@@ -6,6 +6,10 @@ pub mod Invariant
 pub mod Laws
 pub mod Log
 pub mod NewLog
+pub mod Numerals
+pub mod Pieces
+pub mod Reading
 pub mod Steps
+pub mod Symbols
 pub mod TermLog
 pub mod TypeLog
