@@ -2,10 +2,12 @@ pub mod Agree
 pub mod Bodies
 pub mod Computes
 pub mod Declarations
+pub mod Defined
 pub mod Entered
 pub mod Grow
 pub mod Invariant
 pub mod Laws
+pub mod Lists
 pub mod Log
 pub mod Means
 pub mod NewLog
