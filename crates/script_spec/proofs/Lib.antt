@@ -12,6 +12,7 @@ pub mod Log
 pub mod Means
 pub mod NewLog
 pub mod Numerals
+pub mod Order
 pub mod Pieces
 pub mod Reading
 pub mod Roles
