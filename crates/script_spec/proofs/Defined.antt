@@ -43,13 +43,12 @@ unique-snoc [] n h = (tt, λ m k e. List·Memᴰ·not-nil k)
 unique-snoc (x ∷ ns) n h =
     let q = and-parts (not (any (same x) (ns ++ (n ∷ [])))) (unique (ns ++ (n ∷ []))) h in
     let r = unique-snoc ns n (q .1) in
-    let clash : T (any (same x) (ns ++ (n ∷ []))) → ⊥ = T-not (any (same x) (ns ++ (n ∷ []))) (q .0) in
-    (
+    let clash : T (any (same x) (ns ++ (n ∷ []))) → ⊥ = T-not (any (same x) (ns ++ (n ∷ []))) (q .0) in (
       and-both (not (any (same x) ns)) (unique ns) (not-T (any (same x) ns) (λ k. clash (any-left (same x) ns (n ∷ []) k))) (r .0),
       λ m k e. ⊎-elim
-        (λ (p : m ≡ x). clash (any-mem (same x) (ns ++ (n ∷ [])) (Memᴰ·append-right ns (List·Memᴰ·head (sym p ∙ e))) (same-refl x)))
-        (λ (j : List·Memᴰ m ns). r .1 m j e)
-        (List·Memᴰ·cases-cons k),
+          (λ (p : m ≡ x). clash (any-mem (same x) (ns ++ (n ∷ [])) (Memᴰ·append-right ns (List·Memᴰ·head (sym p ∙ e))) (same-refl x)))
+          (λ (j : List·Memᴰ m ns). r .1 m j e)
+          (List·Memᴰ·cases-cons k),
     )
 
 pub unlike : (ν : Names) (log : List Thing) → T (unique (map (nameOf ν) (reversed log))) → Unlike ν log

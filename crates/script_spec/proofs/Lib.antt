@@ -16,6 +16,7 @@ pub mod Order
 pub mod Pieces
 pub mod Reading
 pub mod Roles
+pub mod Says
 pub mod Sorts
 pub mod Steps
 pub mod Symbols

@@ -52,9 +52,9 @@ every-append (also p ps) q = also p (every-append ps q)
 
 -- ---- maps
 
-pub map-equal : {A B : Type 0} (f g : A → B) (xs : List A) → ((x : A) → List·Memᴰ x xs → f x ≡ g x) → map f xs ≡ map g xs
-map-equal f g [] h = refl
-map-equal f g (x ∷ xs) h = λ i. h x (List·Memᴰ·head refl) i ∷ map-equal f g xs (λ y m. h y (List·Memᴰ·tail m)) i
+pub map-map : {A B C D : Type 0} (f : A → B) (g : B → D) (h : A → C) (k : C → D) (xs : List A) → ((x : A) → List·Memᴰ x xs → g (f x) ≡ k (h x)) → map g (map f xs) ≡ map k (map h xs)
+map-map f g h k [] e = refl
+map-map f g h k (x ∷ xs) e = λ i. e x (List·Memᴰ·head refl) i ∷ map-map f g h k xs (λ y m. e y (List·Memᴰ·tail m)) i
 
 pub collect-map-none : {A B C : Type 0} (g : B → List C) (f : A → B) → ((x : A) → g (f x) ≡ []) → (xs : List A) → collect g (map f xs) ≡ []
 unfolding collect

@@ -74,7 +74,7 @@ module _ (e : Enums) (ν : Names) where
       ap (seenAfter ν []) (logRoles-next th log) ∙ seenAfter-append ν [] (logRoles log) (role e ν th ∷ [])
       ∙ rw (named-role th, seenAfter-log log) refl
 
-  known-in : {log : List Thing} (log′ : List Thing) → Well ν log → ((th : Thing) → List·Memᴰ th log → List·Memᴰ th log′) → Known ν log (nameIn ν log′)
+  pub known-in : {log : List Thing} (log′ : List Thing) → Well ν log → ((th : Thing) → List·Memᴰ th log → List·Memᴰ th log′) → Known ν log (nameIn ν log′)
   known-in log′ w g = record { well = w; usable = λ th m. nameIn-mem ν log′ (g th m) }
 
   -- what a command uses once its own name is seen
@@ -88,7 +88,7 @@ module _ (e : Enums) (ν : Names) where
   inOrder-log (next {th} {log} o h n) w u =
       let w′ : Well ν log = λ x k. w x (List·Memᴰ·tail k) in
       let f = thing-fulfils e ν log (defs e ν log) (nameIn ν (th ∷ log)) (defs-named e ν log w′) (known-in (th ∷ log) w′ (λ x k. List·Memᴰ·tail k)) (log-unfolds e ν o w′ (u .1)) th
-          (w th (List·Memᴰ·head refl)) (nameIn-mem ν (th ∷ log) (List·Memᴰ·head refl)) n h in
+      (w th (List·Memᴰ·head refl)) (nameIn-mem ν (th ∷ log) (List·Memᴰ·head refl)) n h in
       rw (logRoles-next th log)
       (inOrder-append e ν [] (logRoles log) (role e ν th ∷ []) (inOrder-log o w′ (u .1)) (rw (seenAfter-log log) (inOrder-one th (map (nameOf ν) log) (f .inOrder))))
 
