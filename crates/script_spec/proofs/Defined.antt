@@ -13,13 +13,13 @@ use Rattle.script_spec.specs.Tree.{Ty, Fun, Tm, node, isVariable, Enums,
 use Rattle.script_spec.specs.Spelling.{Names, body, bodyAt}
 use Rattle.script_spec.specs.Smtlib.{Token, word, tokens, flat}
 use Rattle.script_spec.specs.Faithful.{Definition, Thing, term, func, type, nameOf, wellNamed, unique, lettered, Role, declares, defines, asserts, definitions, replaced, replacedWord, unfolded, full}
-use Rattle.script_spec.proofs.Laws.{and-parts, and-both, is-true, is-false, same-refl, same-eq, any-left, any-right, all-append}
+use Rattle.script_spec.proofs.Laws.{and-parts, and-both, is-true, is-false, same-refl, same-eq, any-left, all-append}
 use Rattle.script_spec.proofs.Log.{HasParts, Ordered, start, next, reversed}
 use Rattle.script_spec.proofs.Lists.{any-mem, reversed-mem}
 use Rattle.script_spec.proofs.Unfolding.{Named, unfolded-word}
 use Rattle.script_spec.proofs.Sorts.{Known}
 use Rattle.script_spec.proofs.Terms.{Unfolds, definition-means}
-use Rattle.script_spec.proofs.Bodies.{anyName}
+use Rattle.script_spec.proofs.Means.{Context}
 use Rattle.script_spec.proofs.Roles.{role, definingBody}
 
 -- ---- names that differ
@@ -159,6 +159,13 @@ module _ (e : Enums) (ν : Names) where
   unfolding unfolded replaced replacedWord
   other-unfolds n w b ds h = rw (is-false (same w n) (differs w n (λ k. h (sym k))))
 
+  -- the definitions of a well named log, with the names that are allowed
+  abbrev pub logContext : (log : List Thing) → Well ν log → (Bytes → Bool) → Context
+  logContext log w ok = record { defined = defs log; named = defs-named log w; allowed = ok }
+
+  known-any : (log : List Thing) (w : Well ν log) → Known (logContext log w (λ n. true)) ν log
+  known-any log w = record { well = w; usable = λ x m. tt }
+
   -- the latest thing's name
   latest-unfolds : {th : Thing} {ds : List Definition} (log : List Thing) → Defining th ds → Well ν log → Fresh ν (nameOf ν th) log → HasParts e log th → Unfolds e ν log (defs log)
       → (t : Tm) → term t ≡ th → flat (unfolded (ds ++ defs log) (word (ν .term t) ∷ [])) ≡ full e ν t
@@ -172,7 +179,7 @@ module _ (e : Enums) (ν : Names) where
       let q : u ≡ t = cc in
       subst (λ (x : Tm). flat (unfolded ((ν .term u, tokens (definingBody e ν u)) ∷ defs log) (word (ν .term x) ∷ [])) ≡ full e ν x) q
       (ap flat (defined-unfolds (ν .term u) (tokens (definingBody e ν u)) (defs log))
-      ∙ definition-means e ν log (defs log) anyName (defs-named log w) (record { well = w; usable = λ x m. tt }) un u v h .unfolds)
+      ∙ definition-means e (known-any log w) un u v h .unfolds)
 
   -- an earlier thing's name
   earlier-unfolds : {th : Thing} {ds : List Definition} (log : List Thing) → Defining th ds → Fresh ν (nameOf ν th) log → Unfolds e ν log (defs log)

@@ -7,7 +7,7 @@ use mathlib.Core.Logic.{_⊎_, inl, inr}
 use mathlib.Core.Bool.{Bool, true, false, not, _&&_, _||_}
 use mathlib.Core.List.{List, [], _∷_, _++_}
 use lib.Dec.{T, eqb, eqb→eq}
-use Rattle.script_spec.specs.Base.{Bytes, bytes, between, any, all, empty, same}
+use Rattle.script_spec.specs.Base.{Bytes, between, any, all, empty}
 use Rattle.script_spec.specs.Tree.{ExtType, IPAddr, Decimal, Datetime, Duration}
 use Rattle.script_spec.specs.Text.{decimal}
 use Rattle.script_spec.specs.Tree.{PlainOp, And, Bvadd, Bvlshr, Bvmul, Bvneg, Bvnego, Bvsaddo, Bvsdiv, Bvshl, Bvsle, Bvslt, Bvsmod, Bvsmulo, Bvsrem, Bvssubo, Bvsub, Bvudiv, Bvule, Bvult, Bvurem, Eq, Ite, Not, OptionGet, Or, SetInter, SetMember, SetSubset}
