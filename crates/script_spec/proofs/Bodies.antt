@@ -17,10 +17,10 @@ use Rattle.script_spec.specs.Spelling.{Names, extName, datatypeSort, sor
 use Rattle.script_spec.specs.Smtlib.{tokens, flat}
 use Rattle.script_spec.specs.Faithful.{unfolded, Thing, term, func, nameOf, wellNamed, namesIn, operands, Every, also}
 use Rattle.script_spec.proofs.Log.{HasType, HasTypes, HasTerm, HasParts}
-use Rattle.script_spec.proofs.Pieces.{Piece, wordByte}
-use Rattle.script_spec.proofs.Symbols.{plain, plainName-plain, extName-word, extName-lettered, used-extName}
+use Rattle.script_spec.proofs.Pieces.{Piece}
+use Rattle.script_spec.proofs.Symbols.{plain-computes, plainName-plain, extName-word, extName-lettered, used-extName}
 use Rattle.script_spec.proofs.Unfolding.{operands-uses, operands-extName}
-use Rattle.script_spec.proofs.Means.{Context, Means, Meanings, none, more, anyName, meanings-append, meanings-any, plain-means, user-means, name-means, decimal-means, literal-means, spaced-means, headed-means, close-uses, bitVecSort-means, bitVec-means, asSort-means}
+use Rattle.script_spec.proofs.Means.{Context, Means, Stays, StaysEach, Meanings, none, more, anyName, meanings-append, meanings-any, plain-means, user-means, name-means, decimal-means, literal-means, spaced-means, headed-means, close-uses, bitVecSort-means, bitVec-means, asSort-means}
 use Rattle.script_spec.proofs.Sorts.{Known, sort-means, entityBy-means, selector-means}
 use Rattle.script_spec.proofs.Computes
 
@@ -31,6 +31,10 @@ pub record BodyMeans (c : Context) (inline : Bool) (a g : Bytes) : Type 0 where
   pub unfolds : flat (unfolded (c .defined) (tokens a)) ≡ g
   pub uses : T (all (c .allowed) (namesIn (operands (tokens a))))
   pub inlineUses : T inline → T (all (c .allowed) (namesIn (tokens a)))
+
+-- a `Bvnego` that is written `false`
+abbrev pub isFalse : Negation → Bool
+isFalse n = elim n [ ordinary ↦ false | falsehood ↦ true | comparison k ↦ false ]
 
 typesOf-has : {e : Enums} {log : List Thing} (ts : Forest Mark) → Every (HasTerm e log) (trees ts) → HasTypes log (typesOf ts)
 unfolding typesOf trees HasTypes
@@ -55,7 +59,7 @@ module _ {c : Context} where
   -- ---- operators and values
 
   extOp-body : (o : ExtOp) {args gs : List Bytes} → Meanings c args gs → BodyMeans c false (headed (extOpName o) args) (headed (extOpName o) gs)
-  unfolding headed spaced extOpName extName plain wordByte Computes.base Computes.smtlib Computes.faithful
+  unfolding headed spaced extOpName extName plain-computes
   extOp-body DatetimeOfBitVec q = extHeaded-body Datetime q
   extOp-body DatetimeVal q = whole (headed-means (plain-means (bytes "datetimeVal") tt) q)
   extOp-body DecimalVal q = whole (headed-means (plain-means (bytes "decimalVal") tt) q)
@@ -68,51 +72,51 @@ module _ {c : Context} where
   extOp-body IpaddrPrefixV4 q = whole (headed-means (plain-means (bytes "prefixV4") tt) q)
   extOp-body IpaddrPrefixV6 q = whole (headed-means (plain-means (bytes "prefixV6") tt) q)
 
-  elementBy-means : (x : Bool) (p : ℕ) → Means c (elementBy x p) (elementBy x p)
-  unfolding elementBy plain wordByte Computes.base Computes.smtlib Computes.faithful
+  elementBy-means : (x : Bool) (p : ℕ) → Stays c (elementBy x p)
+  unfolding elementBy plain-computes
   elementBy-means true p = headed-means (plain-means (bytes "re.*") tt) (more (plain-means (bytes "re.allchar") tt) none)
   elementBy-means false p = headed-means (plain-means (bytes "str.to_re") tt) (more (literal-means (p ∷ [])) none)
 
-  elements-means : (ps : List ℕ) → Meanings c (map patternElement ps) (map patternElement ps)
+  elements-means : (ps : List ℕ) → StaysEach c (map patternElement ps)
   unfolding patternElement
   elements-means [] = none
   elements-means (p ∷ ps) = more (elementBy-means (eqb p wildcard) p) (elements-means ps)
 
-  pattern-means : (ps : List ℕ) → Means c (pattern ps) (pattern ps)
-  unfolding pattern patternElement plain wordByte Computes.base Computes.smtlib Computes.faithful
+  pattern-means : (ps : List ℕ) → Stays c (pattern ps)
+  unfolding pattern patternElement plain-computes
   pattern-means [] = headed-means (plain-means (bytes "str.to_re") tt) (more (literal-means []) none)
   pattern-means (p ∷ []) = elementBy-means (eqb p wildcard) p
   pattern-means (p ∷ q ∷ r) = headed-means (plain-means (bytes "re.++") tt) (elements-means (p ∷ q ∷ r))
 
-  prefixBy-means : (x : Bool) (n p : ℕ) → Means c (prefixBy x n p) (prefixBy x n p)
-  unfolding prefixBy plain wordByte Computes.base Computes.smtlib Computes.faithful
+  prefixBy-means : (x : Bool) (n p : ℕ) → Stays c (prefixBy x n p)
+  unfolding prefixBy plain-computes
   prefixBy-means true n p = asSort-means (plain-means (bytes "none") tt) (headed-means (plain-means (bytes "Option") tt) (more (bitVecSort-means n) none))
   prefixBy-means false n p = headed-means (plain-means (bytes "some") tt) (more (bitVec-means n p) none)
 
   -- a value whose type has a name that may be used
-  extValue-means : (v : Value) → Means c (extName (extTypeOf v)) (extName (extTypeOf v)) → Means c (extValue v) (extValue v)
-  unfolding extValue prefixLength extTypeOf extName plain wordByte Computes.base Computes.smtlib Computes.faithful
+  extValue-means : (v : Value) → Stays c (extName (extTypeOf v)) → Stays c (extValue v)
+  unfolding extValue prefixLength extTypeOf extName plain-computes
   extValue-means (V4 a p) h = headed-means (plain-means (bytes "V4") tt) (more (bitVec-means 32 a) (more (prefixBy-means (eqb p 255) 5 p) none))
   extValue-means (V6 a p) h = headed-means (plain-means (bytes "V6") tt) (more (bitVec-means 128 a) (more (prefixBy-means (eqb p 255) 7 p) none))
   extValue-means (DecimalV n) h = headed-means h (more (bitVec-means 64 n) none)
   extValue-means (DatetimeV n) h = headed-means h (more (bitVec-means 64 n) none)
   extValue-means (DurationV n) h = headed-means h (more (bitVec-means 64 n) none)
 
-  setValue-means : {ty : Bytes} {args gs : List Bytes} → Means c ty ty → Meanings c args gs → Means c (setValue ty args) (setValue ty gs)
-  unfolding setValue plain wordByte Computes.base Computes.smtlib Computes.faithful
+  setValue-means : {ty : Bytes} {args gs : List Bytes} → Stays c ty → Meanings c args gs → Means c (setValue ty args) (setValue ty gs)
+  unfolding setValue plain-computes
   setValue-means p none = asSort-means (plain-means (bytes "set.empty") tt) p
   setValue-means p (more q r) =
       headed-means (plain-means (bytes "set.insert") tt) (meanings-append (more q r) (more (asSort-means (plain-means (bytes "set.empty") tt) p) none))
 
-  recordValue-means : {ty : Bytes} {args gs : List Bytes} → Means c ty ty → Meanings c args gs → Means c (recordValue ty args) (recordValue ty gs)
+  recordValue-means : {ty : Bytes} {args gs : List Bytes} → Stays c ty → Meanings c args gs → Means c (recordValue ty args) (recordValue ty gs)
   unfolding recordValue
   recordValue-means p none = p
   recordValue-means p (more q r) = headed-means p (more q r)
 
   negated-body : (n : Negation) {app app′ : Bytes} {args gs : List Bytes}
-      → (T (not (elim n as (λ z. Bool) [ ordinary ↦ false | falsehood ↦ true | comparison k ↦ false ])) → BodyMeans c false app app′) → Meanings c args gs
-      → BodyMeans c (elim n as (λ z. Bool) [ ordinary ↦ false | falsehood ↦ true | comparison k ↦ false ]) (negated n app args) (negated n app′ gs)
-  unfolding negated plain wordByte Computes.base Computes.smtlib Computes.faithful
+      → (T (not (isFalse n)) → BodyMeans c false app app′) → Meanings c args gs
+      → BodyMeans c (isFalse n) (negated n app args) (negated n app′ gs)
+  unfolding negated plain-computes
   negated-body ordinary p q = p tt
   negated-body falsehood p q = whole (plain-means (bytes "false") tt)
   negated-body (comparison n) p q =
@@ -123,7 +127,7 @@ module _ {c : Context} where
 
     application-body : (op : Op Fun) (tys : Forest TypeMark) {args gs : List Bytes} → HasTypes log tys → ((f : Fun) → op ≡ Uuf f → List·Memᴰ (func f) log) → Meanings c args gs
         → BodyMeans c false (application ν op tys args) (application ν op tys gs)
-    unfolding application wellNamed nameOf plain wordByte Computes.base Computes.smtlib Computes.faithful
+    unfolding application wellNamed nameOf plain-computes
     application-body (Plain o) tys h k q = whole (headed-means (plain-means (plainName o) (plainName-plain o)) q)
     application-body (Ext o) tys h k q = extOp-body o q
     application-body (RecordGet a) tys h k q = whole (headed-means (selector-means kn a tys h) q)
@@ -133,14 +137,14 @@ module _ {c : Context} where
         whole (headed-means (headed-means (plain-means (bytes "_") tt) (more (plain-means (bytes "zero_extend") tt) (more (decimal-means n) none))) q)
 
     -- an extension value's type has its own name
-    extType-means : (x : ExtType) → HasType log (node (Declared (extension x)) nil) → Means c (extName x) (extName x)
+    extType-means : (x : ExtType) → HasType log (node (Declared (extension x)) nil) → Stays c (extName x)
     unfolding sort sortFrom datatypeSort
     extType-means x h = sort-means kn (node (Declared (extension x)) nil) h
 
     -- the body of a term that is no variable, with arguments that mean their full spellings
     pub body-means : (e : Enums) (t : Tm) {args gs : List Bytes} → T (not (isVariable t)) → HasType log (typeOf t) → (T (not (inlined e t)) → HasParts e log (term t)) → Meanings c args gs
         → BodyMeans c (inlined e t) (body e ν t args) (body e ν t gs)
-    unfolding body bodyAt isVariable inlined isFalsehood typeOf typeFrom HasParts children plain wordByte Computes.base Computes.smtlib Computes.faithful
+    unfolding body bodyAt isVariable inlined isFalsehood typeOf typeFrom HasParts children plain-computes
     body-means e (node (Var id ty) ts) nv h k q = absurd nv
     body-means e (node (BoolLit true) ts) nv h k q = whole (plain-means (bytes "true") tt)
     body-means e (node (BoolLit false) ts) nv h k q = whole (plain-means (bytes "false") tt)

@@ -20,7 +20,7 @@ use Rattle.script_spec.proofs.Unfolding.{Named, unfolded-word}
 use Rattle.script_spec.proofs.Sorts.{Known}
 use Rattle.script_spec.proofs.Terms.{Unfolds, definition-means}
 use Rattle.script_spec.proofs.Means.{Context}
-use Rattle.script_spec.proofs.Roles.{role, definingBody}
+use Rattle.script_spec.proofs.Roles.{roleBy, role, definingBody}
 
 -- ---- names that differ
 
@@ -88,8 +88,8 @@ module _ (e : Enums) (ν : Names) where
     defined : {t : Tm} → T (not (isVariable t)) → Defining (term t) ((ν .term t, tokens (definingBody e ν t)) ∷ [])
 
   defining-term : (t : Tm) (x : Bool) → isVariable t ≡ x
-      → Defining (term t) (definitions ν (elim x as (λ z. Role) [ false ↦ defines t (tokens (definingBody e ν t)) | true ↦ declares (term t) ] ∷ []))
-  unfolding definitions
+      → Defining (term t) (definitions ν (roleBy e ν t x ∷ []))
+  unfolding roleBy definitions
   defining-term t true v = variable (subst T (sym v) tt)
   defining-term t false v = defined {t = t} (rw v tt)
 

@@ -15,7 +15,7 @@ use Rattle.script_spec.specs.Faithful.{Definition, unfolded, lettered, u
 use Rattle.script_spec.proofs.Laws.{and-parts, and-both, all-append}
 use Rattle.script_spec.proofs.Reading.{Sep, space, newline, closing, Good}
 use Rattle.script_spec.proofs.Pieces.{Piece, after-tokens, gap-piece, line-piece, paren-piece, paren-good, word-piece, wordByte, tokens-word, literal-piece, tokens-literal}
-use Rattle.script_spec.proofs.Symbols.{plain, decimal-plain, decimal-word, Letter, lettered-word, lettered-unlike, lettered-suffix, used-lettered, used-suffix}
+use Rattle.script_spec.proofs.Symbols.{plain, plain-computes, decimal-plain, decimal-word, Letter, lettered-word, lettered-unlike, lettered-suffix, used-lettered, used-suffix}
 use Rattle.script_spec.proofs.Unfolding.{Named, unfolded-nil, unfolded-string, flat-wordEnd, flat-sep, flat-mark, namesIn-sep}
 use Rattle.script_spec.proofs.Computes
 
@@ -31,10 +31,18 @@ pub record Means (c : Context) (a g : Bytes) : Type 0 where
   pub unfolds : flat (unfolded (c .defined) (tokens a)) ≡ g
   pub uses : T (all (c .allowed) (namesIn (tokens a)))
 
+-- a text that means itself
+abbrev pub Stays : Context → Bytes → Type 0
+Stays c a = Means c a a
+
 -- texts that mean others, one by one
 pub data Meanings (c : Context) : List Bytes → List Bytes → Type 0 where
   none : Meanings c [] []
   more : {a g : Bytes} {xs gs : List Bytes} → Means c a g → Meanings c xs gs → Meanings c (a ∷ xs) (g ∷ gs)
+
+-- texts that mean themselves
+abbrev pub StaysEach : Context → List Bytes → Type 0
+StaysEach c xs = Meanings c xs xs
 
 pub meanings-append : {c : Context} {xs gs ys hs : List Bytes} → Meanings c xs gs → Meanings c ys hs → Meanings c (xs ++ ys) (gs ++ hs)
 meanings-append none q = q
@@ -73,7 +81,7 @@ empty-all ok (n ∷ ns) h = absurd h
 module _ {c : Context} where
   -- ---- words
 
-  symbol-means : (w : Bytes) → T (all wordByte w) → T (not (lettered 116 w)) → T (all (c .allowed) (used w)) → Means c w w
+  symbol-means : (w : Bytes) → T (all wordByte w) → T (not (lettered 116 w)) → T (all (c .allowed) (used w)) → Stays c w
   symbol-means w h k u =
       record {
         piece = word-piece w h;
@@ -82,7 +90,7 @@ module _ {c : Context} where
       }
 
   -- a symbol of the theories
-  pub plain-means : (w : Bytes) → T (plain w) → Means c w w
+  pub plain-means : (w : Bytes) → T (plain w) → Stays c w
   unfolding plain
   plain-means w h =
       let q = and-parts (all wordByte w) (not (lettered 116 w) && empty (used w)) h in
@@ -90,26 +98,26 @@ module _ {c : Context} where
       symbol-means w (q .0) (r .0) (empty-all (c .allowed) (used w) (r .1))
 
   -- a symbol that uses one name
-  pub user-means : (w n : Bytes) → T (all wordByte w) → T (not (lettered 116 w)) → used w ≡ n ∷ [] → T (c .allowed n) → Means c w w
+  pub user-means : (w n : Bytes) → T (all wordByte w) → T (not (lettered 116 w)) → used w ≡ n ∷ [] → T (c .allowed n) → Stays c w
   unfolding all
   user-means w n h k e u = symbol-means w h k (rw e (and-both (c .allowed n) true u tt))
 
   -- a name of a function or a type
-  pub name-means : (l : ℕ) (w : Bytes) → Letter l → eqb l 116 ≡ false → T (lettered l w) → T ((c .allowed) w) → Means c w w
+  pub name-means : (l : ℕ) (w : Bytes) → Letter l → eqb l 116 ≡ false → T (lettered l w) → T (c .allowed w) → Stays c w
   name-means l w m e h u = user-means w w (lettered-word l w m h) (lettered-unlike l 116 w e h) (used-lettered l w m h) u
 
   -- such a name with a `_` and more after it
-  pub suffix-means : (l : ℕ) (w r : Bytes) → Letter l → T (lettered l w) → T ((c .allowed) w) → T (all wordByte (95 ∷ r)) → Means c (w ++ (95 ∷ r)) (w ++ (95 ∷ r))
+  pub suffix-means : (l : ℕ) (w r : Bytes) → Letter l → T (lettered l w) → T (c .allowed w) → T (all wordByte (95 ∷ r)) → Stays c (w ++ (95 ∷ r))
   suffix-means l w r m h u k = user-means (w ++ (95 ∷ r)) w (all-append wordByte w (95 ∷ r) (lettered-word l w m h) k) (lettered-suffix w r) (used-suffix l w r m h) u
 
-  pub nil-means : Means c [] []
+  pub nil-means : Stays c []
   unfolding plain Computes.base Computes.faithful
   nil-means = plain-means [] tt
 
-  pub decimal-means : (n : ℕ) → Means c (decimal n) (decimal n)
+  pub decimal-means : (n : ℕ) → Stays c (decimal n)
   decimal-means n = plain-means (decimal n) (decimal-plain n)
 
-  pub literal-means : (cs : List ℕ) → Means c (literal cs) (literal cs)
+  pub literal-means : (cs : List ℕ) → Stays c (literal cs)
   unfolding flat literal namesIn all
   literal-means cs =
       record {
@@ -176,14 +184,14 @@ module _ {c : Context} where
   spaced-means q = joined-means (32 ∷ []) (λ x x′ y y′ p r. gap-means p r) q
 
   -- a head and arguments, without the parentheses
-  inner-means : {h : Bytes} {xs gs : List Bytes} → Means c h h → Meanings c xs gs → Means c (h ++ (32 ∷ spaced xs)) (h ++ (32 ∷ spaced gs))
+  inner-means : {h : Bytes} {xs gs : List Bytes} → Stays c h → Meanings c xs gs → Means c (h ++ (32 ∷ spaced xs)) (h ++ (32 ∷ spaced gs))
   inner-means p q = gap-means p (spaced-means q)
 
-  pub headed-means : {h : Bytes} {xs gs : List Bytes} → Means c h h → Meanings c xs gs → Means c (headed h xs) (headed h gs)
+  pub headed-means : {h : Bytes} {xs gs : List Bytes} → Stays c h → Meanings c xs gs → Means c (headed h xs) (headed h gs)
   unfolding headed bytes
   headed-means {h} {xs} {gs} p q = rw (← append-assoc h (32 ∷ spaced xs) (41 ∷ []), ← append-assoc h (32 ∷ spaced gs) (41 ∷ [])) (paren-means (inner-means p q))
 
-  pub headed-good : {h : Bytes} {xs gs : List Bytes} → Means c h h → Meanings c xs gs → Good (headed h xs)
+  pub headed-good : {h : Bytes} {xs gs : List Bytes} → Stays c h → Meanings c xs gs → Good (headed h xs)
   unfolding headed bytes
   headed-good {h} {xs} p q = rw (← append-assoc h (32 ∷ spaced xs) (41 ∷ [])) (paren-good (h ++ (32 ∷ spaced xs)) (inner-means p q .piece))
 
@@ -197,14 +205,14 @@ module _ {c : Context} where
 
   -- ---- bit vectors and constants
 
-  pub bitVecSort-means : (n : ℕ) → Means c (bitVecSort n) (bitVecSort n)
-  unfolding bitVecSort plain wordByte Computes.base Computes.smtlib Computes.faithful
+  pub bitVecSort-means : (n : ℕ) → Stays c (bitVecSort n)
+  unfolding bitVecSort plain-computes
   bitVecSort-means n = headed-means (plain-means (bytes "_") tt) (more (plain-means (bytes "BitVec") tt) (more (decimal-means n) none))
 
-  pub bitVec-means : (n v : ℕ) → Means c (bitVec n v) (bitVec n v)
-  unfolding bitVec plain wordByte Computes.base Computes.smtlib Computes.faithful
+  pub bitVec-means : (n v : ℕ) → Stays c (bitVec n v)
+  unfolding bitVec plain-computes
   bitVec-means n v = headed-means (plain-means (bytes "_") tt) (more (plain-means (bytes "bv" ++ decimal v) (and-both (all wordByte (decimal v)) true (decimal-word v) tt)) (more (decimal-means n) none))
 
-  pub asSort-means : {constant ty : Bytes} → Means c constant constant → Means c ty ty → Means c (asSort constant ty) (asSort constant ty)
-  unfolding asSort plain wordByte Computes.base Computes.smtlib Computes.faithful
+  pub asSort-means : {constant ty : Bytes} → Stays c constant → Stays c ty → Stays c (asSort constant ty)
+  unfolding asSort plain-computes
   asSort-means p q = headed-means (plain-means (bytes "as") tt) (more p (more q none))

@@ -8,13 +8,12 @@ use lib.Dec.{T}
 use Rattle.script_spec.specs.Base.{Bytes, same, any, all}
 use Rattle.script_spec.specs.Tree.{Tm, Enums, isVariable}
 use Rattle.script_spec.specs.Spelling.{Names}
-use Rattle.script_spec.specs.Smtlib.{tokens}
-use Rattle.script_spec.specs.Faithful.{Thing, term, func, type, nameOf, Role, declares, defines, named, uses, inOrder, Every, every, also}
+use Rattle.script_spec.specs.Faithful.{Thing, term, func, type, nameOf, Role, named, uses, inOrder, Every, every, also}
 use Rattle.script_spec.proofs.Laws.{and-parts, and-both, same-refl}
 use Rattle.script_spec.proofs.Log.{HasTerm, Ordered, start, next, reversed}
 use Rattle.script_spec.proofs.Lists.{any-mem}
 use Rattle.script_spec.proofs.Sorts.{Known}
-use Rattle.script_spec.proofs.Roles.{role, definingBody, assertion, thing-fulfils, assertion-fulfils}
+use Rattle.script_spec.proofs.Roles.{roleBy, role, assertion, thing-fulfils, assertion-fulfils}
 use Rattle.script_spec.proofs.Defined.{Well, Unlike, logContext, log-unfolds}
 
 -- ---- names seen
@@ -50,10 +49,10 @@ inOrder-append e ν seen (r ∷ rs) qs h k =
 module _ (e : Enums) (ν : Names) where
   -- a thing's command names the thing
   pub named-role : (th : Thing) → named (role e ν th) ≡ th ∷ []
-  unfolding role named
+  unfolding roleBy role named
   named-role (term t) = go (isVariable t)
     where
-      go : (x : Bool) → named (elim x as (λ z. Role) [ false ↦ defines t (tokens (definingBody e ν t)) | true ↦ declares (term t) ]) ≡ term t ∷ []
+      go : (x : Bool) → named (roleBy e ν t x) ≡ term t ∷ []
       go true = refl
       go false = refl
   named-role (func f) = refl

@@ -15,8 +15,8 @@ use Rattle.script_spec.specs.Faithful.{Thing, term, func, type, nameOf, 
 use Rattle.script_spec.proofs.Laws.{all-append}
 use Rattle.script_spec.proofs.Log.{commandOf, HasTypes, HasTerm, HasParts, nameable}
 use Rattle.script_spec.proofs.Reading.{space, closing, Good}
-use Rattle.script_spec.proofs.Pieces.{Piece, wordByte, after-tokens}
-use Rattle.script_spec.proofs.Symbols.{plain}
+use Rattle.script_spec.proofs.Pieces.{Piece, after-tokens}
+use Rattle.script_spec.proofs.Symbols.{plain-computes}
 use Rattle.script_spec.proofs.Means.{Context, none, more, anyName, means-any, plain-means, listed-means, headed-good}
 use Rattle.script_spec.proofs.Sorts.{Known, sort-means}
 use Rattle.script_spec.proofs.Terms.{Unfolds, term-means, atom-means, definition-means}
@@ -29,9 +29,14 @@ use Rattle.script_spec.proofs.Computes
 unfoldable pub definingBody : Enums → Names → Tm → Bytes
 definingBody e ν t = body e ν t (map (atom e ν) (children t))
 
+-- the role of a term's command: a variable is declared, another term defined
+unfoldable pub roleBy : Enums → Names → Tm → Bool → Role
+roleBy e ν t true = declares (term t)
+roleBy e ν t false = defines t (tokens (definingBody e ν t))
+
 -- the role of a thing's command
 unfoldable pub role : Enums → Names → Thing → Role
-role e ν (term t) = elim (isVariable t) [ true ↦ declares (term t) | false ↦ defines t (tokens (definingBody e ν t)) ]
+role e ν (term t) = roleBy e ν t (isVariable t)
 role e ν (func f) = declares (func f)
 role e ν (type ty) = declares (type ty)
 
@@ -87,7 +92,7 @@ declares-fulfils {c} s f = record { good = f .good; fulfils = ap tokens s; inOrd
 module _ (e : Enums) {c : Context} {ν : Names} {log : List Thing} (kn : Known c ν log) (un : Unfolds e ν log (c .defined)) where
   define-fulfils : (t : Tm) → T (not (isVariable t)) → T (wellNamed ν (term t)) → HasParts e log (term t)
       → Fulfils e ν (c .allowed) (defineFun (ν .term t) [] (sort ν (typeOf t)) (definingBody e ν t)) (defines t (tokens (definingBody e ν t)))
-  unfolding definingBody HasParts wellNamed uses spelled plain wordByte Computes.base Computes.smtlib Computes.faithful
+  unfolding definingBody HasParts wellNamed uses spelled plain-computes
   define-fulfils t nv h k =
       let n = term-means {c = anyName c} h tt refl in
       let s = sort-means kn (typeOf t) (k .0) in
@@ -101,9 +106,8 @@ module _ (e : Enums) {c : Context} {ν : Names} {log : List Thing} (kn : Known c
       }
 
   term-fulfils : (t : Tm) (x : Bool) → isVariable t ≡ x → T (wellNamed ν (term t)) → T (c .allowed (nameOf ν (term t))) → HasParts e log (term t)
-      → Fulfils e ν (c .allowed) (elim x as (λ z. Command) [ false ↦ defineFun (ν .term t) [] (sort ν (typeOf t)) (definingBody e ν t) | true ↦ declareConst (ν .term t) (sort ν (typeOf t)) ])
-      (elim x as (λ z. Role) [ false ↦ defines t (tokens (definingBody e ν t)) | true ↦ declares (term t) ])
-  unfolding declaration wellNamed nameOf HasParts
+      → Fulfils e ν (c .allowed) (elim x as (λ z. Command) [ false ↦ defineFun (ν .term t) [] (sort ν (typeOf t)) (definingBody e ν t) | true ↦ declareConst (ν .term t) (sort ν (typeOf t)) ]) (roleBy e ν t x)
+  unfolding roleBy declaration wellNamed nameOf HasParts
   term-fulfils t true v h u k = declares-fulfils refl (const-fit kn t h u (k .0))
   term-fulfils t false v h u k = define-fulfils t (rw v tt) h k
 
@@ -120,7 +124,7 @@ module _ (e : Enums) {c : Context} {ν : Names} {log : List Thing} (kn : Known c
   thing-fulfils (type (node m ts)) h u n k = type-fulfils m ts (datatype (node m ts)) refl n h u k
 
   pub assertion-fulfils : (t : Tm) → HasTerm e log t → Fulfils e ν (c .allowed) (assertThat (atom e ν t)) (assertion e ν t)
-  unfolding assertion uses spelled plain wordByte Computes.base Computes.smtlib Computes.faithful
+  unfolding assertion uses spelled plain-computes
   assertion-fulfils t h =
       let p = atom-means e kn un t h in
       record {

@@ -11,7 +11,7 @@ use Rattle.script_spec.specs.Command.{Command, assertThat, script, spell
 use Rattle.script_spec.specs.Spelling.{Names, atom, optionDeclaration}
 use Rattle.script_spec.specs.Walk.{assertions}
 use Rattle.script_spec.specs.Smtlib.{Token, tokens, commandsOf}
-use Rattle.script_spec.specs.Faithful.{Definition, Thing, term, func, type, wellNamed, Role, declares, defines, command, named, asserted, definitions, Right, things, Every, also, Says}
+use Rattle.script_spec.specs.Faithful.{Definition, Thing, term, func, type, wellNamed, Role, command, named, asserted, definitions, Right, things, Every, also, Says}
 use Rattle.script_spec.proofs.Laws.{collect-append}
 use Rattle.script_spec.proofs.Log.{commandOf, HasTerm, nameable, Ordered, next, reversed, Logged}
 use Rattle.script_spec.proofs.Grow.{ordered-parts}
@@ -20,7 +20,7 @@ use Rattle.script_spec.proofs.Reading.{Good, AllGood, commandTokens, co
 use Rattle.script_spec.proofs.Sorts.{Known}
 use Rattle.script_spec.proofs.Terms.{Unfolds, atom-means, definition-means}
 use Rattle.script_spec.proofs.Declarations.{option-good}
-use Rattle.script_spec.proofs.Roles.{role, definingBody, assertion, Fulfils, thing-fulfils, assertion-fulfils}
+use Rattle.script_spec.proofs.Roles.{roleBy, role, definingBody, assertion, Fulfils, thing-fulfils, assertion-fulfils}
 use Rattle.script_spec.proofs.Defined.{Well, Unlike, unlike, definitions-append, defs, definitions-log, logContext, log-unfolds}
 use Rattle.script_spec.proofs.Order.{nameIn, nameIn-mem, named-role, logRoles, known-in, roles-inOrder}
 
@@ -42,10 +42,10 @@ module _ (e : Enums) (ν : Names) (log : List Thing) (ins : List Tm) where
       ∙ rw (collect-map-each named (role e ν) (named-role e ν) (reversed log), collect-map-none named (assertion e ν) (λ t. refl) ins) (append-nil (reversed log))
 
   asserted-role : (th : Thing) → asserted (role e ν th) ≡ []
-  unfolding role asserted
+  unfolding roleBy role asserted
   asserted-role (term t) = go (isVariable t)
     where
-      go : (x : Bool) → asserted (elim x as (λ z. Role) [ false ↦ defines t (tokens (definingBody e ν t)) | true ↦ declares (term t) ]) ≡ []
+      go : (x : Bool) → asserted (roleBy e ν t x) ≡ []
       go true = refl
       go false = refl
   asserted-role (func f) = refl
@@ -80,6 +80,7 @@ module _ (e : Enums) (ν : Names) (log : List Thing) (ins : List Tm) where
     assertion-made : (t : Tm) → List·Memᴰ t ins → Fulfils e ν (nameIn ν log) (assertThat (atom e ν t)) (assertion e ν t)
     assertion-made t m = assertion-fulfils e kn un t (every-mem h m)
 
+    -- the commands of the log and of the inputs
     abbrev madeCommands : List Command
     madeCommands = optionDeclaration ∷ (map (commandOf e ν) (reversed log) ++ assertions e ν ins)
 
@@ -102,8 +103,8 @@ module _ (e : Enums) (ν : Names) (log : List Thing) (ins : List Tm) where
     -- ---- bodies and assertions
 
     term-right : (t : Tm) (x : Bool) → isVariable t ≡ x → List·Memᴰ (term t) log
-        → Right e ν (defs e ν log) (elim x as (λ z. Role) [ false ↦ defines t (tokens (definingBody e ν t)) | true ↦ declares (term t) ])
-    unfolding Right definingBody
+        → Right e ν (defs e ν log) (roleBy e ν t x)
+    unfolding Right roleBy definingBody
     term-right t true v m = subst T (sym v) tt
     term-right t false v m =
         let nv : T (not (isVariable t)) = rw v tt in
@@ -125,6 +126,7 @@ module _ (e : Enums) (ν : Names) (log : List Thing) (ins : List Tm) where
         (every-append (every-map (Right e ν (defs e ν log)) (role e ν) (reversed log) (λ th m. thing-right th (mem-reversed th log m)))
         (every-map (Right e ν (defs e ν log)) (assertion e ν) ins assertion-right))
 
+-- demand 3 of a script whose commands are those of such a log
 pub logged-says : {e : Enums} {ins : List Tm} {ν : Names} {cs : List Command} {log : List Thing} → Logged e ins ν cs log → Says e ins (commandsOf (script cs))
 logged-says {e} {ins} {ν} {cs} {log} l =
     let w : Well ν log = λ th m. all-mem (wellNamed ν) (reversed log) (l .lettering) (reversed-mem log m) in

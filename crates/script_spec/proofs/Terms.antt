@@ -19,7 +19,7 @@ use Rattle.script_spec.proofs.Pieces.{word-piece, tokens-word}
 use Rattle.script_spec.proofs.Symbols.{lettered-word, used-lettered}
 use Rattle.script_spec.proofs.Means.{Context, Means, Meanings, none, more, namesIn-wordEnd}
 use Rattle.script_spec.proofs.Sorts.{Known}
-use Rattle.script_spec.proofs.Bodies.{BodyMeans, body-means}
+use Rattle.script_spec.proofs.Bodies.{BodyMeans, isFalse, body-means}
 use Rattle.script_spec.proofs.Computes
 
 -- ---- names of terms
@@ -56,7 +56,7 @@ inlined-variable e (node (Set ty) ts) h = tt
 inlined-variable e (node (Record names) ts) h = tt
 inlined-variable e (node (App ty op) ts) h = tt
 
-negated-falsehood : (n : Negation) (app app′ : Bytes) (args gs : List Bytes) → T (elim n as (λ z. Bool) [ ordinary ↦ false | falsehood ↦ true | comparison k ↦ false ]) → negated n app args ≡ negated n app′ gs
+negated-falsehood : (n : Negation) (app app′ : Bytes) (args gs : List Bytes) → T (isFalse n) → negated n app args ≡ negated n app′ gs
 unfolding negated
 negated-falsehood ordinary app app′ args gs h = absurd h
 negated-falsehood falsehood app app′ args gs h = refl
