@@ -47,8 +47,9 @@ module _ {c : Context} where
 
   extHeaded-body : (x : ExtType) {xs gs : List Bytes} → Meanings c xs gs → BodyMeans c false (headed (extName x) xs) (headed (extName x) gs)
   unfolding headed namesIn Computes.base
-  extHeaded-body x {xs} {gs} q =
-      let p : Means (anyName c) (headed (extName x) xs) (headed (extName x) gs) = headed-means (user-means (extName x) (extName x) (extName-word x) (extName-lettered x) (used-extName x) tt) (meanings-any q) in
+  extHeaded-body x {xs} q =
+      let name : Stays (anyName c) (extName x) = user-means (extName x) (extName x) (extName-word x) (extName-lettered x) (used-extName x) tt in
+      let p = headed-means name (meanings-any q) in
       record {
         piece = p .piece;
         unfolds = p .unfolds;

@@ -100,7 +100,8 @@ module _ (e : Enums) (ν : Names) where
   assertions-inOrder log (t ∷ ins) f (also h hs) =
       and-both (all (nameIn ν log) (uses e ν (assertion e ν t))) (inOrder e ν (map (nameOf ν) log) (map (assertion e ν) ins)) (f t h) (assertions-inOrder log ins f hs)
 
-  pub roles-inOrder : {log : List Thing} (ins : List Tm) → Ordered e log → Well ν log → Unlike ν log → Every (HasTerm e log) ins → T (inOrder e ν [] (logRoles log ++ map (assertion e ν) ins))
+  pub roles-inOrder : {log : List Thing} (ins : List Tm) → Ordered e log → Well ν log → Unlike ν log → Every (HasTerm e log) ins
+      → T (inOrder e ν [] (logRoles log ++ map (assertion e ν) ins))
   roles-inOrder {log} ins o w u h =
       inOrder-append e ν [] (logRoles log) (map (assertion e ν) ins) (inOrder-log o w u)
       (rw (seenAfter-log log)

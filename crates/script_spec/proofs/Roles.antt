@@ -52,7 +52,8 @@ tokens-assert e ν t b p = ap (λ (l : List Token). mark 40 ∷ word (bytes "ass
 
 module _ (n t b : Bytes) (p : Piece n) (q : Piece t) (r : Piece b) where
   -- what follows the command word of a definition
-  rest-tokens : tokens ((n ++ (32 ∷ 40 ∷ 41 ∷ 32 ∷ (t ++ (32 ∷ b)))) ++ (41 ∷ [])) ≡ tokens n ++ (mark 32 ∷ mark 40 ∷ mark 41 ∷ mark 32 ∷ (tokens t ++ (mark 32 ∷ (tokens b ++ (mark 41 ∷ [])))))
+  rest-tokens : tokens ((n ++ (32 ∷ 40 ∷ 41 ∷ 32 ∷ (t ++ (32 ∷ b)))) ++ (41 ∷ []))
+      ≡ tokens n ++ (mark 32 ∷ mark 40 ∷ mark 41 ∷ mark 32 ∷ (tokens t ++ (mark 32 ∷ (tokens b ++ (mark 41 ∷ [])))))
   unfolding Computes.base Computes.smtlib
   rest-tokens =
       rw (append-assoc n (32 ∷ 40 ∷ 41 ∷ 32 ∷ (t ++ (32 ∷ b))) (41 ∷ []), append-assoc t (32 ∷ b) (41 ∷ []))
@@ -106,12 +107,15 @@ module _ (e : Enums) {c : Context} {ν : Names} {log : List Thing} (kn : Known c
       }
 
   term-fulfils : (t : Tm) (x : Bool) → isVariable t ≡ x → T (wellNamed ν (term t)) → T (c .allowed (nameOf ν (term t))) → HasParts e log (term t)
-      → Fulfils e ν (c .allowed) (elim x as (λ z. Command) [ false ↦ defineFun (ν .term t) [] (sort ν (typeOf t)) (definingBody e ν t) | true ↦ declareConst (ν .term t) (sort ν (typeOf t)) ]) (roleBy e ν t x)
+      → Fulfils e ν (c .allowed)
+      (elim x as (λ z. Command) [ false ↦ defineFun (ν .term t) [] (sort ν (typeOf t)) (definingBody e ν t) | true ↦ declareConst (ν .term t) (sort ν (typeOf t)) ])
+      (roleBy e ν t x)
   unfolding roleBy declaration wellNamed nameOf HasParts
   term-fulfils t true v h u k = declares-fulfils refl (const-fit kn t h u (k .0))
   term-fulfils t false v h u k = define-fulfils t (rw v tt) h k
 
-  type-fulfils : (m : TypeMark) (ts : Forest TypeMark) (o : Option Datatype) → datatype (node m ts) ≡ o → T (isSome o) → T (datatypeNamed (sort ν (node m ts)) o) → T (c .allowed (sort ν (node m ts))) → HasTypes log ts
+  type-fulfils : (m : TypeMark) (ts : Forest TypeMark) (o : Option Datatype) → datatype (node m ts) ≡ o → T (isSome o)
+      → T (datatypeNamed (sort ν (node m ts)) o) → T (c .allowed (sort ν (node m ts))) → HasTypes log ts
       → Fulfils e ν (c .allowed) (elim o as (λ z. Command) [ none ↦ exit | some d ↦ typeDeclaration e ν d (node m ts) ]) (declares (type (node m ts)))
   unfolding declaration isSome
   type-fulfils m ts none d n h u k = absurd n

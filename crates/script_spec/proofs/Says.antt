@@ -98,7 +98,8 @@ module _ (e : Enums) (ν : Names) (log : List Thing) (ins : List Tm) where
         let made = map-map (commandOf e ν) tokensOf (role e ν) (command e ν) (reversed log) (λ th m. thing-made th (mem-reversed th log m) .fulfils) in
         let claimed = map-map (λ t. assertThat (atom e ν t)) tokensOf (assertion e ν) (command e ν) ins (λ t m. assertion-made t m .fulfils) in
         ap (λ (l : List (List Token)). tokens (spelled optionDeclaration) ∷ l)
-        (map-append tokensOf (map (commandOf e ν) (reversed log)) (assertions e ν ins) ∙ (λ i. made i ++ claimed i) ∙ sym (map-append (command e ν) (logRoles e ν log) (map (assertion e ν) ins)))
+        (map-append tokensOf (map (commandOf e ν) (reversed log)) (assertions e ν ins) ∙ (λ i. made i ++ claimed i)
+        ∙ sym (map-append (command e ν) (logRoles e ν log) (map (assertion e ν) ins)))
 
     -- ---- bodies and assertions
 
@@ -134,7 +135,9 @@ logged-says {e} {ins} {ν} {cs} {log} l =
     record {
       names = ν;
       roles = rolesOf e ν log ins;
-      commands = commandsOf-script cs (rw (l .commands) (commands-good e ν log ins (l .ordered) w u (l .inputs))) ∙ ap commandTokens (l .commands) ∙ commands-tokens e ν log ins (l .ordered) w u (l .inputs);
+      commands =
+          commandsOf-script cs (rw (l .commands) (commands-good e ν log ins (l .ordered) w u (l .inputs))) ∙ ap commandTokens (l .commands)
+          ∙ commands-tokens e ν log ins (l .ordered) w u (l .inputs);
       right = roles-right e ν log ins (l .ordered) w u (l .inputs);
       needed = λ th. rw (things-roles e ν log ins) (λ n. reversed-mem log (l .needed th .0 n), λ m. l .needed th .1 (mem-reversed th log m));
       unlike = rw (things-roles e ν log ins) (l .unlike);

@@ -81,7 +81,9 @@ unlettered-differs w n h k = not-T (same w n) (λ e. T-not (lettered 116 w) h (s
 pub flat-wordEnd : (ds : List Definition) (w : Bytes) → Named ds → T (not (lettered 116 w)) → flat (unfolded ds (wordEnd w)) ≡ w
 unfolding wordEnd flat
 flat-wordEnd ds [] nd h = rw (unfolded-nil ds) refl
-flat-wordEnd ds (b ∷ w) nd h = rw (unfolded-word ds (b ∷ w) (all-map (λ d. lettered 116 (d .0)) (λ d. not (same (b ∷ w) (d .0))) (λ d k. unlettered-differs (b ∷ w) (d .0) h k) ds nd)) (append-nil (b ∷ w))
+flat-wordEnd ds (b ∷ w) nd h =
+    let other = all-map (λ d. lettered 116 (d .0)) (λ d. not (same (b ∷ w) (d .0))) (λ d k. unlettered-differs (b ∷ w) (d .0) h k) ds nd in
+    rw (unfolded-word ds (b ∷ w) other) (append-nil (b ∷ w))
 
 -- ---- a separator between two parts stays between them
 
