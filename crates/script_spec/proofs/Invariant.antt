@@ -1,10 +1,9 @@
 -- What the walk keeps true of its tables and commands and of a log: the invariant, and that entering a thing keeps it.
 -- Assumes nothing.
-use Prim.Native.Nat.{ℕ, zero, suc}
 use mathlib.Core.Path.{_≡_, refl, sym, ap, ap₂, _∙_, subst}
 use mathlib.Core.Logic.{_⊎_, inl, inr}
 use mathlib.Core.Bool.{Bool, true, false, _||_}
-use mathlib.Core.List.{List, [], _∷_, _++_, map, append-assoc, append-nil, List·Memᴰ, map-append, List·Memᴰ·head, List·Memᴰ·tail, List·Memᴰ·not-nil, List·Memᴰ·cases-cons}
+use mathlib.Core.List.{List, [], _∷_, _++_, map, append-nil, List·Memᴰ, map-append, List·Memᴰ·head, List·Memᴰ·tail, List·Memᴰ·not-nil, List·Memᴰ·cases-cons}
 use mathlib.Core.Option.{Option, none, some}
 use lib.Dec.{T}
 use Rattle.script_spec.specs.Base.{Bytes, bytes, any, place, placeFrom, collect}

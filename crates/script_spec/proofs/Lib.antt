@@ -5,6 +5,8 @@ pub mod Grow
 pub mod Invariant
 pub mod Laws
 pub mod Log
+pub mod Logs
+pub mod Names
 pub mod NewLog
 pub mod Numerals
 pub mod Pieces
@@ -13,3 +15,4 @@ pub mod Steps
 pub mod Symbols
 pub mod TermLog
 pub mod TypeLog
+pub mod Values

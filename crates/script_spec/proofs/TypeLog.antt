@@ -1,25 +1,24 @@
 -- The walk over a type or a function logs it: by recursion on the type, each entry by the invariant's law.
 -- Assumes nothing.
-use Prim.Native.Nat.{ℕ, suc}
 use mathlib.Core.Path.{_≡_, refl, sym, ap, _∙_, subst}
 use mathlib.Core.Logic.{_⊎_, inl, inr}
-use mathlib.Core.Bool.{Bool, true, false, not}
+use mathlib.Core.Bool.{not}
 use mathlib.Core.List.{List, [], _∷_, _++_, append-nil, List·Memᴰ, List·Memᴰ·head, List·Memᴰ·tail}
 use mathlib.Core.Option.{Option, none, some}
 use native.Mathlib.Omega.{arith}
-use lib.Dec.{T}
+use lib.Dec.{T, T-not}
 use Rattle.script_spec.specs.Base.{Bytes, any, collect, isSome}
 use Rattle.script_spec.specs.Tree.{Ty, Fun, Tm, TypeMark, Forest, node, nil, cons, trees, children, depth, depths, eqTy, eqFun, Enums, Datatype, entity, extension, recordOf, datatype, uuf}
 use Rattle.script_spec.specs.Command.{Command, comment, exit}
 use Rattle.script_spec.specs.Spelling.{Names, typeComment, typeDeclaration, funDeclaration}
-use Rattle.script_spec.specs.Walk.{State, Step, went, Walk, _>>_, names, typeName, enterType, enterFun, write, writing, declareType, encodeType, encodeTypes, declareFunction, encodeUuf}
+use Rattle.script_spec.specs.Walk.{State, went, Walk, _>>_, names, typeName, enterType, enterFun, write, writing, declareType, encodeType, encodeTypes, declareFunction, encodeUuf}
 use Rattle.script_spec.specs.Faithful.{Thing, term, func, type, NeededFun, NeededType, ofArgument, ofResult, isPart, Needed}
 use Rattle.script_spec.proofs.Laws.{collect-append}
 use Rattle.script_spec.proofs.Log.{commandOf, silent, HasType, HasTypes, HasParts, nameable}
-use Rattle.script_spec.proofs.Steps.{Ends, Goes, goes, ends-then, ends-unless, ends-map, goes-both}
+use Rattle.script_spec.proofs.Steps.{Goes, goes, ends-then, ends-unless, ends-map, goes-both}
 use Rattle.script_spec.proofs.Grow.{Grows, type-grows, types-grow}
 use Rattle.script_spec.proofs.Entered.{type-cases, type-new, fun-cases, fun-new, TypesOnly, encodeType-only, encodeTypes-only}
-use Rattle.script_spec.proofs.Invariant.{Tabled, Known, Extends, extends, extends-type, extends-fun, Inv, inv-quiet, inv-logged}
+use Rattle.script_spec.proofs.Invariant.{Tabled, Known, extends, extends-type, extends-fun, Inv, inv-quiet, inv-logged}
 
 -- a state whose log has grown and has P
 pub record Logs (e : Enums) (ins : List Tm) (P : List Thing → Type 0) (log : List Thing) (s : State) : Type 0 where
@@ -27,10 +26,6 @@ pub record Logs (e : Enums) (ins : List Tm) (P : List Thing → Type 0) (log : L
   pub grown : Grows log later
   pub inv : Inv e ins s later
   pub has : P later
-
-pub absent : (b : Bool) → T (not b) → T b → ⊥
-absent true n h = n
-absent false n h = h
 
 module _ (e : Enums) (ins : List Tm) where
   pub logs-same : {P : List Thing → Type 0} {log : List Thing} {s : State} → Inv e ins s log → P log → Logs e ins P log s
@@ -116,7 +111,7 @@ module _ (e : Enums) (ins : List Tm) where
         (λ k. ends-then (encodeTypes e ts) (declareType e (node m ts)) s
         (goes-both
         (λ s₁ o g. ends-map (λ s₂ l. logs-then (g .grown) l (λ h. h))
-        (declareType-logs m ts s₁ (g .later) need (g .inv) (g .has) (λ h. absent (any (eqTy (node m ts)) (s .types)) k (o .types (node m ts) (omega arith) h))))
+        (declareType-logs m ts s₁ (g .later) need (g .inv) (g .has) (λ h. T-not (any (eqTy (node m ts)) (s .types)) k (o .types (node m ts) (omega arith) h))))
         (encodeTypes-only e ts s) (encodeTypes-logs ts s log (λ u x. isPart need x) inv)))
 
     encodeTypes-logs : (ts : Forest TypeMark) (s : State) (log : List Thing) → ((u : Ty) → List·Memᴰ u (trees ts) → NeededType ins u) → Inv e ins s log → Goes (Logs e ins (λ l. HasTypes l ts) log) (encodeTypes e ts s)
@@ -203,6 +198,6 @@ module _ (e : Enums) (ins : List Tm) where
       last k s₂ s₃ a b = (
         logs-then (λ th m. b .0 .grown th (a .0 .grown th m))
             (declaredFun-logs f s₃ (b .0 .later) need (b .0 .inv) (type-grows (b .0 .grown) arg (a .0 .has), b .0 .has)
-            (λ h. absent (any (eqFun f) (s .funs)) k (subst (λ (fs : List Fun). T (any (eqFun f) fs)) (b .1 .funs ∙ a .1 .funs) h))) (λ h. h),
+            (λ h. T-not (any (eqFun f) (s .funs)) k (subst (λ (fs : List Fun). T (any (eqFun f) fs)) (b .1 .funs ∙ a .1 .funs) h))) (λ h. h),
         b .1 .terms ∙ a .1 .terms,
       )
