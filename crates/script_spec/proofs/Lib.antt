@@ -1,4 +1,7 @@
 pub mod Agree
+pub mod Bare
+pub mod BareEntry
+pub mod BareFile
 pub mod Computes
 pub mod Entered
 pub mod Grow

@@ -21,7 +21,7 @@ use Rattle.script_spec.proofs.TypeLog.{Logs}
 use Rattle.script_spec.proofs.NewLog.{Refusal}
 use Rattle.script_spec.proofs.TermLog.{walk-logs}
 
-every-mem : {A : Type 0} {P : A → Type 0} (xs : List A) → Every P xs → (a : A) → List·Memᴰ a xs → P a
+pub every-mem : {A : Type 0} {P : A → Type 0} (xs : List A) → Every P xs → (a : A) → List·Memᴰ a xs → P a
 every-mem {P = P} (x ∷ xs) (also p ps) a (List·Memᴰ·head q) = subst P (sym q) p
 every-mem (x ∷ xs) (also p ps) a (List·Memᴰ·tail m) = every-mem xs ps a m
 
