@@ -6,6 +6,7 @@ pub mod Computes
 pub mod Entered
 pub mod Grow
 pub mod Invariant
+pub mod Kept
 pub mod Laws
 pub mod Log
 pub mod Logs
