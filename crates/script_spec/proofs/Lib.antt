@@ -3,6 +3,7 @@ pub mod Bare
 pub mod BareEntry
 pub mod BareFile
 pub mod Computes
+pub mod Depends
 pub mod Entered
 pub mod Grow
 pub mod Invariant
