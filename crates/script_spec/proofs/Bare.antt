@@ -2,13 +2,14 @@
 -- Assumes nothing.
 use Prim.Native.Nat.{ℕ}
 use mathlib.Core.Path.{_≡_, sym, subst}
-use mathlib.Core.List.{List, List·Memᴰ, List·Memᴰ·head, List·Memᴰ·tail}
+use mathlib.Core.List.{List}
 use native.Mathlib.Omega.{arith}
-use Rattle.script_spec.specs.Tree.{Ty, Fun, Tm, TypeMark, Mark, Forest, node, nil, cons, trees, children, typeOf, typesOf, typeFrom, uuf, ExtType, extension, Declared}
+use Rattle.script_spec.specs.Tree.{Ty, Fun, Tm, TypeMark, Mark, Forest, node, nil, cons, children, typeOf, typesOf, typeFrom, uuf, ExtType, extension, Declared}
 use Rattle.script_spec.specs.Tree.{Var, BoolLit, BitVecLit, StringLit, Entity, ExtLit, None, Some, Set, Record, App, Op, Plain, Ext, RecordGet, StringLike, Uuf, ZeroExtend}
 use Rattle.script_spec.specs.Faithful.{type, NeededTerm, isInput, isChild, NeededFun, isApplied, NeededType, ofTerm, ofArgument, ofResult, isPart, Every}
 use Rattle.script_spec.proofs.Names.{Bare}
-use Rattle.script_spec.proofs.Logs.{BareTypes, every-mem}
+use Rattle.script_spec.proofs.Logs.{BareTypes, forest-mem}
+use Rattle.script_spec.proofs.Lists.{every-mem}
 
 -- each extension type in a type is bare
 unfoldable mutual
@@ -92,21 +93,11 @@ mutual
 
 -- ---- what bare inputs need
 
-part-bare : (ts : Forest TypeMark) → BareParts ts → (ty : Ty) → List·Memᴰ ty (trees ts) → BareType ty
-unfolding BareType trees
-part-bare (cons t ts) b ty (List·Memᴰ·head p) = subst BareType (sym p) (b .0)
-part-bare (cons t ts) b ty (List·Memᴰ·tail m) = part-bare ts (b .1) ty m
-
-child-bare : (ts : Forest Mark) → BareTerms ts → (t : Tm) → List·Memᴰ t (trees ts) → BareTerm t
-unfolding BareTerm trees
-child-bare (cons u ts) b t (List·Memᴰ·head p) = subst BareTerm (sym p) (b .0)
-child-bare (cons u ts) b t (List·Memᴰ·tail m) = child-bare ts (b .1) t m
-
 module _ {ins : List Tm} (bare : Every BareTerm ins) where
   needed-term-bare : {t : Tm} → NeededTerm ins t → BareTerm t
   unfolding BareTerm children
-  needed-term-bare {t} (isInput m) = every-mem ins bare t m
-  needed-term-bare {t} (isChild {u = node a ts} n f m) = child-bare ts (needed-term-bare n .1) t m
+  needed-term-bare {t} (isInput m) = every-mem bare m
+  needed-term-bare {t} (isChild {u = node a ts} n f m) = forest-mem BareTerm BareTerms (λ v vs b. b) ts (needed-term-bare n .1) t m
 
   needed-fun-bare : {f : Fun} → NeededFun ins f → BareFun f
   unfolding BareTerm BareMark BareOp
@@ -117,7 +108,7 @@ module _ {ins : List Tm} (bare : Every BareTerm ins) where
   needed-type-bare (ofTerm {t = t} n p) = subst BareType (sym p) (typeOf-bare t (needed-term-bare n))
   needed-type-bare (ofArgument n) = needed-fun-bare n .0
   needed-type-bare (ofResult n) = needed-fun-bare n .1
-  needed-type-bare {ty} (isPart {u = node a ts} n m) = part-bare ts (needed-type-bare n .1) ty m
+  needed-type-bare {ty} (isPart {u = node a ts} n m) = forest-mem BareType BareParts (λ v vs b. b) ts (needed-type-bare n .1) ty m
 
   pub bare-types : BareTypes ins
   unfolding BareType

@@ -17,6 +17,7 @@ use Rattle.script_spec.specs.Fields as fields
 use Rattle.script_spec.specs.File.{Named, type, enum, func, term, input, TermFile, types, funs, terms, inputs, typeAt, funAt, termAt, namedOp, namedMark, named, earlier, rules, broken, kept, judged, nextRecord, records, checked}
 use Rattle.script_spec.specs.Faithful.{Every, every, also}
 use Rattle.script_spec.specs.Faithful as thing
+use Rattle.script_spec.proofs.Lists.{every-append}
 use Rattle.script_spec.proofs.Names.{Bare}
 use Rattle.script_spec.proofs.Bare.{BareType, BareParts, BareFun, BareOp, BareMark, BareTerm, BareTerms, bare-leaf}
 use Rattle.script_spec.proofs.BareEntry.{Made, made, unmade, Makes, BareEntryType, BareEntry, marks-bare}
@@ -30,14 +31,10 @@ BareNamed (func f) = BareFun f
 BareNamed (term t) = BareTerm t
 BareNamed (input t) = BareTerm t
 
-every-append : {A : Type 0} {P : A → Type 0} (xs ys : List A) → Every P xs → Every P ys → Every P (xs ++ ys)
-every-append [] ys every k = k
-every-append (x ∷ xs) ys (also h hs) k = also h (every-append xs ys hs k)
-
 every-collect : {A B : Type 0} {P : A → Type 0} {Q : B → Type 0} (g : A → List B) → ((a : A) → P a → Every Q (g a)) → (xs : List A) → Every P xs → Every Q (collect g xs)
 unfolding collect
 every-collect g h [] every = every
-every-collect g h (x ∷ xs) (also p ps) = every-append (g x) (collect g xs) (h x p) (every-collect g h xs ps)
+every-collect g h (x ∷ xs) (also p ps) = every-append (h x p) (every-collect g h xs ps)
 
 every-getD : {A : Type 0} {P : A → Type 0} (xs : List A) (n : ℕ) (d : A) → P d → Every P xs → P (getD xs n d)
 every-getD [] n d k every = k
@@ -210,7 +207,7 @@ records-bare : (fuel : ℕ) (f : TermFile) (s : Bytes) → Every BareNamed f →
 unfolding records
 records-bare zero f s b = bare b
 records-bare (suc fuel) f [] b = bare b
-records-bare (suc fuel) f (c ∷ s) b = go (nextRecord f (c ∷ s)) (nextRecord-bare f b (c ∷ s)) (λ r rest k. records-bare fuel (f ++ (r ∷ [])) rest (every-append f (r ∷ []) b (also k every)))
+records-bare (suc fuel) f (c ∷ s) b = go (nextRecord f (c ∷ s)) (nextRecord-bare f b (c ∷ s)) (λ r rest k. records-bare fuel (f ++ (r ∷ [])) rest (every-append b (also k every)))
   where
     go : (x : Read Named) → Made BareNamed x → ((r : Named) (rest : Bytes) → BareNamed r → BareAnswer (records fuel (f ++ (r ∷ [])) rest))
         → BareAnswer (elim x [ bad n ↦ refused n (length f) | got r rest ↦ records fuel (f ++ (r ∷ [])) rest ])

@@ -8,6 +8,7 @@ use Rattle.script_spec.specs.Tree.{Ty, Fun, Tm, TypeMark, Mark, Forest, 
 use Rattle.script_spec.specs.Faithful.{Thing, term, func, type, Every, every, also}
 use Rattle.script_spec.proofs.Log.{HasType, HasTypes, HasTerm, HasParts, Ordered, next}
 
+-- what is in one log is in the other
 abbrev pub Grows : List Thing → List Thing → Type 0
 Grows log log′ = (th : Thing) → List·Memᴰ th log → List·Memᴰ th log′
 

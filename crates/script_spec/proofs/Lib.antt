@@ -6,7 +6,8 @@ pub mod Bodies
 pub mod Computes
 pub mod Declarations
 pub mod Defined
-pub mod Depends
+pub mod Demand
+pub mod Encoding
 pub mod Entered
 pub mod Grow
 pub mod Invariant

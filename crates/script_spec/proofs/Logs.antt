@@ -6,13 +6,14 @@ use mathlib.Core.Path.{_≡_, refl, sym, ap, ap₂, _∙_, subst}
 use mathlib.Core.List.{List, [], _∷_, _++_, List·Memᴰ, List·Memᴰ·head, List·Memᴰ·tail}
 use lib.Dec.{T}
 use Rattle.script_spec.specs.Base.{collect}
-use Rattle.script_spec.specs.Tree.{Ty, Fun, Tm, Mark, Forest, TypeMark, node, cons, trees, children, Enums, uuf}
+use Rattle.script_spec.specs.Tree.{Tree, Ty, Fun, Tm, Forest, node, cons, trees, children, Enums, uuf}
 use Rattle.script_spec.specs.Command.{Command, assertThat}
 use Rattle.script_spec.specs.Spelling.{Names, atom}
 use Rattle.script_spec.specs.Walk.{State, went, stopped, start, names, encodeInputs, assertions}
 use Rattle.script_spec.specs.Faithful.{Thing, term, func, type, NeededTerm, isInput, isChild, NeededFun, isApplied, NeededType, ofTerm, ofArgument, ofResult, isPart, Needed, wellNamed, Every, every, also}
 use Rattle.script_spec.proofs.Laws.{collect-append}
 use Rattle.script_spec.proofs.Log.{silent, HasType, HasTypes, HasTerm, HasParts, nameable, Ordered, Logged}
+use Rattle.script_spec.proofs.Lists.{every-mem}
 use Rattle.script_spec.proofs.Steps.{ends-went, ends-stopped}
 use Rattle.script_spec.proofs.Grow.{Done, Dones, done-term, ordered-parts}
 use Rattle.script_spec.proofs.Invariant.{Inv}
@@ -21,27 +22,20 @@ use Rattle.script_spec.proofs.TypeLog.{Logs}
 use Rattle.script_spec.proofs.NewLog.{Refusal}
 use Rattle.script_spec.proofs.TermLog.{walk-logs}
 
-pub every-mem : {A : Type 0} {P : A → Type 0} (xs : List A) → Every P xs → (a : A) → List·Memᴰ a xs → P a
-every-mem {P = P} (x ∷ xs) (also p ps) a (List·Memᴰ·head q) = subst P (sym q) p
-every-mem (x ∷ xs) (also p ps) a (List·Memᴰ·tail m) = every-mem xs ps a m
+-- what holds of a forest tree by tree holds of each tree
+pub forest-mem : {A : Type 0} (P : Tree A → Type 0) (Q : Forest A → Type 0) → ((t : Tree A) (ts : Forest A) → Q (cons t ts) → P t × Q ts)
+    → (ts : Forest A) → Q ts → (t : Tree A) → List·Memᴰ t (trees ts) → P t
+unfolding trees
+forest-mem P Q h (cons u ts) q t (List·Memᴰ·head e) = subst P (sym e) (h u ts q .0)
+forest-mem P Q h (cons u ts) q t (List·Memᴰ·tail m) = forest-mem P Q h ts (h u ts q .1) t m
 
 -- ---- what is needed is logged
 
 module _ {e : Enums} {ins : List Tm} {log : List Thing} (ordered : Ordered e log) (done : Every (Done e log) ins) where
-  part-has : (ts : Forest TypeMark) → HasTypes log ts → (ty : Ty) → List·Memᴰ ty (trees ts) → HasType log ty
-  unfolding HasType trees
-  part-has (cons t ts) h ty (List·Memᴰ·head q) = subst (HasType log) (sym q) (h .0)
-  part-has (cons t ts) h ty (List·Memᴰ·tail m) = part-has ts (h .1) ty m
-
-  child-done : (ts : Forest Mark) → Dones e log ts → (t : Tm) → List·Memᴰ t (trees ts) → Done e log t
-  unfolding Done trees
-  child-done (cons u ts) d t (List·Memᴰ·head q) = subst (Done e log) (sym q) (d .0)
-  child-done (cons u ts) d t (List·Memᴰ·tail m) = child-done ts (d .1) t m
-
   needed-term : {t : Tm} → NeededTerm ins t → Done e log t
   unfolding Done children
-  needed-term {t} (isInput m) = every-mem ins done t m
-  needed-term {t} (isChild {u = node a ts} n f m) = child-done ts (needed-term n .2 f) t m
+  needed-term {t} (isInput m) = every-mem done m
+  needed-term {t} (isChild {u = node a ts} n f m) = forest-mem (Done e log) (Dones e log) (λ v vs d. d) ts (needed-term n .2 f) t m
 
   needed-fun : {f : Fun} → NeededFun ins f → List·Memᴰ (func f) log
   unfolding Done
@@ -52,7 +46,7 @@ module _ {e : Enums} {ins : List Tm} {log : List Thing} (ordered : Ordered e log
   needed-type (ofTerm {t = t} n p) = subst (HasType log) (sym p) (done-term t (needed-term n) .typed)
   needed-type (ofArgument {id = id} {arg = arg} {out = out} n) = ordered-parts ordered (func (uuf id arg out)) (needed-fun n) .0
   needed-type (ofResult {id = id} {arg = arg} {out = out} n) = ordered-parts ordered (func (uuf id arg out)) (needed-fun n) .1
-  needed-type {ty} (isPart {u = node a ts} n m) = part-has ts (needed-type n .0) ty m
+  needed-type {ty} (isPart {u = node a ts} n m) = forest-mem (HasType log) (HasTypes log) (λ v vs h. h) ts (needed-type n .0) ty m
 
   needed-logged : (th : Thing) → Needed e ins th → List·Memᴰ th log
   unfolding Needed HasType

@@ -5,7 +5,7 @@ use Prim.Native.Nat.{ℕ, zero, suc}
 use mathlib.Core.Path.{_≡_, refl, sym, ap, _∙_, subst}
 use mathlib.Core.Logic.{_⊎_, inl, inr}
 use mathlib.Core.Bool.{Bool, true, false, not, _||_}
-use mathlib.Core.List.{List, [], _∷_, _++_, map, map-append, List·Memᴰ, List·Memᴰ·head, List·Memᴰ·tail, Memᴰ·cast, List·Memᴰ·append-cases, List·Memᴰ·cases-cons, List·Memᴰ·not-nil, List·Memᴰ·eq-of-singleton}
+use mathlib.Core.List.{List, [], _∷_, _++_, map, map-append, List·Memᴰ, List·Memᴰ·head, List·Memᴰ·tail, Memᴰ·cast, List·Memᴰ·cases-cons, List·Memᴰ·not-nil}
 use mathlib.Core.Option.{Option, none, some}
 use lib.Dec.{T, eqb, T-not, not-T}
 use borrow.Author.Tests.{eq-eqb}
@@ -17,6 +17,7 @@ use Rattle.script_spec.specs.Walk.{State, numbered, letter, typeName, na
 use Rattle.script_spec.specs.Faithful.{Thing, term, func, type, nameOf, digitsOnly, lettered, datatypeNamed, wellNamed, unique}
 use Rattle.script_spec.proofs.Laws.{eqTy-eq, eqFun-eq, eqTm-eq, same-refl, same-eq, and-parts, and-both, or-cases, any-cases, all-append}
 use Rattle.script_spec.proofs.Log.{nameable, reversed}
+use Rattle.script_spec.proofs.Lists.{mem-reversed}
 use Rattle.script_spec.proofs.Invariant.{Tabled, Distinct}
 use Rattle.script_spec.proofs.Values.{value, value-decimal, decimal-digitsOnly}
 use Rattle.script_spec.proofs.Computes
@@ -153,15 +154,6 @@ mem-map {A} f b (x ∷ xs) m = go (List·Memᴰ·cases-cons m) (λ k. mem-map f 
     go : (b ≡ f x) ⊎ List·Memᴰ b (map f xs) → (List·Memᴰ b (map f xs) → (a : A) × List·Memᴰ a xs × (b ≡ f a)) → (a : A) × List·Memᴰ a (x ∷ xs) × (b ≡ f a)
     go (inl p) ih = (x, List·Memᴰ·head refl, p)
     go (inr k) ih = let r = ih k in (r .0, List·Memᴰ·tail (r .1), r .2)
-
-mem-reversed : {A : Type 0} (a : A) (xs : List A) → List·Memᴰ a (reversed xs) → List·Memᴰ a xs
-unfolding reversed
-mem-reversed a [] m = m
-mem-reversed a (x ∷ xs) m = go (List·Memᴰ·append-cases (reversed xs) m) (λ k. mem-reversed a xs k)
-  where
-    go : List·Memᴰ a (reversed xs) ⊎ List·Memᴰ a (x ∷ []) → (List·Memᴰ a (reversed xs) → List·Memᴰ a xs) → List·Memᴰ a (x ∷ xs)
-    go (inl k) ih = List·Memᴰ·tail (ih k)
-    go (inr k) ih = List·Memᴰ·head (List·Memᴰ·eq-of-singleton k)
 
 -- the names of a log of different things
 pub unique-names : (ν : Names) (log : List Thing) → Distinct log → ((a b : Thing) → List·Memᴰ a log → List·Memᴰ b log → nameOf ν a ≡ nameOf ν b → a ≡ b)

@@ -21,7 +21,7 @@ use Rattle.script_spec.proofs.Log.{commandOf, silent, HasType, HasParts
 use Rattle.script_spec.proofs.Steps.{Ends, goes, ends-then, ends-ensure, ends-map, goes-map}
 use Rattle.script_spec.proofs.Grow.{Grows, Done, Dones, dones-terms, type-grows, dones-grow}
 use Rattle.script_spec.proofs.Entered.{term-cases, term-new}
-use Rattle.script_spec.proofs.Invariant.{Tabled, Known, Extends, extends, extends-term, Inv, inv-quiet, inv-logged}
+use Rattle.script_spec.proofs.Invariant.{Tabled, Covered, Extends, extends, extends-term, Inv, inv-quiet, inv-logged}
 use Rattle.script_spec.proofs.TypeLog.{Logs, logs-same, logs-then, encodeUuf-logs}
 
 -- a refusal of the walk: its number, and a term that is needed
@@ -108,7 +108,7 @@ module _ (e : Enums) (ins : List Tm) where
     unentered i a = (logs-same e ins (r .inv) (inlined-done i a), λ u h. inl h)
 
     entered-inlined : T (inlined e (node m ts)) → Applied log m → Finished m ts s log (enterTerm (node m ts) s)
-    unfolding enterTerm Tabled Known
+    unfolding enterTerm Tabled Covered
     entered-inlined i a = (logs-same e ins (inv-quiet (r .inv) s′ grown new refl) (inlined-done i a), λ u h. term-cases (s .terms) (node m ts) u h)
       where
         s′ : State
@@ -117,7 +117,7 @@ module _ (e : Enums) (ins : List Tm) where
         grown : Extends s s′
         grown = extends s s′ [] [] (node m ts ∷ []) (sym (append-nil (s .types))) (sym (append-nil (s .funs))) refl
 
-        new : (th : Thing) → Tabled s′ th → Tabled s th ⊎ Known e log th
+        new : (th : Thing) → Tabled s′ th → Tabled s th ⊎ Covered e log th
         new (term u) h = elim (term-cases (s .terms) (node m ts) u h) [ inl k ↦ inl k | inr p ↦ inr (subst (Done e log) (sym p) (inlined-done i a)) ]
         new (func f) h = inl h
         new (type ty) h = inl h
@@ -127,7 +127,7 @@ module _ (e : Enums) (ins : List Tm) where
     entered-named : (cs : List Command) → T (not (inlined e (node m ts))) → (T (not (isVariable (node m ts))) → T (not (isFalsehood (node m ts)))) → Applied log m
         → collect silent cs ≡ commandOf e (names (enterTerm (node m ts) s)) (term (node m ts)) ∷ []
         → Finished m ts s log (write cs (enterTerm (node m ts) s))
-    unfolding enterTerm write names typeName Tabled Known Needed HasParts nameable Done children
+    unfolding enterTerm write names typeName Tabled Covered Needed HasParts nameable Done children
     entered-named cs i v a spoken = (
       record {
         later = term t ∷ log;

@@ -14,7 +14,7 @@ use Rattle.script_spec.specs.Faithful.{Thing, term, NeededTerm, isInput,
 use Rattle.script_spec.proofs.Log.{HasType}
 use Rattle.script_spec.proofs.Steps.{Ends, goes, ends-then, ends-unless, ends-map, goes-map}
 use Rattle.script_spec.proofs.Grow.{Done, Dones, type-grows, done-grows}
-use Rattle.script_spec.proofs.Invariant.{Tabled, Known, Inv, inv-start}
+use Rattle.script_spec.proofs.Invariant.{Tabled, Covered, Inv, inv-start}
 use Rattle.script_spec.proofs.TypeLog.{Logs, logs-same, logs-then, encodeType-step}
 use Rattle.script_spec.proofs.NewLog.{Refusal, encodeNew-logs}
 
@@ -50,13 +50,13 @@ module _ (e : Enums) (ins : List Tm) where
       from u d (inr q) = absurd (let z : depth u ≡ suc (depths ts) = ap depth q in omega arith)
 
   mutual
-    unfolding encodeTerm Tabled Known Done trees children depth
+    unfolding encodeTerm Tabled Covered Done trees children depth
 
     encodeTerm-logs : (t : Tm) (s : State) (log : List Thing) → NeededTerm ins t → Inv e ins s log
         → Ends (λ s′. Logs e ins (λ l. Done e l t) log s′ × Shallow (depth t) s s′) (Refusal ins) (encodeTerm e t s)
     encodeTerm-logs (node m ts) s log need inv =
         ends-unless (λ s′. any (eqTm (node m ts)) (s′ .terms)) (_>>_ (encodeType e (typeOf (node m ts))) (_>>_ (unless (λ s′. isFalsehood (node m ts)) (encodeTerms e ts)) (encodeNew e (node m ts)))) s
-        (λ k. (logs-same e ins inv (inv .known (term (node m ts)) k), λ u d h. h))
+        (λ k. (logs-same e ins inv (inv .covered (term (node m ts)) k), λ u d h. h))
         (λ k. ends-then (encodeType e (typeOf (node m ts))) (_>>_ (unless (λ s′. isFalsehood (node m ts)) (encodeTerms e ts)) (encodeNew e (node m ts))) s
         (goes-map (λ s₁ a. ends-then (unless (λ s′. isFalsehood (node m ts)) (encodeTerms e ts)) (encodeNew e (node m ts)) s₁
         (ends-map (λ s₂ b. new-after m ts s s₁ s₂ log need k (a .0) (a .1 .terms) b)

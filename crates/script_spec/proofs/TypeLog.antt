@@ -18,7 +18,7 @@ use Rattle.script_spec.proofs.Log.{commandOf, silent, HasType, HasTypes
 use Rattle.script_spec.proofs.Steps.{Goes, goes, ends-then, ends-unless, ends-map, goes-both}
 use Rattle.script_spec.proofs.Grow.{Grows, type-grows, types-grow}
 use Rattle.script_spec.proofs.Entered.{type-cases, type-new, fun-cases, fun-new, TypesOnly, encodeType-only, encodeTypes-only}
-use Rattle.script_spec.proofs.Invariant.{Tabled, Known, extends, extends-type, extends-fun, Inv, inv-quiet, inv-logged}
+use Rattle.script_spec.proofs.Invariant.{Tabled, Covered, extends, extends-type, extends-fun, Inv, inv-quiet, inv-logged}
 
 -- a state whose log has grown and has P
 pub record Logs (e : Enums) (ins : List Tm) (P : List Thing → Type 0) (log : List Thing) (s : State) : Type 0 where
@@ -53,7 +53,7 @@ module _ (e : Enums) (ins : List Tm) where
   declared-logs : (d : Datatype) (m : TypeMark) (ts : Forest TypeMark) (s : State) (log : List Thing)
       → NeededType ins (node m ts) → Inv e ins s log → HasTypes log ts → (Tabled s (type (node m ts)) → ⊥) → datatype (node m ts) ≡ some d
       → Logs e ins (λ l. HasType l (node m ts)) log (declared d (node m ts) s)
-  unfolding declared HasType Tabled Known Needed HasParts nameable isSome enterType write names typeName
+  unfolding declared HasType Tabled Covered Needed HasParts nameable isSome enterType write names typeName
   declared-logs d m ts s log need inv parts fresh p =
       record {
         later = type t ∷ log;
@@ -102,12 +102,12 @@ module _ (e : Enums) (ins : List Tm) where
       go (some d) p = goes (declared-logs d m ts s log need inv parts fresh p)
 
   mutual
-    unfolding encodeType HasType trees children Tabled Known depths
+    unfolding encodeType HasType trees children Tabled Covered depths
 
     pub encodeType-logs : (t : Ty) (s : State) (log : List Thing) → NeededType ins t → Inv e ins s log → Goes (Logs e ins (λ l. HasType l t) log) (encodeType e t s)
     encodeType-logs (node m ts) s log need inv =
         ends-unless (λ s′. any (eqTy (node m ts)) (s′ .types)) (_>>_ (encodeTypes e ts) (declareType e (node m ts))) s
-        (λ k. logs-same inv (inv .known (type (node m ts)) k))
+        (λ k. logs-same inv (inv .covered (type (node m ts)) k))
         (λ k. ends-then (encodeTypes e ts) (declareType e (node m ts)) s
         (goes-both
         (λ s₁ o g. ends-map (λ s₂ l. logs-then (g .grown) l (λ h. h))
@@ -139,7 +139,7 @@ module _ (e : Enums) (ins : List Tm) where
 
   declaredFun-logs : (f : Fun) (s : State) (log : List Thing) → NeededFun ins f → Inv e ins s log → HasParts e log (func f) → (Tabled s (func f) → ⊥)
       → Logs e ins (List·Memᴰ (func f)) log (declaredFun f s)
-  unfolding declaredFun Tabled Known Needed nameable enterFun write names typeName
+  unfolding declaredFun Tabled Covered Needed nameable enterFun write names typeName
   declaredFun-logs f s log need inv parts fresh =
       record {
         later = func f ∷ log;
@@ -165,16 +165,16 @@ module _ (e : Enums) (ins : List Tm) where
       (extends s (write (comment text ∷ []) s) [] [] [] (sym (append-nil (s .types))) (sym (append-nil (s .funs))) (sym (append-nil (s .terms))))
       new (collect-append silent (s .commands) (comment text ∷ []) ∙ append-nil (collect silent (s .commands)))
     where
-      new : (th : Thing) → Tabled (write (comment text ∷ []) s) th → Tabled s th ⊎ Known e log th
+      new : (th : Thing) → Tabled (write (comment text ∷ []) s) th → Tabled s th ⊎ Covered e log th
       new (term t) h = inl h
       new (func f) h = inl h
       new (type ty) h = inl h
 
   pub encodeUuf-logs : (f : Fun) (s : State) (log : List Thing) → NeededFun ins f → Inv e ins s log
       → Goes (λ s′. Logs e ins (List·Memᴰ (func f)) log s′ × (s′ .terms ≡ s .terms)) (encodeUuf e f s)
-  unfolding encodeUuf writing declareFunction declaredFun HasParts Tabled Known write enterFun
+  unfolding encodeUuf writing declareFunction declaredFun HasParts Tabled Covered write enterFun
   encodeUuf-logs (uuf id arg out) s log need inv =
-      ends-unless (λ s′. any (eqFun f) (s′ .funs)) (_>>_ (writing (comment id ∷ [])) afterComment) s (λ k. (logs-same inv (inv .known (func f) k), refl))
+      ends-unless (λ s′. any (eqFun f) (s′ .funs)) (_>>_ (writing (comment id ∷ [])) afterComment) s (λ k. (logs-same inv (inv .covered (func f) k), refl))
       (λ k. ends-then (writing (comment id ∷ [])) afterComment s
       (goes (ends-then (encodeType e arg) afterArgument s₁
       (ends-map (λ s₂ a. ends-then (encodeType e out) (declareFunction f) s₂ (ends-map (λ s₃ b. goes (last k s₂ s₃ a b)) (encodeType-step out s₂ (a .0 .later) (ofResult need) (a .0 .inv))))
