@@ -1,2 +1,4 @@
+pub mod Canonical
 pub mod Cells
 pub mod Firsts
+pub mod Growth
