@@ -9,7 +9,7 @@ use Rattle.script_spec.specs.Tree.{TermMark, Var, BoolLit, BitVecLit, StringLit
 use Rattle.script_spec.specs.Fields.{Entry}
 use Rattle.script_spec.specs.Fields as fields
 use Rattle.script_spec.specs.File.{TermFile, Named, type, enum, func, term, input, types, funs, terms, typeAt, termAt, namedOp, namedMark, named, earlier}
-use Rattle.index.specs.First.{first, firstType, firstFun, firstTerm, renamedOp, renamed, canonical, Below, OpInRange, MarkInRange, InRange}
+use Rattle.index.specs.First.{first, firstType, firstFun, firstTerm, renamedOp, renamed, canonical, All, Below, OpInRange, MarkInRange, InRange}
 use Rattle.index.proofs.Firsts.{FirstEqual, first-types, first-funs, first-terms}
 
 -- ---- lists
@@ -27,7 +27,7 @@ module _ {A B : Type 0} where
 
 -- first equal numbers name the same
 map-first : {A : Type 0} {count : ℕ} {name : ℕ → A} {first : ℕ → ℕ} → FirstEqual count name first → (rs : List ℕ) → Below count rs → map name (map first rs) ≡ map name rs
-unfolding Below
+unfolding Below All
 map-first F [] h = refl
 map-first F (n ∷ rs) h = rw (F .names n (h .0), map-first F rs (h .1))
 

@@ -2,3 +2,4 @@ pub mod Canonical
 pub mod Cells
 pub mod Firsts
 pub mod Growth
+pub mod Ranges

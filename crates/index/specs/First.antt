@@ -65,10 +65,14 @@ canonical f (input n) = input (firstTerm f n)
 
 -- ---- references in range
 
+-- every item is in P
+unfoldable pub All : {A : Type 0} → (A → Type 0) → List A → Type 0
+All P [] = Unit {0}
+All P (x ∷ xs) = P x × All P xs
+
 -- every number is below a count
 unfoldable pub Below : ℕ → List ℕ → Type 0
-Below count [] = Unit {0}
-Below count (n ∷ ns) = (n < count) × Below count ns
+Below count ns = All (λ n. n < count) ns
 
 module _ (e : Earlier) where
   unfoldable pub OpInRange : Op ℕ → Type 0
