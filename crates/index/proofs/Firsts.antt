@@ -49,22 +49,22 @@ module _ {A : Type 0} (p : A → Bool) (d : A) where
   found (x ∷ xs) zero h t = found-here x xs zero t
   found (x ∷ xs) (suc k) h t = found-from x xs k (found xs k (le-of-suc-le-suc h) t) (p x) refl
 
-  -- some element passes exactly where there is a place
-  pub any-place : (xs : List A) → any p xs ≡ isSome (place p xs)
-  unfolding any place placeFrom isSome
-  any-place [] = refl
-  any-place (x ∷ xs) = go (p x) (place p xs) (any-place xs)
-    where
-      go : (b : Bool) (o : Option ℕ) → any p xs ≡ isSome o → (b || any p xs) ≡ isSome (placeFrom b o)
-      go true o e = refl
-      go false none e = e
-      go false (some n) e = e
-
   -- no place where no element passes
   pub place-none : (xs : List A) → ((k : ℕ) → k < length xs → T (p (getD xs k d)) → ⊥) → place p xs ≡ none
   unfolding place placeFrom
   place-none [] h = refl
   place-none (x ∷ xs) h = rw (is-no (p x) (h zero (suc-le-suc zero-le)), place-none xs (λ k l. h (suc k) (suc-le-suc l)))
+
+-- some element passes exactly where there is a place
+pub any-place : {A : Type 0} (p : A → Bool) (xs : List A) → any p xs ≡ isSome (place p xs)
+unfolding any place placeFrom isSome
+any-place p [] = refl
+any-place p (x ∷ xs) = go (p x) (place p xs) (any-place p xs)
+  where
+    go : (b : Bool) (o : Option ℕ) → any p xs ≡ isSome o → (b || any p xs) ≡ isSome (placeFrom b o)
+    go true o e = refl
+    go false none e = e
+    go false (some n) e = e
 
 -- ---- numbers of first equal records
 

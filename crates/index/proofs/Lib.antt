@@ -3,3 +3,5 @@ pub mod Cells
 pub mod Firsts
 pub mod Growth
 pub mod Ranges
+pub mod Rules
+pub mod Search
