@@ -29,7 +29,7 @@ pub record Lists (g : TermFile) (ts : List Ty) (fs : List Fun) (xs is : List Tm)
 
 module _ (f : TermFile) (r : Named) where
   -- what each list has more
-  lists-append : Lists (f ++ (r ∷ [])) (types f ++ types (r ∷ [])) (funs f ++ funs (r ∷ [])) (terms f ++ terms (r ∷ [])) (inputs f ++ inputs (r ∷ [])) (enums f ++ enums (r ∷ []))
+  pub lists-append : Lists (f ++ (r ∷ [])) (types f ++ types (r ∷ [])) (funs f ++ funs (r ∷ [])) (terms f ++ terms (r ∷ [])) (inputs f ++ inputs (r ∷ [])) (enums f ++ enums (r ∷ []))
   unfolding types funs terms inputs enums
   lists-append =
       record {

@@ -5,3 +5,5 @@ pub mod Growth
 pub mod Ranges
 pub mod Rules
 pub mod Search
+pub mod Renamed
+pub mod Later

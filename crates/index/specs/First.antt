@@ -2,6 +2,7 @@
 -- are, so that numbers are compared and never trees.
 -- Assumes nothing.
 use Prim.Native.Nat.{ℕ, zero, _<_}
+use mathlib.Core.Path.{_≡_}
 use mathlib.Core.Bool.{Bool}
 use mathlib.Core.List.{List, [], _∷_, map}
 use mathlib.Core.Option.{Option, none, some}
@@ -9,7 +10,7 @@ use Rattle.script_spec.specs.Base.{place}
 use Rattle.script_spec.specs.Tree.{eqTy, eqFun, eqTm}
 use Rattle.script_spec.specs.Tree.{TermMark, Var, BoolLit, BitVecLit, StringLit, Entity, ExtLit, None, Some, Set, Record, App, Op, Plain, Ext, RecordGet, StringLike, Uuf, ZeroExtend}
 use Rattle.script_spec.specs.Fields.{Entry, type, enum, func, term, input, Earlier}
-use Rattle.script_spec.specs.File.{TermFile, types, funs, terms, typeAt, funAt, termAt}
+use Rattle.script_spec.specs.File.{TermFile, Named, types, funs, terms, typeAt, funAt, termAt, named, earlier}
 
 -- the number that was found, or else n
 unfoldable pub orElse : ℕ → Option ℕ → ℕ
@@ -103,3 +104,8 @@ module _ (e : Earlier) where
   InRange (func id a r) = (a < e .types) × (r < e .types)
   InRange (term m rs) = MarkInRange m × Below (e .terms) rs
   InRange (input n) = n < e .terms
+
+-- ε n is the entry of the record with number n, for the numbers below a count; `wrap` is `type`, `func` or `term`
+pub record Entries (f : TermFile) {A : Type 0} (wrap : A → Named) (count : ℕ) (name : ℕ → A) (ε : ℕ → Entry) : Type 0 where
+  pub in-range : (n : ℕ) → n < count → InRange (earlier f) (ε n)
+  pub names : (n : ℕ) → n < count → named f (ε n) ≡ wrap (name n)
