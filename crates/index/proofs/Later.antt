@@ -1,6 +1,7 @@
 -- Entries in a file with one record more: references stay in range, and an entry keeps what it names and its canonical entry.
 -- Assumes nothing.
 use Prim.Native.Nat.{ℕ, _≤_, _<_}
+use native.Mathlib.Nat.{le-refl}
 use native.Mathlib.Omega.{arith}
 use mathlib.Core.Path.{_≡_, refl, ap}
 use mathlib.Core.List.{List, [], _∷_, _++_}
@@ -19,6 +20,9 @@ pub record Extends (e e′ : Earlier) : Type 0 where
   pub funs-more : e .funs ≤ e′ .funs
   pub terms-more : e .terms ≤ e′ .terms
   pub entities-kept : (n : ℕ) → n < e .types → e′ .isEntity n ≡ e .isEntity n
+
+pub extends-refl : (e : Earlier) → Extends e e
+extends-refl e = record { types-more = le-refl _; funs-more = le-refl _; terms-more = le-refl _; entities-kept = λ n h. refl }
 
 length-more : {A : Type 0} (xs ys : List A) {zs : List A} → zs ≡ xs ++ ys → length xs ≤ length zs
 length-more xs ys e = rw (e, length-append) (omega arith)

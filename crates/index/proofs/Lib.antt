@@ -7,3 +7,4 @@ pub mod Rules
 pub mod Search
 pub mod Renamed
 pub mod Later
+pub mod Readers
