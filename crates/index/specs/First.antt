@@ -56,13 +56,17 @@ module _ {R R′ F F′ : Type 0} (types : R → R′) (funs : F → F′) where
   renamed (Record names) = Record names
   renamed (App ty op) = App (types ty) (renamedOp op)
 
+-- an entry with other numbers for the types, functions and terms that it refers to
+unfoldable pub renumbered : (ℕ → ℕ) → (ℕ → ℕ) → (ℕ → ℕ) → Entry → Entry
+renumbered types funs terms (type m rs) = type m (map types rs)
+renumbered types funs terms (enum n ms) = enum n ms
+renumbered types funs terms (func id a r) = func id (types a) (types r)
+renumbered types funs terms (term m rs) = term (renamed types funs m) (map terms rs)
+renumbered types funs terms (input n) = input (terms n)
+
 -- an entry with each reference replaced by the number of the first equal record
 unfoldable pub canonical : TermFile → Entry → Entry
-canonical f (type m rs) = type m (map (firstType f) rs)
-canonical f (enum n ms) = enum n ms
-canonical f (func id a r) = func id (firstType f a) (firstType f r)
-canonical f (term m rs) = term (renamed (firstType f) (firstFun f) m) (map (firstTerm f) rs)
-canonical f (input n) = input (firstTerm f n)
+canonical f x = renumbered (firstType f) (firstFun f) (firstTerm f) x
 
 -- ---- references in range
 

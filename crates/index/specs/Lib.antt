@@ -1,3 +1,4 @@
 pub mod Cells
 pub mod First
+pub mod Columns
 pub mod Rules
