@@ -8,7 +8,7 @@ use Rattle.script_spec.specs.Tree.{Tree, Forest, node, nil, cons, forest, uuf, 
 use Rattle.script_spec.specs.Fields.{Entry}
 use Rattle.script_spec.specs.Fields as fields
 use Rattle.script_spec.specs.File.{TermFile, Named, type, enum, func, term, input, types, funs, terms, typeAt, funAt, termAt, namedMark, named, earlier}
-use Rattle.index.specs.First.{first, firstType, firstFun, firstTerm, renamed, canonical, MarkInRange, InRange}
+use Rattle.index.specs.First.{first, firstType, firstFun, firstTerm, renamed, renumbered, canonical, MarkInRange, InRange}
 use Rattle.index.proofs.Firsts.{first-types, first-funs, first-terms}
 use Rattle.index.proofs.Renamed.{map-agree, renamed-agree, renamed-renamed, namedMark-renamed}
 
@@ -39,7 +39,7 @@ module _ (f : TermFile) where
   numbered-mark m = rw (namedMark-renamed f m) (renamed-renamed (first eqTy (types f)) (first eqFun (funs f)) (typeAt f) (funAt f) m)
 
   numbered-named : (e : Entry) → numbered (named f e) ≡ canonical f e
-  unfolding numbered named canonical firstType firstTerm
+  unfolding numbered named canonical renumbered firstType firstTerm
   numbered-named (fields.type m rs) = ap (fields.type m) (replaced-forest (first eqTy (types f)) (typeAt f) rs)
   numbered-named (fields.enum n ms) = refl
   numbered-named (fields.func id a r) = refl
@@ -55,7 +55,7 @@ module _ (f : TermFile) where
       ∙ renamed-agree (earlier f) (first-types f .names) (first-funs f .names) m h ∙ sym (namedMark-renamed f m)
 
   pub named-canonical : (e : Entry) → InRange (earlier f) e → named f (canonical f e) ≡ named f e
-  unfolding InRange earlier named canonical
+  unfolding InRange earlier named canonical renumbered
   named-canonical (fields.type m rs) h = rw (map-map (typeAt f) (firstType f) rs, map-agree (first-types f .names) rs h)
   named-canonical (fields.enum n ms) h = refl
   named-canonical (fields.func id a r) h = rw (first-types f .names a (h .0), first-types f .names r (h .1))

@@ -1,6 +1,7 @@
 -- Entries in a file with one record more: references stay in range, and an entry keeps what it names and its canonical entry.
 -- Assumes nothing.
 use Prim.Native.Nat.{ℕ, _≤_, _<_}
+use native.Mathlib.Nat.{le-refl}
 use native.Mathlib.Omega.{arith}
 use mathlib.Core.Path.{_≡_, refl, ap}
 use mathlib.Core.List.{List, [], _∷_, _++_}
@@ -11,7 +12,7 @@ use Rattle.script_spec.specs.File as file
 use Rattle.script_spec.specs.File.{TermFile, Named, types, funs, terms, named, earlier}
 use Rattle.index.specs.First.{canonical, All, Below, OpInRange, MarkInRange, InRange}
 use Rattle.index.proofs.Growth.{lists-append, types-kept, funs-kept, terms-kept}
-use Rattle.index.proofs.Renamed.{map-agree, renamed-agree, namedMark-renamed}
+use Rattle.index.proofs.Renamed.{map-agree, renamed-agree, renumbered-agree, namedMark-renamed}
 
 -- what may be referred to grows, and the old types are `TE` as they were
 pub record Extends (e e′ : Earlier) : Type 0 where
@@ -20,7 +21,10 @@ pub record Extends (e e′ : Earlier) : Type 0 where
   pub terms-more : e .terms ≤ e′ .terms
   pub entities-kept : (n : ℕ) → n < e .types → e′ .isEntity n ≡ e .isEntity n
 
-length-more : {A : Type 0} (xs ys : List A) {zs : List A} → zs ≡ xs ++ ys → length xs ≤ length zs
+pub extends-refl : (e : Earlier) → Extends e e
+extends-refl e = record { types-more = le-refl _; funs-more = le-refl _; terms-more = le-refl _; entities-kept = λ n h. refl }
+
+pub length-more : {A : Type 0} (xs ys : List A) {zs : List A} → zs ≡ xs ++ ys → length xs ≤ length zs
 length-more xs ys e = rw (e, length-append) (omega arith)
 
 module _ (f : TermFile) (r : Named) where
@@ -89,9 +93,5 @@ module _ (f : TermFile) (r : Named) where
   named-kept (input n) h = ap file.input (terms-kept f r .name-kept n h)
 
   pub canonical-kept : (x : Entry) → InRange (earlier f) x → canonical (f ++ (r ∷ [])) x ≡ canonical f x
-  unfolding InRange earlier canonical
-  canonical-kept (type m rs) h = ap (type m) (map-agree (types-kept f r .first-kept) rs h)
-  canonical-kept (enum n ms) h = refl
-  canonical-kept (func id a b) h = rw (types-kept f r .first-kept a (h .0), types-kept f r .first-kept b (h .1))
-  canonical-kept (term m rs) h = rw (renamed-agree (earlier f) (types-kept f r .first-kept) (funs-kept f r .first-kept) m (h .0), map-agree (terms-kept f r .first-kept) rs (h .1))
-  canonical-kept (input n) h = ap input (terms-kept f r .first-kept n h)
+  unfolding earlier canonical
+  canonical-kept x h = renumbered-agree (earlier f) (types-kept f r .first-kept) (funs-kept f r .first-kept) (terms-kept f r .first-kept) x h

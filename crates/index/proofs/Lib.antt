@@ -1,9 +1,11 @@
-pub mod Canonical
 pub mod Cells
 pub mod Firsts
 pub mod Growth
+pub mod Renamed
+pub mod Canonical
+pub mod Later
+pub mod Search
+pub mod Readers
 pub mod Ranges
 pub mod Rules
-pub mod Search
-pub mod Renamed
-pub mod Later
+pub mod Columns

@@ -8,15 +8,18 @@ use mathlib.Core.Option.{some}
 use lib.Dec.{T, eqb, eqb→eq}
 use borrow.Author.Tests.{eq-eqb}
 use lib.ListN.{length}
-use Rattle.script_spec.specs.Base.{any, place, isSome}
-use Rattle.script_spec.specs.Tree.{Tree, node, nil, forest, trees, depth, depths, Bool·, Option·, Declared, recordOf, TypeMark, eqTy, eqTm, typeOf, typesOf, typeFrom}
+use Rattle.script_spec.specs.Base.{any, empty, place, isSome}
+use Rattle.script_spec.specs.Tree.{Tree, node, nil, forest, trees, depth, depths, Bool·, Option·, Declared, recordOf, TypeMark, eqTy, eqTm, typeOf, typesOf, typeFrom, datatype, attributes}
 use Rattle.script_spec.specs.Tree.{TermMark, Var, BoolLit, BitVecLit, StringLit, Entity, ExtLit, None, Some, Set, Record, App}
+use Rattle.script_spec.specs.Fields.{Entry}
 use Rattle.script_spec.specs.Fields as fields
-use Rattle.script_spec.specs.File.{TermFile, type, types, terms, typeAt, termAt, namedMark, named, earlier, distinct}
+use Rattle.script_spec.specs.File.{TermFile, type, types, terms, typeAt, termAt, namedMark, named, earlier, distinct, listRules, rules}
 use Rattle.script_spec.proofs.Laws.{eqTm-eq, eqTm-refl}
-use Rattle.index.specs.First.{firstType, firstTerm, All, Below, MarkInRange}
-use Rattle.index.specs.Rules.{different, greatest, reference, listed, typeBy, typeNamed, parts}
+use Rattle.index.specs.First.{firstType, firstTerm, All, Below, MarkInRange, InRange}
+use Rattle.index.specs.Columns.{Columns, Right}
+use Rattle.index.specs.Rules.{different, greatest, reference, listed, typeBy, typeNamed, parts, listRulesBy, limits, rulesBy}
 use Rattle.index.proofs.Firsts.{first-injective, first-terms, equal-types, place-first, any-place}
+use Rattle.index.proofs.Renamed.{map-agree}
 
 -- ---- rule 9
 
@@ -122,3 +125,39 @@ module _ (f : TermFile) where
   pub listed-entry : (m : TypeMark) (rs : List ℕ) → named f (fields.type m rs) ≡ type (typeNamed f (listed m rs))
   unfolding named typeNamed
   listed-entry m rs = refl
+
+-- ---- the rules of a record
+
+empty-map : {A B : Type 0} (g : A → B) (xs : List A) → empty (map g xs) ≡ empty xs
+unfolding empty
+empty-map g [] = refl
+empty-map g (x ∷ xs) = refl
+
+module _ (f : TermFile) (c : Columns) (R : Right f c) where
+  list-rules : (m : TermMark ℕ ℕ) (rs : List ℕ) → Below (length (terms f)) rs → listRules (node (namedMark f m) (forest (map (termAt f) rs))) ≡ listRulesBy f c m rs
+  unfolding listRules listRulesBy namedMark
+  list-rules (Var id n) rs h = refl
+  list-rules (BoolLit b) rs h = refl
+  list-rules (BitVecLit n v) rs h = refl
+  list-rules (StringLit s) rs h = refl
+  list-rules (Entity n id) rs h = refl
+  list-rules (ExtLit v) rs h = refl
+  list-rules (None n) rs h = refl
+  list-rules Some rs h = refl
+  list-rules (Set n) rs h = rw (trees-forest (map (termAt f) rs), distinct-numbers f rs h, map-agree (λ n l. R .at-term n l .first-is) rs h)
+  list-rules (Record names) rs h = refl
+  list-rules (App n op) rs h = rw (trees-forest (map (termAt f) rs), empty-map (termAt f) rs)
+
+  -- what a record names keeps the rules where its numbers do
+  pub rules-numbers : (x : Entry) → InRange (earlier f) x → rules f (named f x) ≡ rulesBy f c x
+  unfolding rules rulesBy limits named InRange earlier attributes datatype
+  rules-numbers (fields.type m rs) h = rw (depth-numbers (typeAt f) (length (types f)) (c .typeDepth) (λ n l. R .at-type n l .depth-is) m rs h)
+  rules-numbers (fields.enum n ms) h = refl
+  rules-numbers (fields.func id a r) h = refl
+  rules-numbers (fields.term m rs) h =
+      rw (
+        list-rules m rs (h .1),
+        listed-numbers f (c .termType) (λ n l. R .at-term n l .type-is) m rs (h .1),
+        depth-numbers (termAt f) (length (terms f)) (c .termDepth) (λ n l. R .at-term n l .depth-is) (namedMark f m) rs (h .1),
+      )
+  rules-numbers (fields.input n) h = refl

@@ -6,10 +6,10 @@ use mathlib.Core.Path.{_≡_}
 use mathlib.Core.Bool.{Bool}
 use mathlib.Core.List.{List, [], _∷_, map}
 use mathlib.Core.Option.{Option, none, some}
-use Rattle.script_spec.specs.Base.{place}
+use Rattle.script_spec.specs.Base.{Bytes, place, lookup}
 use Rattle.script_spec.specs.Tree.{eqTy, eqFun, eqTm}
 use Rattle.script_spec.specs.Tree.{TermMark, Var, BoolLit, BitVecLit, StringLit, Entity, ExtLit, None, Some, Set, Record, App, Op, Plain, Ext, RecordGet, StringLike, Uuf, ZeroExtend}
-use Rattle.script_spec.specs.Fields.{Entry, type, enum, func, term, input, Earlier}
+use Rattle.script_spec.specs.Fields.{Entry, type, enum, func, term, input, Earlier, Reader, got, marks, whole}
 use Rattle.script_spec.specs.File.{TermFile, Named, types, funs, terms, typeAt, funAt, termAt, named, earlier}
 
 -- the number that was found, or else n
@@ -56,13 +56,17 @@ module _ {R R′ F F′ : Type 0} (types : R → R′) (funs : F → F′) where
   renamed (Record names) = Record names
   renamed (App ty op) = App (types ty) (renamedOp op)
 
+-- an entry with other numbers for the types, functions and terms that it refers to
+unfoldable pub renumbered : (ℕ → ℕ) → (ℕ → ℕ) → (ℕ → ℕ) → Entry → Entry
+renumbered types funs terms (type m rs) = type m (map types rs)
+renumbered types funs terms (enum n ms) = enum n ms
+renumbered types funs terms (func id a r) = func id (types a) (types r)
+renumbered types funs terms (term m rs) = term (renamed types funs m) (map terms rs)
+renumbered types funs terms (input n) = input (terms n)
+
 -- an entry with each reference replaced by the number of the first equal record
 unfoldable pub canonical : TermFile → Entry → Entry
-canonical f (type m rs) = type m (map (firstType f) rs)
-canonical f (enum n ms) = enum n ms
-canonical f (func id a r) = func id (firstType f a) (firstType f r)
-canonical f (term m rs) = term (renamed (firstType f) (firstFun f) m) (map (firstTerm f) rs)
-canonical f (input n) = input (firstTerm f n)
+canonical f x = renumbered (firstType f) (firstFun f) (firstTerm f) x
 
 -- ---- references in range
 
@@ -104,6 +108,12 @@ module _ (e : Earlier) where
   InRange (func id a r) = (a < e .types) × (r < e .types)
   InRange (term m rs) = MarkInRange m × Below (e .terms) rs
   InRange (input n) = n < e .terms
+
+-- x is the entry that a mark and a body are read as
+pub record Reads (e : Earlier) (mark body : Bytes) (x : Entry) : Type 0 where
+  pub reader : Reader Entry
+  pub found : lookup mark (marks e) ≡ some reader
+  pub reads : whole (reader body) ≡ got x []
 
 -- ε n is the entry of the record with number n, for the numbers below a count; `wrap` is `type`, `func` or `term`
 pub record Entries (f : TermFile) {A : Type 0} (wrap : A → Named) (count : ℕ) (name : ℕ → A) (ε : ℕ → Entry) : Type 0 where
