@@ -1,0 +1,6 @@
+pub mod Cells
+pub mod First
+pub mod Columns
+pub mod Rules
+pub mod Standing
+pub mod Meaning
