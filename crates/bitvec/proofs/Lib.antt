@@ -1,2 +1,4 @@
 pub mod Bytes
 pub mod Powers
+pub mod TwosComplement
+pub mod Vectors

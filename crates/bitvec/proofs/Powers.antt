@@ -19,7 +19,7 @@ one-shl k h =
     (e, rw e (pow-pos k))
 
 -- a power is the power that is m bits less, moved up by m bits
-pow-split : (m k : ℕ) → m ≤ k → 2 ^ k ≡ 2 ^ (k - m) * 2 ^ m
+pub pow-split : (m k : ℕ) → m ≤ k → 2 ^ k ≡ 2 ^ (k - m) * 2 ^ m
 pow-split m k h = ap (λ (j : ℕ). 2 ^ j) (let e : k ≡ k - m + m = omega arith in e) ∙ pow-add 2 (k - m) m
 
 pub power-low : (k p : ℕ) → k < 64 → p ≡ 2 ^ k → whole 0 p ≡ 2 ^ k % 2 ^ 128
