@@ -1,4 +1,5 @@
 pub mod Bytes
+pub mod Division
 pub mod Powers
 pub mod TwosComplement
 pub mod Vectors
