@@ -2,6 +2,7 @@
 pub mod halves;
 pub mod numeral;
 pub mod reading;
+pub mod spelling;
 
 use halves::Halves;
 ghost use mathlib.Core.Path.{_≡_};
