@@ -1,11 +1,11 @@
 -- A signed number of 64 bits in 128 bits, and in fewer: by its sign. Assumes nothing.
-use mathlib.Core.Path.{_≡_, refl, sym, ap, _∙_}
+use mathlib.Core.Path.{_≡_, sym, ap, _∙_}
 use mathlib.Core.Bool.{true, false, true≢false}
-use Prim.Native.Nat.{ℕ, zero, suc, _+_, _-_, _*_, _/_, _%_, _^_, _≤_, _<_}
+use Prim.Native.Nat.{ℕ, suc, _+_, _-_, _*_, _/_, _%_, _^_, _≤_, _<_}
 use native.Mathlib.Nat.{mod-eq-of-lt, mod-lt, add-sub-assoc, lt-of-lt-of-le, div-lt-iff-lt-mul, div-add-mod', add-mul}
 use native.Mathlib.Numerals.{sub-one}
 use native.Mathlib.Omega.{arith}
-use lib.Dec.{T, ltb, lit<, lit≤}
+use lib.Dec.{T, lit<, lit≤}
 use lib.IntN.{ℤ, pos, negsuc, natAbs, _-ℤ_}
 use lib.Signed.{mag, ltZ, nonNeg}
 use lib.Arith.{mul-pred, digits-mod}
@@ -80,7 +80,7 @@ complement-mod p c a hp hc h =
     let q : a / c < p = div-lt-iff-lt-mul hc .1 h in
     let m : p - 1 ≡ p - 1 - a / c + a / c = omega arith in
     let all : p * c - 1 ≡ (p - 1 - a / c) * c + a / c * c + (c - 1) =
-        mul-pred hp hc ∙ ap (λ (x : ℕ). x + (c - 1)) (ap (λ (x : ℕ). x * c) m ∙ add-mul (p - 1 - a / c) (a / c) c) in
+    mul-pred hp hc ∙ ap (λ (x : ℕ). x + (c - 1)) (ap (λ (x : ℕ). x * c) m ∙ add-mul (p - 1 - a / c) (a / c) c) in
     let r : a % c < c = mod-lt a hc in
     let last : c - 1 - a % c < c = omega arith in
     ap (λ (x : ℕ). x % c) (sub-digits (p * c) ((p - 1 - a / c) * c) (a / c * c) c a (a % c) all (sym (div-add-mod' a c)) r) ∙ digits-mod (p - 1 - a / c) last

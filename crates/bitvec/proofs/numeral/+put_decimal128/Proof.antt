@@ -1,4 +1,5 @@
-use native.Mathlib.Omega.{arith}
+-- `bitvec::numeral::put_decimal128` meets its contract: the last digit follows the numeral of a tenth. The measure is the number.
+-- Assumes nothing.
 use borrow.Author.Needs.{needs}
 use mathlib.Core.Path.{sym, _∙_}
 use borrow.Author.Tests.{ltb-true, ltb-false}
@@ -37,175 +38,6 @@ put-decimal128-below t =
     (falls 1 put-decimal128-kinds.ps _<_ μ-put-decimal128 t)
     put-decimal128.Pre
 
--- src/numeral.rt:68:8
-put-decimal128-one-digit-requires : (t : ℕ) → put-decimal128-lts.Need-one-digit-requires (
-  one-digit-reads.Asked,
-  one-digit-reads.Learnt,
-  digit-reads.Asked,
-  digit-reads.Learnt,
-  put-byte-reads.Asked,
-  put-byte-reads.Learnt,
-  by-ten-reads.Asked,
-  by-ten-reads.Learnt,
-  put-decimal128-below t,
-  put-decimal128.Post,
-) (put-decimal128-at t) put-decimal128.Post
-put-decimal128-one-digit-requires t c κs = search needs
-
--- src/numeral.rt:69:49
-put-decimal128-digit-requires : (t : ℕ) → put-decimal128-lts.Need-digit-requires (
-  one-digit-reads.Asked,
-  one-digit-reads.Learnt,
-  digit-reads.Asked,
-  digit-reads.Learnt,
-  put-byte-reads.Asked,
-  put-byte-reads.Learnt,
-  by-ten-reads.Asked,
-  by-ten-reads.Learnt,
-  put-decimal128-below t,
-  put-decimal128.Post,
-) (put-decimal128-at t) put-decimal128.Post
-put-decimal128-digit-requires t c κs = low-lt c.before.before.before.before.args.high c.before.before.before.before.args.low (ltb-true _ 10 (sym c.before.before.one-digit.ensures ∙ c.before.if1.taken))
-
--- src/numeral.rt:69:9
-put-decimal128-put-byte-requires : (t : ℕ) → put-decimal128-lts.Need-put-byte-requires (
-  one-digit-reads.Asked,
-  one-digit-reads.Learnt,
-  digit-reads.Asked,
-  digit-reads.Learnt,
-  put-byte-reads.Asked,
-  put-byte-reads.Learnt,
-  by-ten-reads.Asked,
-  by-ten-reads.Learnt,
-  put-decimal128-below t,
-  put-decimal128.Post,
-) (put-decimal128-at t) put-decimal128.Post
-put-decimal128-put-byte-requires t c κs = search needs
-
--- src/numeral.rt:69:9
-put-decimal128-same-length : (t : ℕ) → put-decimal128-lts.Need-same-length (
-  one-digit-reads.Asked,
-  one-digit-reads.Learnt,
-  digit-reads.Asked,
-  digit-reads.Learnt,
-  put-byte-reads.Asked,
-  put-byte-reads.Learnt,
-  by-ten-reads.Asked,
-  by-ten-reads.Learnt,
-  put-decimal128-below t,
-  put-decimal128.Post,
-) (put-decimal128-at t) put-decimal128.Post
-put-decimal128-same-length t c = search needs
-
--- src/numeral.rt:69:9
-put-decimal128-returns : (t : ℕ) → put-decimal128-lts.Need-returns (
-  one-digit-reads.Asked,
-  one-digit-reads.Learnt,
-  digit-reads.Asked,
-  digit-reads.Learnt,
-  put-byte-reads.Asked,
-  put-byte-reads.Learnt,
-  by-ten-reads.Asked,
-  by-ten-reads.Learnt,
-  put-decimal128-below t,
-  put-decimal128.Post,
-) (put-decimal128-at t) put-decimal128.Post
-put-decimal128-returns t c = says (decimal-last c.before.before.before.before.before.before.before.before.args.high c.before.before.before.before.before.before.before.before.args.low c.before.before.before.digit.result (ltb-true _ 10 (sym c.before.before.before.before.before.before.one-digit.ensures ∙ c.before.before.before.before.before.if1.taken)) c.before.before.before.digit.ensures) c.before.before.put-byte.ensures
-
--- src/numeral.rt:71:9
-put-decimal128-by-ten-requires : (t : ℕ) → put-decimal128-lts.Need-by-ten-requires (
-  one-digit-reads.Asked,
-  one-digit-reads.Learnt,
-  digit-reads.Asked,
-  digit-reads.Learnt,
-  put-byte-reads.Asked,
-  put-byte-reads.Learnt,
-  by-ten-reads.Asked,
-  by-ten-reads.Learnt,
-  put-decimal128-below t,
-  put-decimal128.Post,
-) (put-decimal128-at t) put-decimal128.Post
-put-decimal128-by-ten-requires t c κs = search needs
-
--- src/numeral.rt:72:9
-put-decimal128-put-decimal128-requires : (t : ℕ) → put-decimal128-lts.Need-put-decimal128-requires (
-  one-digit-reads.Asked,
-  one-digit-reads.Learnt,
-  digit-reads.Asked,
-  digit-reads.Learnt,
-  put-byte-reads.Asked,
-  put-byte-reads.Learnt,
-  by-ten-reads.Asked,
-  by-ten-reads.Learnt,
-  put-decimal128-below t,
-  put-decimal128.Post,
-) (put-decimal128-at t) put-decimal128.Post
-put-decimal128-put-decimal128-requires t c κs = (tenth-lt _ _ _ (ltb-false _ 10 (sym c.before.before.before.one-digit.ensures ∙ c.before.before.if1.left)) (c.before.by-ten.ensures .0) (c.before.before.before.before.before.pre .0), tt)
-
--- src/numeral.rt:73:40
-put-decimal128-digit-requires-2 : (t : ℕ) → put-decimal128-lts.Need-digit-requires-2 (
-  one-digit-reads.Asked,
-  one-digit-reads.Learnt,
-  digit-reads.Asked,
-  digit-reads.Learnt,
-  put-byte-reads.Asked,
-  put-byte-reads.Learnt,
-  by-ten-reads.Asked,
-  by-ten-reads.Learnt,
-  put-decimal128-below t,
-  put-decimal128.Post,
-) (put-decimal128-at t) put-decimal128.Post
-put-decimal128-digit-requires-2 t c κs = c.before.before.before.before.before.by-ten.ensures .2
-
--- src/numeral.rt:73:5
-put-decimal128-put-byte-requires-2 : (t : ℕ) → put-decimal128-lts.Need-put-byte-requires-2 (
-  one-digit-reads.Asked,
-  one-digit-reads.Learnt,
-  digit-reads.Asked,
-  digit-reads.Learnt,
-  put-byte-reads.Asked,
-  put-byte-reads.Learnt,
-  by-ten-reads.Asked,
-  by-ten-reads.Learnt,
-  put-decimal128-below t,
-  put-decimal128.Post,
-) (put-decimal128-at t) put-decimal128.Post
-put-decimal128-put-byte-requires-2 t c κs = search needs
-
--- src/numeral.rt:65:1
-put-decimal128-same-length-2 : (t : ℕ) → put-decimal128-lts.Need-same-length-2 (
-  one-digit-reads.Asked,
-  one-digit-reads.Learnt,
-  digit-reads.Asked,
-  digit-reads.Learnt,
-  put-byte-reads.Asked,
-  put-byte-reads.Learnt,
-  by-ten-reads.Asked,
-  by-ten-reads.Learnt,
-  put-decimal128-below t,
-  put-decimal128.Post,
-) (put-decimal128-at t) put-decimal128.Post
-put-decimal128-same-length-2 t c = search needs
-
--- src/numeral.rt:65:1
-put-decimal128-returns-2 : (t : ℕ) → put-decimal128-lts.Need-returns-2 (
-  one-digit-reads.Asked,
-  one-digit-reads.Learnt,
-  digit-reads.Asked,
-  digit-reads.Learnt,
-  put-byte-reads.Asked,
-  put-byte-reads.Learnt,
-  by-ten-reads.Asked,
-  by-ten-reads.Learnt,
-  put-decimal128-below t,
-  put-decimal128.Post,
-) (put-decimal128-at t) put-decimal128.Post
-put-decimal128-returns-2 t c = 
-    let a = c.before.before.before.before.before.before.before.before.before.before.before.before.before.args in
-    let t = c.before.before.before.before.before.before.before.before.before in
-    says (decimal-next (a .high) (a .low) (t .by-ten .result .rest .high) (t .by-ten .result .rest .low) (t .by-ten .result .last) c.before.before.before.digit2.result (ltb-false _ 10 (sym c.before.before.before.before.before.before.before.before.before.before.before.one-digit.ensures ∙ c.before.before.before.before.before.before.before.before.before.before.if1.left)) (t .by-ten .ensures .0) (t .by-ten .ensures .1) c.before.before.before.digit2.ensures)
-    (c.before.before.before.before.before.before.before.put-decimal128.ensures then c.before.before.put-byte2.ensures)
-
 pub +put-decimal128-spec : {M : Type 1} → statement M
 +put-decimal128-spec = close μ-put-decimal128 λ t. put-decimal128-lts.spec (
   one-digit-reads.Asked,
@@ -220,15 +52,12 @@ pub +put-decimal128-spec : {M : Type 1} → statement M
   put-decimal128.Post,
 )
     (put-decimal128-at t)
-    put-decimal128.Post
-    (put-decimal128-one-digit-requires t)
-    (put-decimal128-digit-requires t)
-    (put-decimal128-put-byte-requires t)
-    (put-decimal128-same-length t)
-    (put-decimal128-returns t)
-    (put-decimal128-by-ten-requires t)
-    (put-decimal128-put-decimal128-requires t)
-    (put-decimal128-digit-requires-2 t)
-    (put-decimal128-put-byte-requires-2 t)
-    (put-decimal128-same-length-2 t)
-    (put-decimal128-returns-2 t)
+    put-decimal128.Post (λ c κs. search needs)
+    (λ c κs. low-lt c.before.before.before.before.args.high c.before.before.before.before.args.low (ltb-true _ 10 (sym c.before.before.one-digit.ensures ∙ c.before.if1.taken))) (λ c κs. search needs) (λ c. search needs)
+    (λ c. says (decimal-last c.before.before.before.before.before.before.before.before.args.high c.before.before.before.before.before.before.before.before.args.low c.before.before.before.digit.result (ltb-true _ 10 (sym c.before.before.before.before.before.before.one-digit.ensures ∙ c.before.before.before.before.before.if1.taken)) c.before.before.before.digit.ensures) c.before.before.put-byte.ensures) (λ c κs. search needs)
+    (λ c κs. (tenth-lt _ _ _ (ltb-false _ 10 (sym c.before.before.before.one-digit.ensures ∙ c.before.before.if1.left)) (c.before.by-ten.ensures .0) (c.before.before.before.before.before.pre .0), tt))
+    (λ c κs. c.before.before.before.before.before.by-ten.ensures .2) (λ c κs. search needs) (λ c. search needs)
+    (λ c. let a = c.before.before.before.before.before.before.before.before.before.before.before.before.before.args in
+    let t = c.before.before.before.before.before.before.before.before.before in
+    says (decimal-next (a .high) (a .low) (t .by-ten .result .rest .high) (t .by-ten .result .rest .low) (t .by-ten .result .last) c.before.before.before.digit2.result (ltb-false _ 10 (sym c.before.before.before.before.before.before.before.before.before.before.before.one-digit.ensures ∙ c.before.before.before.before.before.before.before.before.before.before.if1.left)) (t .by-ten .ensures .0) (t .by-ten .ensures .1) c.before.before.before.digit2.ensures)
+    (c.before.before.before.before.before.before.before.put-decimal128.ensures then c.before.before.put-byte2.ensures))

@@ -1,37 +1,12 @@
-use native.Mathlib.Omega.{arith}
+-- `bitvec::spelling::put_bitvec_sort` meets its contract: the pieces are the spelling.
+-- Assumes nothing.
 use borrow.Author.Needs.{needs}
 use Rattle.script_spec.specs.Base.{bytes}
 use Rattle.writer.proofs.Laws.{_then_, says}
 use Rattle.bitvec.proofs.Spellings.{bitVecSort-pieces}
 use Rattle.bitvec.proofs.spelling.put_bitvec_sort.Statement.{statement}
 use Rattle.bitvec.proofs.spelling.put_bitvec_sort.Tie as tie
-use Rattle.bitvec.proofs.spelling.put_bitvec_sort.Reads as reads
-use Rattle.bitvec.proofs.spelling.put_bitvec_sort.Lts as lts
-use Rattle.bitvec.proofs.numeral.put_decimal128.Reads as put-decimal128-reads
-use Rattle.writer.proofs.put_at.Reads as put-at-reads
-use Rattle.writer.proofs.put_byte.Reads as put-byte-reads
 
--- src/spelling.rt:22:44
-slice-aggregate-put-at : tie.Need-slice-aggregate-put-at
-slice-aggregate-put-at c = search needs
-
--- src/spelling.rt:22:9
-put-at-requires : tie.Need-put-at-requires
-put-at-requires c κs = search needs
-
--- src/spelling.rt:23:9
-put-decimal128-requires : tie.Need-put-decimal128-requires
-put-decimal128-requires c κs = search needs
-
--- src/spelling.rt:24:5
-put-byte-requires : tie.Need-put-byte-requires
-put-byte-requires c κs = search needs
-
--- src/spelling.rt:19:1
-same-length : tie.Need-same-length
-same-length c = search needs
-
--- src/spelling.rt:19:1
 returns : tie.Need-returns
 unfolding bytes
 returns c = says (bitVecSort-pieces _) (c.before.before.before.before.before.before.before.before.before.before.put-at.ensures then c.before.before.before.before.before.before.put-decimal128.ensures then c.before.before.put-byte.ensures)
@@ -39,10 +14,5 @@ returns c = says (bitVecSort-pieces _) (c.before.before.before.before.before.bef
 pub put-bitvec-sort-spec : {M : Type 1} → statement M
 put-bitvec-sort-spec =
     tie.close
-    (tie.spec
-    slice-aggregate-put-at
-    put-at-requires
-    put-decimal128-requires
-    put-byte-requires
-    same-length
+    (tie.spec (λ c. search needs) (λ c κs. search needs) (λ c κs. search needs) (λ c κs. search needs) (λ c. search needs)
     returns)
