@@ -22,17 +22,20 @@ one-shl k h =
 pub pow-split : (m k : ℕ) → m ≤ k → 2 ^ k ≡ 2 ^ (k - m) * 2 ^ m
 pow-split m k h = ap (λ (j : ℕ). 2 ^ j) (let e : k ≡ k - m + m = omega arith in e) ∙ pow-add 2 (k - m) m
 
+-- a power below 2 ^ 128 is whole
+pub power-whole : (k : ℕ) → k < 128 → 2 ^ k % 2 ^ 128 ≡ 2 ^ k
+power-whole k h = mod-eq-of-lt (pow-lt h)
+
 pub power-low : (k p : ℕ) → k < 64 → p ≡ 2 ^ k → whole 0 p ≡ 2 ^ k % 2 ^ 128
 power-low k p h e =
     let z : whole 0 p ≡ 2 ^ k = omega arith in
-    let b : k < 128 = omega arith in
-    z ∙ sym (mod-eq-of-lt (pow-lt b))
+    z ∙ sym (power-whole k (omega arith))
 
 pub power-high : (k p : ℕ) → 64 ≤ k → k < 128 → p ≡ 2 ^ (k - 64) → whole p 0 ≡ 2 ^ k % 2 ^ 128
 power-high k p g h e =
     let s : 2 ^ k ≡ 2 ^ (k - 64) * 2 ^ 64 = pow-split 64 k g in
     let z : whole p 0 ≡ 2 ^ k = omega arith in
-    z ∙ sym (mod-eq-of-lt (pow-lt h))
+    z ∙ sym (power-whole k h)
 
 pub power-past : (k : ℕ) → 128 ≤ k → 0 ≡ 2 ^ k % 2 ^ 128
 power-past k h = sym (ap (λ (n : ℕ). n % 2 ^ 128) (pow-split 128 k h) ∙ mul-mod-left (2 ^ (k - 128)) (2 ^ 128))

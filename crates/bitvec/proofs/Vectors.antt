@@ -2,16 +2,15 @@
 use mathlib.Core.Path.{_≡_, ap, _∙_}
 use mathlib.Core.Bool.{Bool, true, false}
 use Prim.Native.Nat.{ℕ, _-_, _%_, _^_, _≤_, _<_}
-use native.Mathlib.Nat.{mod-eq-of-lt}
 use native.Mathlib.Omega.{arith}
 use lib.Dec.{leb, leb→le}
 use lib.IntN.{ℤ}
-use lib.Pow.{pow-lt}
 use borrow.Author.Tests.{lt-leb, le-leb}
 use Rattle.script_spec.specs.Base.{accepted, refused, between}
 use Rattle.script_spec.proofs.Laws.{and-parts}
 use Rattle.bitvec.specs.Value.{twosComplement}
 use Rattle.bitvec.specs.Vector.{isWidth, vectorIf}
+use Rattle.bitvec.proofs.Powers.{power-whole}
 use Rattle.bitvec.proofs.TwosComplement.{twos-wrap}
 
 pub isWidth-above : (n : ℕ) → 1 ≤ n → leb n 128 ≡ isWidth n
@@ -40,5 +39,4 @@ ofInt-value n z a v h e f = f ∙ ap (λ (x : ℕ). x % 2 ^ n) e ∙ twos-wrap n
 pub intMin-value : (n v : ℕ) → isWidth n ≡ true → v ≡ 2 ^ (n - 1) % 2 ^ 128 → v ≡ 2 ^ (n - 1)
 intMin-value n v h e =
     let r = isWidth-range n h in
-    let b : n - 1 < 128 = omega arith in
-    e ∙ mod-eq-of-lt (pow-lt b)
+    e ∙ power-whole (n - 1) (omega arith)
