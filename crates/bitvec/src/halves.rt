@@ -4,11 +4,13 @@ ghost use Prim.Native.Nat.{_<_, _%_, _^_};
 ghost use lib.Dec.{ltb};
 ghost use Rattle.bitvec.specs.Value.{whole};
 
+// A number by its two halves.
 pub struct Halves {
     pub high: u64,
     pub low: u64,
 }
 
+// 2^k in one half.
 fn power64(k: u32) -> u64
     requires { ⌜ k < 64 ⌝ }
     ensures { λ r. ⌜ (r ≡ 2 ^ k) × (0 < r) ⌝ }

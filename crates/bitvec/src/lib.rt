@@ -9,6 +9,7 @@ ghost use mathlib.Core.Path.{_≡_};
 ghost use Rattle.bitvec.specs.Value.{whole, twosComplement};
 ghost use Rattle.bitvec.specs.Vector.{said, isWidth, newVector, ofInt, intMin};
 
+// A bit vector by its width and the halves of its value.
 pub struct BitVec {
     pub width: u32,
     pub high: u64,
@@ -21,12 +22,14 @@ pub enum Made {
     Refused,
 }
 
+// Whether a bit vector can have n bits.
 pub fn is_width(n: u32) -> bool
     ensures { λ r. ⌜ r ≡ isWidth n ⌝ }
 {
     1 <= n && n <= 128
 }
 
+// The bit vector of a value that fits its width.
 pub fn new(width: u32, high: u64, low: u64) -> Made
     ensures { λ r. ⌜ said r ≡ newVector width (whole high low) ⌝ }
 {

@@ -16,7 +16,8 @@ module _ (base : ℕ) (two : 2 ≤ base) where
   quotient-le : (n f : ℕ) → base ≤ n → n ≤ suc f → n / base ≤ f
   quotient-le n f h g = le-of-suc-le-suc (lt-of-lt-of-le (div-lt-self (omega arith) two) g)
 
-  digits-one : (f n : ℕ) (rest : Bytes) → n < base → digits f base n rest ≡ digit n ∷ rest
+  -- a number of one digit
+  pub digits-one : (f n : ℕ) (rest : Bytes) → n < base → digits f base n rest ≡ digit n ∷ rest
   unfolding digits
   digits-one zero n rest h = refl
   digits-one (suc f) n rest h = rw (lt-ltb n base h, digits)
@@ -53,20 +54,17 @@ module _ (base : ℕ) (two : 2 ≤ base) where
           digits-suc f n rest m ∙ less (d ∷ rest)
           ∙ sym (ap (λ (s : Bytes). s ++ rest) (digits-suc f n [] m ∙ less (d ∷ [])) ∙ append-assoc (digits f base (n / base) []) (d ∷ []) rest)
 
-  pub numeral-one : (n : ℕ) → n < base → digits n base n [] ≡ digit n ∷ []
-  numeral-one n h = digits-one n n [] h
-
-  pub numeral-more : (n : ℕ) → base ≤ n → digits n base n [] ≡ digits (n / base) base (n / base) [] ++ (digit (n % base) ∷ [])
-  numeral-more zero h = absurd (omega arith)
-  numeral-more (suc n) h =
+  -- the last digit of a number of more digits
+  pub digits-more : (n : ℕ) (rest : Bytes) → base ≤ n → digits n base n rest ≡ digits (n / base) base (n / base) (digit (n % base) ∷ rest)
+  digits-more zero rest h = absurd (omega arith)
+  digits-more (suc n) rest h =
       let d = digit (suc n % base) in
-      digits-suc n (suc n) [] h ∙ digits-rest n (suc n / base) (d ∷ [])
-      ∙ ap (λ (s : Bytes). s ++ (d ∷ [])) (digits-enough n (suc n / base) (suc n / base) [] (quotient-le (suc n) n h (le-refl (suc n))) (le-refl (suc n / base)))
+      digits-suc n (suc n) rest h ∙ digits-enough n (suc n / base) (suc n / base) (d ∷ rest) (quotient-le (suc n) n h (le-refl (suc n))) (le-refl (suc n / base))
 
 pub decimal-one : (n : ℕ) → n < 10 → decimal n ≡ digit n ∷ []
 unfolding decimal
-decimal-one n h = numeral-one 10 (lit≤ tt) n h
+decimal-one n h = digits-one 10 (lit≤ tt) n n [] h
 
 pub decimal-more : (n : ℕ) → 10 ≤ n → decimal n ≡ decimal (n / 10) ++ (digit (n % 10) ∷ [])
 unfolding decimal
-decimal-more n h = numeral-more 10 (lit≤ tt) n h
+decimal-more n h = digits-more 10 (lit≤ tt) n [] h ∙ digits-rest 10 (lit≤ tt) (n / 10) (n / 10) (digit (n % 10) ∷ [])
