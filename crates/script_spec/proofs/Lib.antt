@@ -33,3 +33,4 @@ pub mod Terms
 pub mod TypeLog
 pub mod Unfolding
 pub mod Values
+pub mod LastDigit
