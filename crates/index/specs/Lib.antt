@@ -1,4 +1,3 @@
 pub mod Cells
 pub mod First
-pub mod Columns
 pub mod Rules
