@@ -1,0 +1,10 @@
+pub mod Cells
+pub mod Firsts
+pub mod Growth
+pub mod Renamed
+pub mod Canonical
+pub mod Later
+pub mod Search
+pub mod Readers
+pub mod Ranges
+pub mod Rules

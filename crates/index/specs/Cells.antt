@@ -1,0 +1,62 @@
+-- The working memory as a table of columns with k entries each: what stands at an entry, and the memory after a store.
+-- Assumes nothing.
+use Prim.Native.Nat.{ℕ, _+_, _*_}
+use mathlib.Core.Bool.{Bool, true, false, _&&_}
+use mathlib.Core.List.{List}
+use lib.Dec.{leb, ltb}
+use lib.ListN.{length, getD, set}
+
+-- the place if the memory has it, else its size
+unfoldable pub placed : Bool → ℕ → ℕ → ℕ
+placed true at size = at
+placed false at size = size
+
+-- the place of the entry i of a column in a memory of `size` entries, or `size` where there is none
+unfoldable pub offset : ℕ → ℕ → ℕ → ℕ → ℕ
+offset size k column i = placed (leb (12 * k) size && (ltb column 12 && ltb i k)) (column * k + i) size
+
+-- the entry i of a column, 0 where there is none
+unfoldable pub cell : List ℕ → ℕ → ℕ → ℕ → ℕ
+cell work k column i = getD work (offset (length work) k column i) 0
+
+-- the memory with v at the entry i of a column, unchanged where there is none
+unfoldable pub store : List ℕ → ℕ → ℕ → ℕ → ℕ → List ℕ
+store work k column i v = set work (offset (length work) k column i) v
+
+-- ---- the columns, as `COLUMNS` and the constants below it in src/lib.rt have them
+
+abbrev pub typeOffset : ℕ
+typeOffset = 0
+
+abbrev pub typeFirst : ℕ
+typeFirst = 1
+
+abbrev pub typeDepth : ℕ
+typeDepth = 2
+
+abbrev pub funOffset : ℕ
+funOffset = 3
+
+abbrev pub funFirst : ℕ
+funFirst = 4
+
+abbrev pub funName : ℕ
+funName = 5
+
+abbrev pub termOffset : ℕ
+termOffset = 6
+
+abbrev pub termFirst : ℕ
+termFirst = 7
+
+abbrev pub termType : ℕ
+termType = 8
+
+abbrev pub termDepth : ℕ
+termDepth = 9
+
+abbrev pub enumOffset : ℕ
+enumOffset = 10
+
+abbrev pub hash : ℕ
+hash = 11

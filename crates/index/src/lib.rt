@@ -1,0 +1,75 @@
+// The working memory as a table: columns of equal length, one entry a record. Nothing outside this crate knows an offset.
+ghost use mathlib.Core.Path.{_≡_};
+ghost use Prim.Native.Nat.{_/_};
+ghost use Rattle.index.specs.Cells.{offset, cell, store};
+
+// The columns. A record has at least 6 bytes and `work` two entries a byte, so that twelve columns fit.
+pub const COLUMNS: usize = 12;
+
+pub const TYPE_OFFSET: usize = 0;
+
+pub const TYPE_FIRST: usize = 1;
+
+pub const TYPE_DEPTH: usize = 2;
+
+pub const FUN_OFFSET: usize = 3;
+
+pub const FUN_FIRST: usize = 4;
+
+pub const FUN_NAME: usize = 5;
+
+pub const TERM_OFFSET: usize = 6;
+
+pub const TERM_FIRST: usize = 7;
+
+pub const TERM_TYPE: usize = 8;
+
+pub const TERM_DEPTH: usize = 9;
+
+pub const ENUM_OFFSET: usize = 10;
+
+pub const HASH: usize = 11;
+
+// How many entries each column has for a file of n bytes.
+pub fn capacity(n: usize) -> usize
+    ensures { λ r. ⌜ r ≡ n / 6 ⌝ }
+{
+    n / 6
+}
+
+// The place of an entry in a memory of `size` entries, or `size` where it has none.
+fn offset(size: usize, k: usize, column: usize, i: usize) -> usize
+    ensures { λ r. ⌜ r ≡ offset size k column i ⌝ }
+{
+    if size / COLUMNS < k {
+        return size;
+    }
+    if COLUMNS <= column {
+        return size;
+    }
+    if k <= i {
+        return size;
+    }
+    column * k + i
+}
+
+// An entry of a column, 0 where there is none.
+pub fn get(work: &[u32], k: usize, column: usize, i: usize) -> u32
+    ensures { λ r. ⌜ r ≡ cell (now (work .entry)) k column i ⌝ }
+{
+    let at = offset(work.len(), k, column, i);
+    if at < work.len() {
+        return work[at];
+    }
+    0
+}
+
+// Sets an entry of a column, and nothing where there is none.
+pub fn set(work: &mut [u32], k: usize, column: usize, i: usize, v: u32)
+    ensures { λ _. ⌜ now (work .exit) ≡ store (now (work .entry)) k column i v ⌝ }
+{
+    let at = offset(work.len(), k, column, i);
+    if at < work.len() {
+        work[at] = v;
+    }
+}
