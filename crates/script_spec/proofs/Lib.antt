@@ -1,3 +1,5 @@
 pub mod Computes
 pub mod Laws
 pub mod Log
+pub mod Utf8Range
+pub mod ReadBack
