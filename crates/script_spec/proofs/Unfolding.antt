@@ -1,0 +1,99 @@
+-- Unfolding definitions, and the names in tokens, go part by part: by recursion on the definitions and the tokens.
+-- Assumes nothing.
+use Prim.Native.Nat.{ℕ}
+use mathlib.Core.Path.{_≡_, refl, sym, ap, _∙_, subst}
+use mathlib.Core.Bool.{Bool, true, false, not}
+use mathlib.Core.List.{List, [], _∷_, _++_, append-assoc, append-nil}
+use lib.Dec.{T, T-not}
+use Rattle.script_spec.specs.Base.{Bytes, same, all}
+use Rattle.script_spec.specs.Smtlib.{Token, word, string, mark, flat, wordEnd}
+use Rattle.script_spec.specs.Faithful.{Definition, replaced, replacedWord, unfolded, lettered, namesIn, used}
+use Rattle.script_spec.proofs.Laws.{and-parts, same-eq, all-append}
+
+-- ---- parts
+
+replacedWord-append : (x : Bool) (w : Bytes) (b ts us : List Token) → replacedWord x w b (ts ++ us) ≡ replacedWord x w b ts ++ us
+unfolding replacedWord
+replacedWord-append true w b ts us = sym (append-assoc b ts us)
+replacedWord-append false w b ts us = refl
+
+replaced-append : (n : Bytes) (b ts us : List Token) → replaced n b (ts ++ us) ≡ replaced n b ts ++ replaced n b us
+unfolding replaced
+replaced-append n b [] us = refl
+replaced-append n b (word w ∷ ts) us = rw (replaced-append n b ts us) (replacedWord-append (same w n) w b (replaced n b ts) (replaced n b us))
+replaced-append n b (string l ∷ ts) us = ap (λ (r : List Token). string l ∷ r) (replaced-append n b ts us)
+replaced-append n b (mark c ∷ ts) us = ap (λ (r : List Token). mark c ∷ r) (replaced-append n b ts us)
+
+unfolded-append : (ds : List Definition) (ts us : List Token) → unfolded ds (ts ++ us) ≡ unfolded ds ts ++ unfolded ds us
+unfolding unfolded
+unfolded-append [] ts us = refl
+unfolded-append (d ∷ ds) ts us = rw (replaced-append (d .0) (d .1) ts us) (unfolded-append ds (replaced (d .0) (d .1) ts) (replaced (d .0) (d .1) us))
+
+flat-append : (ts us : List Token) → flat (ts ++ us) ≡ flat ts ++ flat us
+unfolding flat
+flat-append [] us = refl
+flat-append (word w ∷ ts) us = rw (flat-append ts us) (sym (append-assoc w (flat ts) (flat us)))
+flat-append (string l ∷ ts) us = rw (flat-append ts us) (ap (λ (r : Bytes). 34 ∷ r) (sym (append-assoc l (34 ∷ flat ts) (flat us))))
+flat-append (mark c ∷ ts) us = ap (λ (r : Bytes). c ∷ r) (flat-append ts us)
+
+namesIn-append : (ts us : List Token) → namesIn (ts ++ us) ≡ namesIn ts ++ namesIn us
+unfolding namesIn
+namesIn-append [] us = refl
+namesIn-append (word w ∷ ts) us = rw (namesIn-append ts us) (sym (append-assoc (used w) (namesIn ts) (namesIn us)))
+namesIn-append (string l ∷ ts) us = namesIn-append ts us
+namesIn-append (mark c ∷ ts) us = namesIn-append ts us
+
+-- ---- single tokens
+
+pub unfolded-nil : (ds : List Definition) → unfolded ds [] ≡ []
+unfolding unfolded replaced
+unfolded-nil [] = refl
+unfolded-nil (d ∷ ds) = unfolded-nil ds
+
+unfolded-mark : (ds : List Definition) (c : ℕ) → unfolded ds (mark c ∷ []) ≡ mark c ∷ []
+unfolding unfolded replaced
+unfolded-mark [] c = refl
+unfolded-mark (d ∷ ds) c = unfolded-mark ds c
+
+pub unfolded-string : (ds : List Definition) (l : Bytes) → unfolded ds (string l ∷ []) ≡ string l ∷ []
+unfolding unfolded replaced
+unfolded-string [] l = refl
+unfolded-string (d ∷ ds) l = unfolded-string ds l
+
+-- every defined name is a letter t and a number
+abbrev pub Named : List Definition → Type 0
+Named ds = T (all (λ d. lettered 116 (d .0)) ds)
+
+unlettered-differs : (w n : Bytes) → T (not (lettered 116 w)) → T (lettered 116 n) → same w n ≡ false
+unlettered-differs w n h k = go (same w n) refl
+  where
+    go : (x : Bool) → same w n ≡ x → x ≡ false
+    go true e = absurd (T-not (lettered 116 w) h (subst (λ (v : Bytes). T (lettered 116 v)) (sym (same-eq w n (subst T (sym e) tt))) k))
+    go false e = refl
+
+-- a symbol that is no defined name stays
+unfolded-word : (ds : List Definition) (w : Bytes) → Named ds → T (not (lettered 116 w)) → unfolded ds (word w ∷ []) ≡ word w ∷ []
+unfolding unfolded replaced replacedWord all
+unfolded-word [] w nd h = refl
+unfolded-word (d ∷ ds) w nd h =
+    let q = and-parts (lettered 116 (d .0)) (all (λ d′. lettered 116 (d′ .0)) ds) nd in
+    rw (unlettered-differs w (d .0) h (q .0)) (unfolded-word ds w (q .1) h)
+
+pub flat-wordEnd : (ds : List Definition) (w : Bytes) → Named ds → T (not (lettered 116 w)) → flat (unfolded ds (wordEnd w)) ≡ w
+unfolding wordEnd flat
+flat-wordEnd ds [] nd h = rw (unfolded-nil ds) refl
+flat-wordEnd ds (b ∷ w) nd h = rw (unfolded-word ds (b ∷ w) nd h) (append-nil (b ∷ w))
+
+-- ---- a separator between two parts stays between them
+
+pub flat-sep : (ds : List Definition) (a b : List Token) (c : ℕ) → flat (unfolded ds (a ++ (mark c ∷ b))) ≡ flat (unfolded ds a) ++ (c ∷ flat (unfolded ds b))
+unfolding flat
+flat-sep ds a b c = rw (unfolded-append ds a (mark c ∷ b), unfolded-append ds (mark c ∷ []) b, flat-append (unfolded ds a), unfolded-mark ds c) refl
+
+pub flat-mark : (ds : List Definition) (c : ℕ) (ts : List Token) → flat (unfolded ds (mark c ∷ ts)) ≡ c ∷ flat (unfolded ds ts)
+unfolding flat
+flat-mark ds c ts = flat-sep ds [] ts c ∙ rw (unfolded-nil ds) refl
+
+pub namesIn-sep : (ok : Bytes → Bool) (a b : List Token) (c : ℕ) → T (all ok (namesIn a)) → T (all ok (namesIn b)) → T (all ok (namesIn (a ++ (mark c ∷ b))))
+unfolding namesIn
+namesIn-sep ok a b c h k = rw (namesIn-append a (mark c ∷ b)) (all-append ok (namesIn a) (namesIn b) h k)
