@@ -11,6 +11,7 @@ use Rattle.script_spec.specs.Text.{literal}
 use Rattle.script_spec.specs.Walk.{encoded, termscript}
 use Rattle.script_spec.specs.Smtlib.{tokens, string, readBack}
 use Rattle.script_spec.proofs.Computes
+use Rattle.script_examples.proofs.Lines.{lines, afterOption}
 
 -- ---- the fields of a file
 
@@ -62,14 +63,9 @@ get args = app 0 26 (text "x") args
 abbrev Outcome : Type 0
 Outcome = Answer Bytes × Bytes
 
-lines : List String → Bytes
-lines = collect (λ l. bytes l ++ (10 ∷ []))
-
 -- the script of these lines after the Option type
 writes : List String → Outcome
-writes ls =
-    let script = lines ("(declare-datatype Option (par (X) (" ∷ "  (none)" ∷ "  (some (val X)))))" ∷ ls) in
-    (accepted script, script)
+writes ls = (accepted (afterOption ls), afterOption ls)
 
 -- a refusal, and its line
 refuses : ℕ → ℕ → String → Outcome
@@ -130,7 +126,7 @@ examples =
 
 -- encode answers each file as the table says, and termscript writes what it says
 pub examples-hold : map (λ e. (encoded (e .0) 16384 65536, termscript (e .0))) examples ≡ map (λ e. e .1) examples
-unfolding u32 utf8 text refs rec file bool var app input selfEqual get lines writes refuses whole examples Computes.base Computes.utf8 Computes.tree Computes.fields Computes.file Computes.text Computes.command Computes.spelling Computes.walk
+unfolding u32 utf8 text refs rec file bool var app input selfEqual get lines afterOption writes refuses whole examples Computes.base Computes.utf8 Computes.tree Computes.fields Computes.file Computes.text Computes.command Computes.spelling Computes.walk
 examples-hold = refl
 
 -- ---- string literals
