@@ -7,7 +7,6 @@ use mathlib.Core.Bool.{Bool, true, false, not, _&&_, _||_}
 use mathlib.Core.List.{List, [], _∷_, _++_, append-assoc}
 use mathlib.Core.Option.{Option, none, some, Option·none-ne-some}
 use lib.Dec.{T, eqb, eqb→eq}
-use lib.ListN.{getD}
 use borrow.Author.Tests.{eq-eqb}
 use Rattle.script_spec.specs.Base.{Bytes, isYes, same, any, all, place, placeFrom, collect}
 use Rattle.script_spec.specs.Tree.{Ty, Fun, Tm, eqTy, eqFun, eqTm, tyDec, funDec, tmDec}
@@ -72,13 +71,6 @@ module _ {A : Type 0} (p : A → Bool) where
   unfolding all
   all-append [] ys h k = k
   all-append (x ∷ xs) ys h k = let q = and-parts (p x) (all p xs) h in and-both (p x) (all p (xs ++ ys)) (q .0) (all-append xs ys (q .1) k)
-
-  -- what a table has at any place, its default included
-  pub all-getD : (d : A) → T (p d) → (xs : List A) → T (all p xs) → (i : ℕ) → T (p (getD xs i d))
-  unfolding all
-  all-getD d k [] h i = k
-  all-getD d k (x ∷ xs) h zero = and-parts (p x) (all p xs) h .0
-  all-getD d k (x ∷ xs) h (suc i) = all-getD d k xs (and-parts (p x) (all p xs) h .1) i
 
 -- a weaker test
 pub all-map : {A : Type 0} (p q : A → Bool) → ((x : A) → T (p x) → T (q x)) → (xs : List A) → T (all p xs) → T (all q xs)

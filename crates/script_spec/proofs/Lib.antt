@@ -3,11 +3,11 @@ pub mod Laws
 pub mod Log
 pub mod Numerals
 pub mod Reading
-pub mod Utf8Range
-pub mod ReadBack
 pub mod Pieces
 pub mod Symbols
 pub mod Unfolding
 pub mod Means
 pub mod Sorts
 pub mod Bodies
+pub mod Utf8Range
+pub mod ReadBack
