@@ -15,7 +15,7 @@ use Rattle.script_spec.specs.Spelling.{Names, sort}
 use Rattle.script_spec.specs.Smtlib.{Token, flat}
 use Rattle.script_spec.specs.Faithful.{Thing, term, func, type, Needed, NeededTerm, isInput, isChild, nameOf, wellNamed, full, Role, declares, defines, asserts, command, named, asserted, Definition, definitions, unfolded, Right, uses, inOrder, unique, Every, every, also, things, Says}
 use Rattle.script_spec.proofs.Computes
-use Rattle.script_spec.proofs.Laws.{and-parts, and-both, or-left, or-right, eqTy-eq, eqTm-refl}
+use Rattle.script_spec.proofs.Laws.{and-parts, all-at, all-members, or-left, or-right, eqTy-eq, eqTm-refl}
 use Rattle.script_examples.proofs.Pigeonhole.{Apart, apart, new, length-apart}
 use Rattle.script_examples.proofs.Readings.{nameRead, assertionRead, definitionsRead, orderRead}
 use Rattle.script_examples.proofs.Roles.{declares-kind, declares-name, defines-name, defines-assertion, defines-definition, defines-uses, asserts-name, asserts-assertion, asserts-definition, asserts-uses}
@@ -52,20 +52,6 @@ unfoldable mutual
   pub booleans : Forest Mark → Bool
   booleans nil = true
   booleans (cons t ts) = boolean t && booleans ts
-
-all-at : {A : Type 0} (p : A → Bool) (xs : List A) → T (all p xs) → {x : A} → List·Memᴰ x xs → T (p x)
-unfolding all
-all-at p [] h m = absurd (List·Memᴰ·not-nil m)
-all-at p (y ∷ xs) h {x} m = go (List·Memᴰ·cases-cons m) (λ n. all-at p xs (and-parts (p y) (all p xs) h .1) n)
-  where
-    go : (x ≡ y) ⊎ List·Memᴰ x xs → (List·Memᴰ x xs → T (p x)) → T (p x)
-    go (inl q) later = subst (λ z. T (p z)) (sym q) (and-parts (p y) (all p xs) h .0)
-    go (inr n) later = later n
-
-all-members : {A : Type 0} (p : A → Bool) (xs : List A) → ((x : A) → List·Memᴰ x xs → T (p x)) → T (all p xs)
-unfolding all
-all-members p [] h = tt
-all-members p (x ∷ xs) h = and-both (p x) (all p xs) (h x (List·Memᴰ·head refl)) (all-members p xs (λ y m. h y (List·Memᴰ·tail m)))
 
 booleans-all : (ts : Forest Mark) → booleans ts ≡ all boolean (trees ts)
 unfolding boolean trees all

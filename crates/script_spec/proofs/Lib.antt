@@ -11,3 +11,5 @@ pub mod Sorts
 pub mod Bodies
 pub mod Utf8Range
 pub mod ReadBack
+pub mod Replacing
+pub mod OneResult
