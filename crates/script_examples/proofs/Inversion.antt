@@ -5,7 +5,7 @@ use Prim.Native.Nat.{_≤_}
 use mathlib.Core.Path.{_≡_, refl, sym, ap, _∙_, subst}
 use mathlib.Core.Logic.{_⊎_, inl, inr}
 use mathlib.Core.Bool.{Bool, true, not, _&&_}
-use mathlib.Core.List.{List, [], _∷_, map, tail, append-nil, List·Memᴰ, List·Memᴰ·head, List·Memᴰ·tail, List·Memᴰ·not-nil, List·Memᴰ·cases-cons}
+use mathlib.Core.List.{List, [], _∷_, map, tail, append-nil, List·Memᴰ, List·Memᴰ·not-nil, List·Memᴰ·cases-cons}
 use lib.Dec.{T, T-not}
 use lib.ListN.{length, length-map}
 use Rattle.script_spec.specs.Base.{Bytes, bytes, all, any, collect}
@@ -15,7 +15,8 @@ use Rattle.script_spec.specs.Spelling.{Names, sort}
 use Rattle.script_spec.specs.Smtlib.{Token, flat}
 use Rattle.script_spec.specs.Faithful.{Thing, term, func, type, Needed, NeededTerm, isInput, isChild, nameOf, wellNamed, full, Role, declares, defines, asserts, command, named, asserted, Definition, definitions, unfolded, Right, uses, inOrder, unique, Every, every, also, things, Says}
 use Rattle.script_spec.proofs.Computes
-use Rattle.script_spec.proofs.Laws.{and-parts, all-at, all-members, or-left, or-right, eqTy-eq, eqTm-refl}
+use Rattle.script_spec.proofs.Laws.{and-parts, or-left, or-right, eqTy-eq, eqTm-refl}
+use Rattle.script_spec.proofs.Lists.{all-mem, all-members}
 use Rattle.script_examples.proofs.Pigeonhole.{Apart, apart, new, length-apart}
 use Rattle.script_examples.proofs.Readings.{nameRead, assertionRead, definitionsRead, orderRead}
 use Rattle.script_examples.proofs.Roles.{declares-kind, declares-name, defines-name, defines-assertion, defines-definition, defines-uses, asserts-name, asserts-assertion, asserts-definition, asserts-uses}
@@ -61,10 +62,10 @@ booleans-all (cons t ts) = ap (λ (b : Bool). boolean t && b) (booleans-all ts)
 boolean-child : (u : Tm) → T (boolean u) → {t : Tm} → List·Memᴰ t (children u) → T (boolean t)
 unfolding boolean children
 boolean-child (node m ts) h k =
-    all-at boolean (trees ts) (subst T (booleans-all ts) (and-parts (eqTy (typeOf (node m ts)) (node Bool· nil)) (booleans ts) h .1)) k
+    all-mem boolean (trees ts) (subst T (booleans-all ts) (and-parts (eqTy (typeOf (node m ts)) (node Bool· nil)) (booleans ts) h .1)) k
 
 needed-boolean : {ins : List Tm} {t : Tm} → T (all boolean ins) → NeededTerm ins t → T (boolean t)
-needed-boolean {ins} h (isInput m) = all-at boolean ins h m
+needed-boolean {ins} h (isInput m) = all-mem boolean ins h m
 needed-boolean h (isChild {u = u} n k m) = boolean-child u (needed-boolean h n) m
 
 boolean-sort : (ν : Names) (t : Tm) → T (boolean t) → sort ν (typeOf t) ≡ bytes "Bool"

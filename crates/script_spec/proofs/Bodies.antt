@@ -77,12 +77,21 @@ operands-extName Datetime s = refl
 operands-extName Duration s = refl
 
 -- any name
-abbrev anyName : Bytes → Bool
+abbrev pub anyName : Bytes → Bool
 anyName n = true
 
 meanings-any : {ds : List Definition} {ok : Bytes → Bool} {xs gs : List Bytes} → Meanings ds ok xs gs → Meanings ds anyName xs gs
 meanings-any none = none
 meanings-any (more p q) = more (means-weaken anyName (λ n h. tt) p) (meanings-any q)
+
+all-any : (ns : List Bytes) → T (all anyName ns)
+unfolding all
+all-any [] = tt
+all-any (n ∷ ns) = all-any ns
+
+-- a body, whatever names it uses
+pub body-any : {ds : List Definition} {ok : Bytes → Bool} {inline : Bool} {a g : Bytes} → BodyMeans ds ok inline a g → Means ds anyName a g
+body-any {a} p = record { piece = p .piece; unfolds = p .unfolds; uses = all-any (namesIn (tokens a)) }
 
 module _ (ds : List Definition) (nd : Named ds) (ok : Bytes → Bool) where
   whole : {inline : Bool} {a g : Bytes} → Means ds ok a g → BodyMeans ds ok inline a g

@@ -4,7 +4,7 @@ use Prim.Native.Nat.{ℕ, zero, suc}
 use mathlib.Core.Path.{_≡_, refl, sym, ap, _∙_, subst}
 use mathlib.Core.Logic.{_⊎_, inl, inr}
 use mathlib.Core.Bool.{Bool, true, false, not, _&&_, _||_}
-use mathlib.Core.List.{List, [], _∷_, _++_, append-assoc, List·Memᴰ, List·Memᴰ·head, List·Memᴰ·tail, List·Memᴰ·not-nil, List·Memᴰ·cases-cons}
+use mathlib.Core.List.{List, [], _∷_, _++_, append-assoc}
 use mathlib.Core.Option.{Option, none, some, Option·none-ne-some}
 use lib.Dec.{T, eqb, eqb→eq}
 use borrow.Author.Tests.{eq-eqb}
@@ -77,21 +77,6 @@ pub all-map : {A : Type 0} (p q : A → Bool) → ((x : A) → T (p x) → T (q 
 unfolding all
 all-map p q f [] h = tt
 all-map p q f (x ∷ xs) h = let r = and-parts (p x) (all p xs) h in and-both (q x) (all q xs) (f x (r .0)) (all-map p q f xs (r .1))
-
--- what holds of all members holds of each, and conversely
-pub all-at : {A : Type 0} (p : A → Bool) (xs : List A) → T (all p xs) → {x : A} → List·Memᴰ x xs → T (p x)
-unfolding all
-all-at p [] h m = absurd (List·Memᴰ·not-nil m)
-all-at p (y ∷ xs) h {x} m = go (List·Memᴰ·cases-cons m) (λ n. all-at p xs (and-parts (p y) (all p xs) h .1) n)
-  where
-    go : (x ≡ y) ⊎ List·Memᴰ x xs → (List·Memᴰ x xs → T (p x)) → T (p x)
-    go (inl q) later = subst (λ z. T (p z)) (sym q) (and-parts (p y) (all p xs) h .0)
-    go (inr n) later = later n
-
-pub all-members : {A : Type 0} (p : A → Bool) (xs : List A) → ((x : A) → List·Memᴰ x xs → T (p x)) → T (all p xs)
-unfolding all
-all-members p [] h = tt
-all-members p (x ∷ xs) h = and-both (p x) (all p xs) (h x (List·Memᴰ·head refl)) (all-members p xs (λ y m. h y (List·Memᴰ·tail m)))
 
 pub collect-append : {A B : Type 0} (f : A → List B) (xs ys : List A) → collect f (xs ++ ys) ≡ collect f xs ++ collect f ys
 unfolding collect

@@ -10,7 +10,8 @@ use lib.Dec.{T, T-not, not-T}
 use Rattle.script_spec.specs.Base.{Bytes, same, any, all}
 use Rattle.script_spec.specs.Smtlib.{Token, word, string, mark}
 use Rattle.script_spec.specs.Faithful.{Definition, replaced, replacedWord, unfolded}
-use Rattle.script_spec.proofs.Laws.{and-parts, and-both, or-cases, or-map, is-true, is-false, any-left, any-right, any-cases, all-at, all-map, same-eq, same-refl}
+use Rattle.script_spec.proofs.Laws.{and-parts, and-both, or-cases, or-map, is-true, is-false, any-left, any-right, any-cases, all-map, same-eq, same-refl}
+use Rattle.script_spec.proofs.Lists.{all-mem}
 use Rattle.script_spec.proofs.Unfolding.{unfolded-append}
 
 -- ---- replacing in any order
@@ -110,7 +111,7 @@ module _ (d : Definition) (ds : List Definition) where
       pick : (d′ ≡ d) ⊎ List·Memᴰ d′ ds → Place d′
       pick (inl p) = first p
       pick (inr n) =
-          let f = all-at (follows d) ds (and-parts (all (follows d) ds) (layered ds) h .0) n in
+          let f = all-mem (follows d) ds (and-parts (all (follows d) ds) (layered ds) h .0) n in
           other n (follows-name d d′ f) (follows-body d d′ f)
 
 same-word : (n : Bytes) (b : List Token) → replaced n b (word n ∷ []) ≡ b
@@ -181,7 +182,7 @@ module _ (ds : List Definition) (h : T (layered ds)) where
 
       pick : (x : Bool) → mentions (s .name) (s .body) ≡ x → vs ≡ unfolded ds ts
       pick true k =
-          absurd (T-not (mentions (s .name) vs) (all-at (λ d. not (mentions (d .0) vs)) ds f (s .defined))
+          absurd (T-not (mentions (s .name) vs) (all-mem (λ d. not (mentions (d .0) vs)) ds f (s .defined))
           (rw (e, s .to, parts (s .body))
           (any-right (isSymbol (s .name)) (unfolded ds (s .before)) (unfolded ds (s .body) ++ unfolded ds (s .after))
           (any-left (isSymbol (s .name)) (unfolded ds (s .body)) (unfolded ds (s .after)) (mentions-itself ds h (s .name) (s .body) (s .defined) (subst T (sym k) tt))))))

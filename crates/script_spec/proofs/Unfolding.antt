@@ -4,11 +4,11 @@ use Prim.Native.Nat.{ℕ}
 use mathlib.Core.Path.{_≡_, refl, sym, ap, _∙_, subst}
 use mathlib.Core.Bool.{Bool, true, false, not}
 use mathlib.Core.List.{List, [], _∷_, _++_, append-assoc, append-nil}
-use lib.Dec.{T, T-not}
+use lib.Dec.{T, T-not, not-T}
 use Rattle.script_spec.specs.Base.{Bytes, same, all}
 use Rattle.script_spec.specs.Smtlib.{Token, word, string, mark, flat, wordEnd}
 use Rattle.script_spec.specs.Faithful.{Definition, replaced, replacedWord, unfolded, lettered, namesIn, used}
-use Rattle.script_spec.proofs.Laws.{and-parts, same-eq, all-append}
+use Rattle.script_spec.proofs.Laws.{and-parts, is-false, same-eq, all-append, all-map}
 
 -- ---- parts
 
@@ -64,25 +64,21 @@ unfolded-string (d ∷ ds) l = unfolded-string ds l
 abbrev pub Named : List Definition → Type 0
 Named ds = T (all (λ d. lettered 116 (d .0)) ds)
 
-unlettered-differs : (w n : Bytes) → T (not (lettered 116 w)) → T (lettered 116 n) → same w n ≡ false
-unlettered-differs w n h k = go (same w n) refl
-  where
-    go : (x : Bool) → same w n ≡ x → x ≡ false
-    go true e = absurd (T-not (lettered 116 w) h (subst (λ (v : Bytes). T (lettered 116 v)) (sym (same-eq w n (subst T (sym e) tt))) k))
-    go false e = refl
-
--- a symbol that is no defined name stays
-unfolded-word : (ds : List Definition) (w : Bytes) → Named ds → T (not (lettered 116 w)) → unfolded ds (word w ∷ []) ≡ word w ∷ []
+-- a symbol that differs from every defined name stays
+pub unfolded-word : (ds : List Definition) (w : Bytes) → T (all (λ d. not (same w (d .0))) ds) → unfolded ds (word w ∷ []) ≡ word w ∷ []
 unfolding unfolded replaced replacedWord all
-unfolded-word [] w nd h = refl
-unfolded-word (d ∷ ds) w nd h =
-    let q = and-parts (lettered 116 (d .0)) (all (λ d′. lettered 116 (d′ .0)) ds) nd in
-    rw (unlettered-differs w (d .0) h (q .0)) (unfolded-word ds w (q .1) h)
+unfolded-word [] w h = refl
+unfolded-word (d ∷ ds) w h =
+    let q = and-parts (not (same w (d .0))) (all (λ d′. not (same w (d′ .0))) ds) h in
+    rw (is-false (same w (d .0)) (q .0)) (unfolded-word ds w (q .1))
+
+unlettered-differs : (w n : Bytes) → T (not (lettered 116 w)) → T (lettered 116 n) → T (not (same w n))
+unlettered-differs w n h k = not-T (same w n) (λ e. T-not (lettered 116 w) h (subst (λ (v : Bytes). T (lettered 116 v)) (sym (same-eq w n e)) k))
 
 pub flat-wordEnd : (ds : List Definition) (w : Bytes) → Named ds → T (not (lettered 116 w)) → flat (unfolded ds (wordEnd w)) ≡ w
 unfolding wordEnd flat
 flat-wordEnd ds [] nd h = rw (unfolded-nil ds) refl
-flat-wordEnd ds (b ∷ w) nd h = rw (unfolded-word ds (b ∷ w) nd h) (append-nil (b ∷ w))
+flat-wordEnd ds (b ∷ w) nd h = rw (unfolded-word ds (b ∷ w) (all-map (λ d. lettered 116 (d .0)) (λ d. not (same (b ∷ w) (d .0))) (λ d k. unlettered-differs (b ∷ w) (d .0) h k) ds nd)) (append-nil (b ∷ w))
 
 -- ---- a separator between two parts stays between them
 

@@ -1,0 +1,108 @@
+-- The commands of a log are in order: each uses only its own name and names before it. By recursion on the log, the names seen being
+-- those of the log; then the assertions, which use logged names.
+-- Assumes nothing.
+use mathlib.Core.Path.{_≡_, refl, sym, ap, _∙_, subst}
+use mathlib.Core.Bool.{Bool, true, false, not, _&&_}
+use mathlib.Core.List.{List, [], _∷_, _++_, map, map-append, List·Memᴰ, List·Memᴰ·head, List·Memᴰ·tail, Memᴰ·map}
+use lib.Dec.{T}
+use Rattle.script_spec.specs.Base.{Bytes, same, any, all}
+use Rattle.script_spec.specs.Tree.{Tm, Enums, isVariable}
+use Rattle.script_spec.specs.Spelling.{Names}
+use Rattle.script_spec.specs.Smtlib.{tokens}
+use Rattle.script_spec.specs.Faithful.{Thing, term, func, type, nameOf, Role, declares, defines, asserts, named, uses, inOrder, Every, every, also}
+use Rattle.script_spec.proofs.Laws.{and-parts, and-both, same-refl}
+use Rattle.script_spec.proofs.Log.{HasTerm, Ordered, start, next, reversed}
+use Rattle.script_spec.proofs.Lists.{any-mem}
+use Rattle.script_spec.proofs.Sorts.{Known}
+use Rattle.script_spec.proofs.Roles.{role, definingBody, assertion, thing-fulfils, assertion-fulfils}
+use Rattle.script_spec.proofs.Defined.{Well, Unlike, defs, defs-named, log-unfolds}
+
+-- ---- names seen
+
+-- a name of a logged thing
+abbrev pub nameIn : Names → List Thing → Bytes → Bool
+nameIn ν log n = any (same n) (map (nameOf ν) log)
+
+pub nameIn-mem : (ν : Names) (log : List Thing) {th : Thing} → List·Memᴰ th log → T (nameIn ν log (nameOf ν th))
+nameIn-mem ν log {th} m = any-mem (same (nameOf ν th)) (map (nameOf ν) log) (Memᴰ·map (nameOf ν) m) (same-refl (nameOf ν th))
+
+-- the names seen after commands, the latest first
+unfoldable seenAfter : Names → List Bytes → List Role → List Bytes
+seenAfter ν seen [] = seen
+seenAfter ν seen (r ∷ rs) = seenAfter ν (map (nameOf ν) (named r) ++ seen) rs
+
+seenAfter-append : (ν : Names) (seen : List Bytes) (rs qs : List Role) → seenAfter ν seen (rs ++ qs) ≡ seenAfter ν (seenAfter ν seen rs) qs
+unfolding seenAfter
+seenAfter-append ν seen [] qs = refl
+seenAfter-append ν seen (r ∷ rs) qs = seenAfter-append ν (map (nameOf ν) (named r) ++ seen) rs qs
+
+inOrder-append : (e : Enums) (ν : Names) (seen : List Bytes) (rs qs : List Role) → T (inOrder e ν seen rs) → T (inOrder e ν (seenAfter ν seen rs) qs) → T (inOrder e ν seen (rs ++ qs))
+unfolding seenAfter inOrder
+inOrder-append e ν seen [] qs h k = k
+inOrder-append e ν seen (r ∷ rs) qs h k =
+    let now = map (nameOf ν) (named r) ++ seen in
+    let own = all (λ n. any (same n) now) (uses e ν r) in
+    let q = and-parts own (inOrder e ν now rs) h in
+    and-both own (inOrder e ν now (rs ++ qs)) (q .0) (inOrder-append e ν now rs qs (q .1) k)
+
+-- ---- a log's commands
+
+module _ (e : Enums) (ν : Names) where
+  -- a thing's command names the thing
+  pub named-role : (th : Thing) → named (role e ν th) ≡ th ∷ []
+  unfolding role named
+  named-role (term t) = go (isVariable t)
+    where
+      go : (x : Bool) → named (elim x as (λ z. Role) [ false ↦ defines t (tokens (definingBody e ν t)) | true ↦ declares (term t) ]) ≡ term t ∷ []
+      go true = refl
+      go false = refl
+  named-role (func f) = refl
+  named-role (type ty) = refl
+
+  -- the roles of a log's commands
+  abbrev pub logRoles : List Thing → List Role
+  logRoles log = map (role e ν) (reversed log)
+
+  logRoles-next : (th : Thing) (log : List Thing) → logRoles (th ∷ log) ≡ logRoles log ++ (role e ν th ∷ [])
+  unfolding reversed
+  logRoles-next th log = map-append (role e ν) (reversed log) (th ∷ [])
+
+  seenAfter-log : (log : List Thing) → seenAfter ν [] (logRoles log) ≡ map (nameOf ν) log
+  unfolding seenAfter reversed
+  seenAfter-log [] = refl
+  seenAfter-log (th ∷ log) =
+      ap (seenAfter ν []) (logRoles-next th log) ∙ seenAfter-append ν [] (logRoles log) (role e ν th ∷ [])
+      ∙ rw (named-role th, seenAfter-log log) refl
+
+  pub known-in : {log : List Thing} (log′ : List Thing) → Well ν log → ((th : Thing) → List·Memᴰ th log → List·Memᴰ th log′) → Known ν log (nameIn ν log′)
+  known-in log′ w g = record { well = w; usable = λ th m. nameIn-mem ν log′ (g th m) }
+
+  -- what a command uses once its own name is seen
+  inOrder-one : (th : Thing) (seen : List Bytes) → T (all (λ n. any (same n) (nameOf ν th ∷ seen)) (uses e ν (role e ν th))) → T (inOrder e ν seen (role e ν th ∷ []))
+  unfolding inOrder
+  inOrder-one th seen h = and-both (all (λ n. any (same n) (map (nameOf ν) (named (role e ν th)) ++ seen)) (uses e ν (role e ν th))) true (rw (named-role th) h) tt
+
+  inOrder-log : {log : List Thing} → Ordered e log → Well ν log → Unlike ν log → T (inOrder e ν [] (logRoles log))
+  unfolding inOrder reversed Unlike
+  inOrder-log start w u = tt
+  inOrder-log (next {th} {log} o h n) w u =
+      let w′ : Well ν log = λ x k. w x (List·Memᴰ·tail k) in
+      let f = thing-fulfils e ν log (defs e ν log) (nameIn ν (th ∷ log)) (defs-named e ν log w′) (known-in (th ∷ log) w′ (λ x k. List·Memᴰ·tail k)) (log-unfolds e ν o w′ (u .1)) th
+      (w th (List·Memᴰ·head refl)) (nameIn-mem ν (th ∷ log) (List·Memᴰ·head refl)) n h in
+      rw (logRoles-next th log)
+      (inOrder-append e ν [] (logRoles log) (role e ν th ∷ []) (inOrder-log o w′ (u .1)) (rw (seenAfter-log log) (inOrder-one th (map (nameOf ν) log) (f .inOrder))))
+
+  -- ---- assertions
+
+  assertions-inOrder : (log : List Thing) (ins : List Tm) → ((t : Tm) → HasTerm e log t → T (all (nameIn ν log) (uses e ν (assertion e ν t)))) → Every (HasTerm e log) ins
+      → T (inOrder e ν (map (nameOf ν) log) (map (assertion e ν) ins))
+  unfolding inOrder assertion named
+  assertions-inOrder log [] f every = tt
+  assertions-inOrder log (t ∷ ins) f (also h hs) =
+      and-both (all (nameIn ν log) (uses e ν (assertion e ν t))) (inOrder e ν (map (nameOf ν) log) (map (assertion e ν) ins)) (f t h) (assertions-inOrder log ins f hs)
+
+  pub roles-inOrder : {log : List Thing} (ins : List Tm) → Ordered e log → Well ν log → Unlike ν log → Every (HasTerm e log) ins → T (inOrder e ν [] (logRoles log ++ map (assertion e ν) ins))
+  roles-inOrder {log} ins o w u h =
+      inOrder-append e ν [] (logRoles log) (map (assertion e ν) ins) (inOrder-log o w u)
+      (rw (seenAfter-log log)
+      (assertions-inOrder log ins (λ t k. assertion-fulfils e ν log (defs e ν log) (nameIn ν log) (defs-named e ν log w) (known-in log w (λ x m. m)) (log-unfolds e ν o w u) t k .inOrder) h))
