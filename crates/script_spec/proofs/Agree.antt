@@ -1,17 +1,17 @@
 -- Two namings that agree on a log spell alike what stands after it: by recursion on types, by cases on terms and things.
 -- Assumes nothing.
-use mathlib.Core.Path.{_≡_, refl, sym, ap, ap₂, _∙_}
+use mathlib.Core.Path.{_≡_, refl, ap, ap₂, _∙_}
 use mathlib.Core.Bool.{Bool, true, false, not}
-use mathlib.Core.List.{List, [], _∷_, _++_, map, List·Memᴰ, List·Memᴰ·head, List·Memᴰ·tail}
+use mathlib.Core.List.{List, [], _∷_, map, List·Memᴰ}
 use mathlib.Core.Option.{Option, none, some}
 use lib.Dec.{T}
 use Rattle.script_spec.specs.Base.{Bytes, bytes, isSome}
-use Rattle.script_spec.specs.Tree.{Ty, Fun, Tm, TypeMark, Mark, Forest, node, nil, cons, trees, children, typeOf, typesOf, isVariable, isFalsehood, Enums, enumOf, attribute, datatype, datatypeMark, Datatype, uuf, Negation, ordinary, falsehood, comparison, negation}
+use Rattle.script_spec.specs.Tree.{Ty, Fun, Tm, TypeMark, Mark, Forest, node, nil, cons, trees, children, typeOf, typesOf, isVariable, isFalsehood, Enums, attribute, datatype, datatypeMark, Datatype, uuf, Negation, ordinary, falsehood, comparison, negation}
 use Rattle.script_spec.specs.Tree.{Bool·, String·, Option·, Set·, BitVec·, Declared, Var, BoolLit, BitVecLit, StringLit, Entity, ExtLit, None, Some, Set, Record, App, Op, Plain, Ext, RecordGet, StringLike, Uuf, ZeroExtend}
 use Rattle.script_spec.specs.Command.{Command, declareConst, defineFun, declareDatatype, declareFun, exit, headed}
-use Rattle.script_spec.specs.Spelling.{Names, sort, sorts, sortFrom, datatypeSort, selector, selectorBy, application, negated, entityBy, bodyAt, body, inlined, atom, constructors, typeDeclaration, funDeclaration}
+use Rattle.script_spec.specs.Spelling.{Names, sort, sorts, sortFrom, datatypeSort, selector, selectorBy, application, negated, bodyAt, body, inlined, atom, constructors, typeDeclaration, funDeclaration}
 use Rattle.script_spec.specs.Faithful.{Thing, term, func, type, Every, every, also}
-use Rattle.script_spec.proofs.Log.{commandOf, HasType, HasTypes, HasTerm, HasParts, nameable}
+use Rattle.script_spec.proofs.Log.{commandOf, HasType, HasTypes, HasTerm, HasParts}
 
 -- the same names for what is logged
 pub record Agree (log : List Thing) (ν μ : Names) : Type 0 where

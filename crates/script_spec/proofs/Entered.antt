@@ -9,12 +9,11 @@ use mathlib.Core.Option.{Option, none, some}
 use native.Mathlib.Omega.{arith}
 use lib.Dec.{T}
 use Rattle.script_spec.specs.Base.{any}
-use Rattle.script_spec.specs.Tree.{Ty, Fun, Tm, Tree, TypeMark, Forest, node, nil, cons, depth, depths, eqTy, eqFun, eqTm, Enums, Datatype, datatype}
-use Rattle.script_spec.specs.Command.{Command}
+use Rattle.script_spec.specs.Tree.{Ty, Fun, Tm, TypeMark, Forest, node, nil, cons, depth, depths, eqTy, eqFun, eqTm, Enums, Datatype, datatype}
 use Rattle.script_spec.specs.Spelling.{typeComment, typeDeclaration}
-use Rattle.script_spec.specs.Walk.{State, Step, went, _>>_, names, enterType, write, declareType, encodeType, encodeTypes}
-use Rattle.script_spec.proofs.Laws.{any-cases, any-left, any-right, or-left, eqTy-eq, eqTy-refl, eqFun-eq, eqFun-refl, eqTm-eq, eqTm-refl}
-use Rattle.script_spec.proofs.Steps.{Ends, Goes, goes, ends-then, ends-unless, ends-map}
+use Rattle.script_spec.specs.Walk.{State, went, _>>_, names, enterType, write, declareType, encodeType, encodeTypes}
+use Rattle.script_spec.proofs.Laws.{any-cases, any-right, or-left, eqTy-eq, eqTy-refl, eqFun-eq, eqFun-refl, eqTm-eq, eqTm-refl}
+use Rattle.script_spec.proofs.Steps.{Goes, goes, ends-then, ends-unless, ends-map}
 
 -- ---- a table with one entry more
 

@@ -2,12 +2,13 @@
 -- Assumes nothing.
 use mathlib.Core.Path.{_≡_, sym, subst}
 use mathlib.Core.Bool.{not}
-use mathlib.Core.List.{List, [], _∷_, List·Memᴰ, List·Memᴰ·head, List·Memᴰ·tail, Memᴰ·cast}
+use mathlib.Core.List.{List, [], _∷_, List·Memᴰ, List·Memᴰ·head, List·Memᴰ·tail}
 use lib.Dec.{T}
 use Rattle.script_spec.specs.Tree.{Ty, Fun, Tm, TypeMark, Mark, Forest, node, nil, cons, trees, children, typeOf, isFalsehood, Enums, uuf, App, Uuf}
 use Rattle.script_spec.specs.Faithful.{Thing, term, func, type, Every, every, also}
-use Rattle.script_spec.proofs.Log.{HasType, HasTypes, HasTerm, HasParts, Ordered, start, next}
+use Rattle.script_spec.proofs.Log.{HasType, HasTypes, HasTerm, HasParts, Ordered, next}
 
+-- what is in one log is in the other
 abbrev pub Grows : List Thing → List Thing → Type 0
 Grows log log′ = (th : Thing) → List·Memᴰ th log → List·Memᴰ th log′
 

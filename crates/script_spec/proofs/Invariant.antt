@@ -1,10 +1,9 @@
 -- What the walk keeps true of its tables and commands and of a log: the invariant, and that entering a thing keeps it.
 -- Assumes nothing.
-use Prim.Native.Nat.{ℕ, zero, suc}
 use mathlib.Core.Path.{_≡_, refl, sym, ap, ap₂, _∙_, subst}
 use mathlib.Core.Logic.{_⊎_, inl, inr}
 use mathlib.Core.Bool.{Bool, true, false, _||_}
-use mathlib.Core.List.{List, [], _∷_, _++_, map, append-assoc, append-nil, List·Memᴰ, map-append, List·Memᴰ·head, List·Memᴰ·tail, List·Memᴰ·not-nil, List·Memᴰ·cases-cons}
+use mathlib.Core.List.{List, [], _∷_, _++_, map, append-nil, List·Memᴰ, map-append, List·Memᴰ·head, List·Memᴰ·tail, List·Memᴰ·not-nil, List·Memᴰ·cases-cons}
 use mathlib.Core.Option.{Option, none, some}
 use lib.Dec.{T}
 use Rattle.script_spec.specs.Base.{Bytes, bytes, any, place, placeFrom, collect}
@@ -84,28 +83,31 @@ extends-term t cs s = extends s (write cs (enterTerm t s)) [] [] (t ∷ []) (sym
 agree-tail : {th : Thing} {log : List Thing} {ν μ : Names} → Agree (th ∷ log) ν μ → Agree log ν μ
 agree-tail a = record { terms = λ t m. a .terms t (List·Memᴰ·tail m); funs = λ f m. a .funs f (List·Memᴰ·tail m); types = λ ty m. a .types ty (List·Memᴰ·tail m) }
 
+-- no thing is logged twice
 unfoldable pub Distinct : List Thing → Type 0
 Distinct [] = Unit {0}
 Distinct (th ∷ log) = (List·Memᴰ th log → ⊥) × Distinct log
 
 -- all that is to be logged of a thing in the tables is logged
-unfoldable pub Known : Enums → List Thing → Thing → Type 0
-Known e log (term t) = Done e log t
-Known e log (func f) = List·Memᴰ (func f) log
-Known e log (type ty) = HasType log ty
+unfoldable pub Covered : Enums → List Thing → Thing → Type 0
+Covered e log (term t) = Done e log t
+Covered e log (func f) = List·Memᴰ (func f) log
+Covered e log (type ty) = HasType log ty
 
-known-grows : {log log′ : List Thing} (e : Enums) → Grows log log′ → (th : Thing) → Known e log th → Known e log′ th
-unfolding Known
-known-grows e g (term t) k = done-grows g e t k
-known-grows e g (func f) k = g (func f) k
-known-grows e g (type ty) k = type-grows g ty k
+covered-grows : {log log′ : List Thing} (e : Enums) → Grows log log′ → (th : Thing) → Covered e log th → Covered e log′ th
+unfolding Covered
+covered-grows e g (term t) k = done-grows g e t k
+covered-grows e g (func f) k = g (func f) k
+covered-grows e g (type ty) k = type-grows g ty k
 
+-- the log is ordered, without repetition, in the tables and needed; what is in the tables is covered; and under any names that agree
+-- with the tables the commands are those of the log
 pub record Inv (e : Enums) (ins : List Tm) (s : State) (log : List Thing) : Type 0 where
   pub ordered : Ordered e log
   pub distinct : Distinct log
   pub tabled : (th : Thing) → List·Memᴰ th log → Tabled s th
   pub needed : (th : Thing) → List·Memᴰ th log → Needed e ins th
-  pub known : (th : Thing) → Tabled s th → Known e log th
+  pub covered : (th : Thing) → Tabled s th → Covered e log th
   pub commands : (ν : Names) → Agree log ν (names s) → collect silent (s .commands) ≡ optionDeclaration ∷ map (commandOf e ν) (reversed log)
 
 pub inv-start : (e : Enums) (ins : List Tm) → Inv e ins start []
@@ -116,14 +118,14 @@ inv-start e ins =
       distinct = tt;
       tabled = λ th m. absurd (List·Memᴰ·not-nil m);
       needed = λ th m. absurd (List·Memᴰ·not-nil m);
-      known = none-known;
+      covered = none-covered;
       commands = λ ν a. refl;
     }
   where
-    none-known : (th : Thing) → Tabled start th → Known e [] th
-    none-known (term t) h = absurd h
-    none-known (func f) h = absurd h
-    none-known (type ty) h = absurd h
+    none-covered : (th : Thing) → Tabled start th → Covered e [] th
+    none-covered (term t) h = absurd h
+    none-covered (func f) h = absurd h
+    none-covered (type ty) h = absurd h
 
 module _ {e : Enums} {ins : List Tm} {s : State} {log : List Thing} (inv : Inv e ins s log) where
   -- names that agree with later tables agree with the present ones
@@ -136,35 +138,35 @@ module _ {e : Enums} {ins : List Tm} {s : State} {log : List Thing} (inv : Inv e
       }
 
   -- entries that need no log, and comments
-  pub inv-quiet : (s′ : State) → Extends s s′ → ((th : Thing) → Tabled s′ th → Tabled s th ⊎ Known e log th) → collect silent (s′ .commands) ≡ collect silent (s .commands) → Inv e ins s′ log
+  pub inv-quiet : (s′ : State) → Extends s s′ → ((th : Thing) → Tabled s′ th → Tabled s th ⊎ Covered e log th) → collect silent (s′ .commands) ≡ collect silent (s .commands) → Inv e ins s′ log
   inv-quiet s′ x new c =
       record {
         ordered = inv .ordered;
         distinct = inv .distinct;
         tabled = λ th m. x .kept th (inv .tabled th m);
         needed = inv .needed;
-        known = λ th h. go th (new th h);
+        covered = λ th h. go th (new th h);
         commands = λ ν a. c ∙ inv .commands ν (agree-older x a);
       }
     where
-      go : (th : Thing) → Tabled s th ⊎ Known e log th → Known e log th
-      go th (inl h) = inv .known th h
+      go : (th : Thing) → Tabled s th ⊎ Covered e log th → Covered e log th
+      go th (inl h) = inv .covered th h
       go th (inr k) = k
 
   -- a thing that is entered and logged, with its command
   pub inv-logged : (s′ : State) (th : Thing) (cs : List Command) → Extends s s′
       → HasParts e log th → T (nameable e th) → (Tabled s th → ⊥) → Needed e ins th
-      → Tabled s′ th → ((u : Thing) → Tabled s′ u → Tabled s u ⊎ (u ≡ th)) → Known e (th ∷ log) th
+      → Tabled s′ th → ((u : Thing) → Tabled s′ u → Tabled s u ⊎ (u ≡ th)) → Covered e (th ∷ log) th
       → s′ .commands ≡ s .commands ++ cs → collect silent cs ≡ commandOf e (names s′) th ∷ []
       → Inv e ins s′ (th ∷ log)
   unfolding Distinct reversed
-  inv-logged s′ th cs x parts able fresh need here new known written spoken =
+  inv-logged s′ th cs x parts able fresh need here new cover written spoken =
       record {
         ordered = next (inv .ordered) parts able;
         distinct = (λ m. fresh (inv .tabled th m), inv .distinct);
         tabled = λ u m. tabled u (List·Memᴰ·cases-cons m);
         needed = λ u m. needed u (List·Memᴰ·cases-cons m);
-        known = λ u h. knows u (new u h);
+        covered = λ u h. covers u (new u h);
         commands = commands;
       }
     where
@@ -179,9 +181,9 @@ module _ {e : Enums} {ins : List Tm} {s : State} {log : List Thing} (inv : Inv e
       needed u (inl p) = subst (Needed e ins) (sym p) need
       needed u (inr m) = inv .needed u m
 
-      knows : (u : Thing) → Tabled s u ⊎ (u ≡ th) → Known e (th ∷ log) u
-      knows u (inl h) = known-grows e older u (inv .known u h)
-      knows u (inr p) = subst (Known e (th ∷ log)) (sym p) known
+      covers : (u : Thing) → Tabled s u ⊎ (u ≡ th) → Covered e (th ∷ log) u
+      covers u (inl h) = covered-grows e older u (inv .covered u h)
+      covers u (inr p) = subst (Covered e (th ∷ log)) (sym p) cover
 
       commands : (ν : Names) → Agree (th ∷ log) ν (names s′) → collect silent (s′ .commands) ≡ optionDeclaration ∷ map (commandOf e ν) (reversed log ++ (th ∷ []))
       commands ν a =

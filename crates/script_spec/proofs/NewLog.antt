@@ -1,29 +1,28 @@
 -- A term that is new to the table, after its type and its children, is entered and logged: by cases on its mark and operator.
 -- Assumes nothing.
-use Prim.Native.Nat.{ℕ, _≤_, _<_}
-use mathlib.Core.Path.{_≡_, refl, sym, ap, _∙_, subst}
+use Prim.Native.Nat.{ℕ, _≤_}
+use mathlib.Core.Path.{_≡_, refl, sym, ap, subst}
 use mathlib.Core.Logic.{_⊎_, inl, inr}
 use mathlib.Core.Bool.{Bool, true, false, not}
-use mathlib.Core.List.{List, [], _∷_, _++_, map, append-nil, List·Memᴰ, List·Memᴰ·head, List·Memᴰ·tail}
+use mathlib.Core.List.{List, [], _∷_, map, append-nil, List·Memᴰ, List·Memᴰ·head, List·Memᴰ·tail}
 use mathlib.Core.Option.{Option, none, some}
 use native.Mathlib.Omega.{arith}
-use lib.Dec.{T}
+use lib.Dec.{T, T-not}
 use Rattle.script_spec.specs.Base.{Bytes, any, collect, isSome, isYes, same}
 use Rattle.script_spec.specs.Utf8.{codePoints}
-use Rattle.script_spec.specs.Tree.{Ty, Fun, Tm, Mark, Forest, node, nil, trees, children, typeOf, typesOf, isVariable, isFalsehood, eqTy, eqTm, Enums, enumOf, attributes, attribute, markDec, Negation, ordinary, falsehood, comparison, negation, negationWith}
+use Rattle.script_spec.specs.Tree.{Ty, Fun, Tm, Mark, Forest, node, nil, children, typeOf, typesOf, isVariable, isFalsehood, eqTy, eqTm, Enums, enumOf, attributes, attribute, markDec, Negation, ordinary, falsehood, comparison, negation, negationWith}
 use Rattle.script_spec.specs.Tree.{Bool·, Var, BoolLit, BitVecLit, StringLit, Entity, ExtLit, None, Some, Set, Record, App, Op, Plain, Bvnego, Ext, RecordGet, StringLike, Uuf, ZeroExtend}
-use Rattle.script_spec.specs.Command.{Command, comment, declareConst, defineFun}
-use Rattle.script_spec.specs.Text.{debug}
+use Rattle.script_spec.specs.Command.{Command, defineFun}
 use Rattle.script_spec.specs.Spelling.{Names, sort, body, atom, inlined}
-use Rattle.script_spec.specs.Walk.{State, Step, went, Walk, _>>_, names, typeName, enterTerm, write, ensure, enter, declareVar, defineTerm, lowEnough, defineEntity, recordGet, operatorStep, defineApp, encodeNew}
+use Rattle.script_spec.specs.Walk.{State, _>>_, names, typeName, enterTerm, write, ensure, enter, declareVar, defineTerm, lowEnough, defineEntity, recordGet, operatorStep, defineApp, encodeNew}
 use Rattle.script_spec.specs.Faithful.{Thing, term, func, type, NeededTerm, isApplied, Needed}
 use Rattle.script_spec.proofs.Laws.{is-false}
-use Rattle.script_spec.proofs.Log.{commandOf, silent, HasType, HasTerm, HasParts, nameable}
-use Rattle.script_spec.proofs.Steps.{Ends, goes, stops, ends-then, ends-ensure, ends-map, goes-map}
+use Rattle.script_spec.proofs.Log.{commandOf, silent, HasType, HasParts, nameable}
+use Rattle.script_spec.proofs.Steps.{Ends, goes, ends-then, ends-ensure, ends-map, goes-map}
 use Rattle.script_spec.proofs.Grow.{Grows, Done, Dones, dones-terms, type-grows, dones-grow}
 use Rattle.script_spec.proofs.Entered.{term-cases, term-new}
-use Rattle.script_spec.proofs.Invariant.{Tabled, Known, Extends, extends, extends-term, Inv, inv-quiet, inv-logged}
-use Rattle.script_spec.proofs.TypeLog.{Logs, absent, logs-same, logs-then, encodeUuf-logs}
+use Rattle.script_spec.proofs.Invariant.{Tabled, Covered, Extends, extends, extends-term, Inv, inv-quiet, inv-logged}
+use Rattle.script_spec.proofs.TypeLog.{Logs, logs-same, logs-then, encodeUuf-logs}
 
 -- a refusal of the walk: its number, and a term that is needed
 pub record Refusal (ins : List Tm) (n : ℕ) (t : Tm) : Type 0 where
@@ -103,13 +102,13 @@ module _ (e : Enums) (ins : List Tm) where
 
     inlined-done : T (inlined e (node m ts)) → Applied log m → Done e log (node m ts)
     unfolding Done
-    inlined-done i a = (record { typed = r .typed; known = λ n. absurd (absent (inlined e (node m ts)) n i) }, applied-fun m ts a, r .below)
+    inlined-done i a = (record { typed = r .typed; known = λ n. absurd (T-not (inlined e (node m ts)) n i) }, applied-fun m ts a, r .below)
 
     unentered : T (inlined e (node m ts)) → Applied log m → Finished m ts s log s
     unentered i a = (logs-same e ins (r .inv) (inlined-done i a), λ u h. inl h)
 
     entered-inlined : T (inlined e (node m ts)) → Applied log m → Finished m ts s log (enterTerm (node m ts) s)
-    unfolding enterTerm Tabled Known
+    unfolding enterTerm Tabled Covered
     entered-inlined i a = (logs-same e ins (inv-quiet (r .inv) s′ grown new refl) (inlined-done i a), λ u h. term-cases (s .terms) (node m ts) u h)
       where
         s′ : State
@@ -118,7 +117,7 @@ module _ (e : Enums) (ins : List Tm) where
         grown : Extends s s′
         grown = extends s s′ [] [] (node m ts ∷ []) (sym (append-nil (s .types))) (sym (append-nil (s .funs))) refl
 
-        new : (th : Thing) → Tabled s′ th → Tabled s th ⊎ Known e log th
+        new : (th : Thing) → Tabled s′ th → Tabled s th ⊎ Covered e log th
         new (term u) h = elim (term-cases (s .terms) (node m ts) u h) [ inl k ↦ inl k | inr p ↦ inr (subst (Done e log) (sym p) (inlined-done i a)) ]
         new (func f) h = inl h
         new (type ty) h = inl h
@@ -128,7 +127,7 @@ module _ (e : Enums) (ins : List Tm) where
     entered-named : (cs : List Command) → T (not (inlined e (node m ts))) → (T (not (isVariable (node m ts))) → T (not (isFalsehood (node m ts)))) → Applied log m
         → collect silent cs ≡ commandOf e (names (enterTerm (node m ts) s)) (term (node m ts)) ∷ []
         → Finished m ts s log (write cs (enterTerm (node m ts) s))
-    unfolding enterTerm write names typeName Tabled Known Needed HasParts nameable Done children
+    unfolding enterTerm write names typeName Tabled Covered Needed HasParts nameable Done children
     entered-named cs i v a spoken = (
       record {
         later = term t ∷ log;

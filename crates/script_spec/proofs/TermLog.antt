@@ -1,23 +1,22 @@
 -- The walk over terms and inputs logs them, or stops at a needed term: by recursion on the term.
 -- Assumes nothing.
-use Prim.Native.Nat.{ℕ, suc, _≤_, _<_, max}
-use mathlib.Core.Path.{_≡_, refl, sym, ap, _∙_, subst}
+use Prim.Native.Nat.{ℕ, suc, _<_}
+use mathlib.Core.Path.{_≡_, refl, ap, subst}
 use mathlib.Core.Logic.{_⊎_, inl, inr}
-use mathlib.Core.Bool.{Bool, true, false, not}
+use mathlib.Core.Bool.{not}
 use mathlib.Core.List.{List, [], _∷_, List·Memᴰ, List·Memᴰ·head, List·Memᴰ·tail}
 use native.Mathlib.Omega.{arith}
-use lib.Dec.{T}
+use lib.Dec.{T, T-not}
 use Rattle.script_spec.specs.Base.{any}
 use Rattle.script_spec.specs.Tree.{Tm, Mark, Forest, node, nil, cons, trees, children, depth, depths, typeOf, isFalsehood, eqTm, Enums}
-use Rattle.script_spec.specs.Walk.{State, Step, went, Walk, _>>_, unless, start, encodeType, encodeNew, encodeTerm, encodeTerms, encodeInputs}
+use Rattle.script_spec.specs.Walk.{State, _>>_, unless, start, encodeType, encodeNew, encodeTerm, encodeTerms, encodeInputs}
 use Rattle.script_spec.specs.Faithful.{Thing, term, NeededTerm, isInput, isChild, ofTerm, Every, every, also}
 use Rattle.script_spec.proofs.Log.{HasType}
 use Rattle.script_spec.proofs.Steps.{Ends, goes, ends-then, ends-unless, ends-map, goes-map}
-use Rattle.script_spec.proofs.Grow.{Grows, Done, Dones, type-grows, done-grows}
-use Rattle.script_spec.proofs.Entered.{TypesOnly}
-use Rattle.script_spec.proofs.Invariant.{Tabled, Known, Inv, inv-start}
-use Rattle.script_spec.proofs.TypeLog.{Logs, absent, logs-same, logs-then, encodeType-step}
-use Rattle.script_spec.proofs.NewLog.{Refusal, EntersOnly, Ready, Finished, encodeNew-logs}
+use Rattle.script_spec.proofs.Grow.{Done, Dones, type-grows, done-grows}
+use Rattle.script_spec.proofs.Invariant.{Tabled, Covered, Inv, inv-start}
+use Rattle.script_spec.proofs.TypeLog.{Logs, logs-same, logs-then, encodeType-step}
+use Rattle.script_spec.proofs.NewLog.{Refusal, encodeNew-logs}
 
 -- the terms that are entered between two states have at most the depth d
 abbrev Shallow : ℕ → State → State → Type 0
@@ -40,7 +39,7 @@ module _ (e : Enums) (ins : List Tm) where
         inv = b .0 .inv;
         typed = type-grows (b .0 .grown) (typeOf (node m ts)) (a .has);
         below = b .0 .has;
-        fresh = λ h. absent (any (eqTm (node m ts)) (s .terms)) k (back (node m ts) (omega arith) h);
+        fresh = λ h. T-not (any (eqTm (node m ts)) (s .terms)) k (back (node m ts) (omega arith) h);
       }))
     where
       back : (u : Tm) → depths ts < depth u → T (any (eqTm u) (s₂ .terms)) → T (any (eqTm u) (s .terms))
@@ -51,18 +50,18 @@ module _ (e : Enums) (ins : List Tm) where
       from u d (inr q) = absurd (let z : depth u ≡ suc (depths ts) = ap depth q in omega arith)
 
   mutual
-    unfolding encodeTerm Tabled Known Done trees children depth
+    unfolding encodeTerm Tabled Covered Done trees children depth
 
     encodeTerm-logs : (t : Tm) (s : State) (log : List Thing) → NeededTerm ins t → Inv e ins s log
         → Ends (λ s′. Logs e ins (λ l. Done e l t) log s′ × Shallow (depth t) s s′) (Refusal ins) (encodeTerm e t s)
     encodeTerm-logs (node m ts) s log need inv =
         ends-unless (λ s′. any (eqTm (node m ts)) (s′ .terms)) (_>>_ (encodeType e (typeOf (node m ts))) (_>>_ (unless (λ s′. isFalsehood (node m ts)) (encodeTerms e ts)) (encodeNew e (node m ts)))) s
-        (λ k. (logs-same e ins inv (inv .known (term (node m ts)) k), λ u d h. h))
+        (λ k. (logs-same e ins inv (inv .covered (term (node m ts)) k), λ u d h. h))
         (λ k. ends-then (encodeType e (typeOf (node m ts))) (_>>_ (unless (λ s′. isFalsehood (node m ts)) (encodeTerms e ts)) (encodeNew e (node m ts))) s
         (goes-map (λ s₁ a. ends-then (unless (λ s′. isFalsehood (node m ts)) (encodeTerms e ts)) (encodeNew e (node m ts)) s₁
         (ends-map (λ s₂ b. new-after m ts s s₁ s₂ log need k (a .0) (a .1 .terms) b)
         (ends-unless (λ s′. isFalsehood (node m ts)) (encodeTerms e ts) s₁
-        (λ f. (logs-same e ins (a .0 .inv) (λ n. absurd (absent (isFalsehood (node m ts)) n f)), λ u d h. h))
+        (λ f. (logs-same e ins (a .0 .inv) (λ n. absurd (T-not (isFalsehood (node m ts)) n f)), λ u d h. h))
         (λ n. ends-map (λ s₂ b. (logs-then e ins (λ th x. x) (b .0) (λ d _. d), b .1)) (encodeTerms-logs ts s₁ (a .0 .later) (λ u x. isChild need n x) (a .0 .inv))))))
         (encodeType-step e ins (typeOf (node m ts)) s log (ofTerm need refl) inv)))
 

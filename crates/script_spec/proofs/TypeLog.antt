@@ -1,25 +1,24 @@
 -- The walk over a type or a function logs it: by recursion on the type, each entry by the invariant's law.
 -- Assumes nothing.
-use Prim.Native.Nat.{ℕ, suc}
 use mathlib.Core.Path.{_≡_, refl, sym, ap, _∙_, subst}
 use mathlib.Core.Logic.{_⊎_, inl, inr}
-use mathlib.Core.Bool.{Bool, true, false, not}
+use mathlib.Core.Bool.{not}
 use mathlib.Core.List.{List, [], _∷_, _++_, append-nil, List·Memᴰ, List·Memᴰ·head, List·Memᴰ·tail}
 use mathlib.Core.Option.{Option, none, some}
 use native.Mathlib.Omega.{arith}
-use lib.Dec.{T}
+use lib.Dec.{T, T-not}
 use Rattle.script_spec.specs.Base.{Bytes, any, collect, isSome}
 use Rattle.script_spec.specs.Tree.{Ty, Fun, Tm, TypeMark, Forest, node, nil, cons, trees, children, depth, depths, eqTy, eqFun, Enums, Datatype, entity, extension, recordOf, datatype, uuf}
 use Rattle.script_spec.specs.Command.{Command, comment, exit}
 use Rattle.script_spec.specs.Spelling.{Names, typeComment, typeDeclaration, funDeclaration}
-use Rattle.script_spec.specs.Walk.{State, Step, went, Walk, _>>_, names, typeName, enterType, enterFun, write, writing, declareType, encodeType, encodeTypes, declareFunction, encodeUuf}
+use Rattle.script_spec.specs.Walk.{State, went, Walk, _>>_, names, typeName, enterType, enterFun, write, writing, declareType, encodeType, encodeTypes, declareFunction, encodeUuf}
 use Rattle.script_spec.specs.Faithful.{Thing, term, func, type, NeededFun, NeededType, ofArgument, ofResult, isPart, Needed}
 use Rattle.script_spec.proofs.Laws.{collect-append}
 use Rattle.script_spec.proofs.Log.{commandOf, silent, HasType, HasTypes, HasParts, nameable}
-use Rattle.script_spec.proofs.Steps.{Ends, Goes, goes, ends-then, ends-unless, ends-map, goes-both}
+use Rattle.script_spec.proofs.Steps.{Goes, goes, ends-then, ends-unless, ends-map, goes-both}
 use Rattle.script_spec.proofs.Grow.{Grows, type-grows, types-grow}
 use Rattle.script_spec.proofs.Entered.{type-cases, type-new, fun-cases, fun-new, TypesOnly, encodeType-only, encodeTypes-only}
-use Rattle.script_spec.proofs.Invariant.{Tabled, Known, Extends, extends, extends-type, extends-fun, Inv, inv-quiet, inv-logged}
+use Rattle.script_spec.proofs.Invariant.{Tabled, Covered, extends, extends-type, extends-fun, Inv, inv-quiet, inv-logged}
 
 -- a state whose log has grown and has P
 pub record Logs (e : Enums) (ins : List Tm) (P : List Thing → Type 0) (log : List Thing) (s : State) : Type 0 where
@@ -27,10 +26,6 @@ pub record Logs (e : Enums) (ins : List Tm) (P : List Thing → Type 0) (log : L
   pub grown : Grows log later
   pub inv : Inv e ins s later
   pub has : P later
-
-pub absent : (b : Bool) → T (not b) → T b → ⊥
-absent true n h = n
-absent false n h = h
 
 module _ (e : Enums) (ins : List Tm) where
   pub logs-same : {P : List Thing → Type 0} {log : List Thing} {s : State} → Inv e ins s log → P log → Logs e ins P log s
@@ -58,7 +53,7 @@ module _ (e : Enums) (ins : List Tm) where
   declared-logs : (d : Datatype) (m : TypeMark) (ts : Forest TypeMark) (s : State) (log : List Thing)
       → NeededType ins (node m ts) → Inv e ins s log → HasTypes log ts → (Tabled s (type (node m ts)) → ⊥) → datatype (node m ts) ≡ some d
       → Logs e ins (λ l. HasType l (node m ts)) log (declared d (node m ts) s)
-  unfolding declared HasType Tabled Known Needed HasParts nameable isSome enterType write names typeName
+  unfolding declared HasType Tabled Covered Needed HasParts nameable isSome enterType write names typeName
   declared-logs d m ts s log need inv parts fresh p =
       record {
         later = type t ∷ log;
@@ -107,16 +102,16 @@ module _ (e : Enums) (ins : List Tm) where
       go (some d) p = goes (declared-logs d m ts s log need inv parts fresh p)
 
   mutual
-    unfolding encodeType HasType trees children Tabled Known depths
+    unfolding encodeType HasType trees children Tabled Covered depths
 
     pub encodeType-logs : (t : Ty) (s : State) (log : List Thing) → NeededType ins t → Inv e ins s log → Goes (Logs e ins (λ l. HasType l t) log) (encodeType e t s)
     encodeType-logs (node m ts) s log need inv =
         ends-unless (λ s′. any (eqTy (node m ts)) (s′ .types)) (_>>_ (encodeTypes e ts) (declareType e (node m ts))) s
-        (λ k. logs-same inv (inv .known (type (node m ts)) k))
+        (λ k. logs-same inv (inv .covered (type (node m ts)) k))
         (λ k. ends-then (encodeTypes e ts) (declareType e (node m ts)) s
         (goes-both
         (λ s₁ o g. ends-map (λ s₂ l. logs-then (g .grown) l (λ h. h))
-        (declareType-logs m ts s₁ (g .later) need (g .inv) (g .has) (λ h. absent (any (eqTy (node m ts)) (s .types)) k (o .types (node m ts) (omega arith) h))))
+        (declareType-logs m ts s₁ (g .later) need (g .inv) (g .has) (λ h. T-not (any (eqTy (node m ts)) (s .types)) k (o .types (node m ts) (omega arith) h))))
         (encodeTypes-only e ts s) (encodeTypes-logs ts s log (λ u x. isPart need x) inv)))
 
     encodeTypes-logs : (ts : Forest TypeMark) (s : State) (log : List Thing) → ((u : Ty) → List·Memᴰ u (trees ts) → NeededType ins u) → Inv e ins s log → Goes (Logs e ins (λ l. HasTypes l ts) log) (encodeTypes e ts s)
@@ -144,7 +139,7 @@ module _ (e : Enums) (ins : List Tm) where
 
   declaredFun-logs : (f : Fun) (s : State) (log : List Thing) → NeededFun ins f → Inv e ins s log → HasParts e log (func f) → (Tabled s (func f) → ⊥)
       → Logs e ins (List·Memᴰ (func f)) log (declaredFun f s)
-  unfolding declaredFun Tabled Known Needed nameable enterFun write names typeName
+  unfolding declaredFun Tabled Covered Needed nameable enterFun write names typeName
   declaredFun-logs f s log need inv parts fresh =
       record {
         later = func f ∷ log;
@@ -170,16 +165,16 @@ module _ (e : Enums) (ins : List Tm) where
       (extends s (write (comment text ∷ []) s) [] [] [] (sym (append-nil (s .types))) (sym (append-nil (s .funs))) (sym (append-nil (s .terms))))
       new (collect-append silent (s .commands) (comment text ∷ []) ∙ append-nil (collect silent (s .commands)))
     where
-      new : (th : Thing) → Tabled (write (comment text ∷ []) s) th → Tabled s th ⊎ Known e log th
+      new : (th : Thing) → Tabled (write (comment text ∷ []) s) th → Tabled s th ⊎ Covered e log th
       new (term t) h = inl h
       new (func f) h = inl h
       new (type ty) h = inl h
 
   pub encodeUuf-logs : (f : Fun) (s : State) (log : List Thing) → NeededFun ins f → Inv e ins s log
       → Goes (λ s′. Logs e ins (List·Memᴰ (func f)) log s′ × (s′ .terms ≡ s .terms)) (encodeUuf e f s)
-  unfolding encodeUuf writing declareFunction declaredFun HasParts Tabled Known write enterFun
+  unfolding encodeUuf writing declareFunction declaredFun HasParts Tabled Covered write enterFun
   encodeUuf-logs (uuf id arg out) s log need inv =
-      ends-unless (λ s′. any (eqFun f) (s′ .funs)) (_>>_ (writing (comment id ∷ [])) afterComment) s (λ k. (logs-same inv (inv .known (func f) k), refl))
+      ends-unless (λ s′. any (eqFun f) (s′ .funs)) (_>>_ (writing (comment id ∷ [])) afterComment) s (λ k. (logs-same inv (inv .covered (func f) k), refl))
       (λ k. ends-then (writing (comment id ∷ [])) afterComment s
       (goes (ends-then (encodeType e arg) afterArgument s₁
       (ends-map (λ s₂ a. ends-then (encodeType e out) (declareFunction f) s₂ (ends-map (λ s₃ b. goes (last k s₂ s₃ a b)) (encodeType-step out s₂ (a .0 .later) (ofResult need) (a .0 .inv))))
@@ -203,6 +198,6 @@ module _ (e : Enums) (ins : List Tm) where
       last k s₂ s₃ a b = (
         logs-then (λ th m. b .0 .grown th (a .0 .grown th m))
             (declaredFun-logs f s₃ (b .0 .later) need (b .0 .inv) (type-grows (b .0 .grown) arg (a .0 .has), b .0 .has)
-            (λ h. absent (any (eqFun f) (s .funs)) k (subst (λ (fs : List Fun). T (any (eqFun f) fs)) (b .1 .funs ∙ a .1 .funs) h))) (λ h. h),
+            (λ h. T-not (any (eqFun f) (s .funs)) k (subst (λ (fs : List Fun). T (any (eqFun f) fs)) (b .1 .funs ∙ a .1 .funs) h))) (λ h. h),
         b .1 .terms ∙ a .1 .terms,
       )
