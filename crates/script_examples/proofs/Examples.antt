@@ -1,54 +1,21 @@
 -- The marked examples of document 01 as one table, with what encode answers and what `termscript` writes for each, and one theorem:
 -- the definitions compute the table. Then string literals that read back.
 -- Assumes nothing.
-use Prim.Native.Nat.{ℕ, _/_, _%_}
+use Prim.Native.Nat.{ℕ}
 use Prim.Native.String.{String}
 use mathlib.Core.Path.{_≡_, refl}
 use mathlib.Core.List.{List, [], _∷_, _++_, map}
 use lib.ListN.{length, replicate}
-use Rattle.script_spec.specs.Base.{Bytes, bytes, Answer, accepted, refused, collect}
+use Rattle.script_spec.specs.Base.{Bytes, bytes, Answer, accepted, refused}
 use Rattle.script_spec.specs.Text.{literal}
 use Rattle.script_spec.specs.Walk.{encoded, termscript}
 use Rattle.script_spec.specs.Smtlib.{tokens, string, readBack}
 use Rattle.script_spec.proofs.Computes
+use Rattle.script_examples.proofs.Records
+use Rattle.script_examples.proofs.Records.{u32, utf8, text, refs, rec, file, bool, var, app, input}
 use Rattle.script_examples.proofs.Lines.{lines, afterOption}
 
--- ---- the fields of a file
-
-u32 : ℕ → Bytes
-u32 n = n % 256 ∷ n / 256 % 256 ∷ n / 65536 % 256 ∷ n / 16777216 ∷ []
-
--- a text of these bytes
-utf8 : Bytes → Bytes
-utf8 s = u32 (length s) ++ s
-
-text : String → Bytes
-text s = utf8 (bytes s)
-
--- a list of references
-refs : List ℕ → Bytes
-refs ns = u32 (length ns) ++ collect u32 ns
-
--- a record: its mark, and its body in parts
-rec : String → List Bytes → Bytes
-rec mark parts = let body = collect (λ p. p) parts in bytes mark ++ (u32 (length body) ++ body)
-
-file : List Bytes → Bytes
-file = collect (λ r. r)
-
-bool : Bytes
-bool = rec "TB" []
-
--- a variable of type n
-var : String → ℕ → Bytes
-var id n = rec "XV" (text id ∷ u32 n ∷ [])
-
--- an operator, by its code and operand, with result type n
-app : ℕ → ℕ → Bytes → List ℕ → Bytes
-app n code operand args = rec "XA" (u32 n ∷ (code ∷ []) ∷ operand ∷ refs args ∷ [])
-
-input : ℕ → Bytes
-input n = rec "IN" (u32 n ∷ [])
+-- ---- files
 
 -- records, the second of them Bool and one of them the only term, and an input that compares that term with itself
 selfEqual : List Bytes → Bytes
@@ -78,7 +45,7 @@ pub whole : Bytes
 whole = file (bool ∷ var "a" 0 ∷ app 0 23 [] (0 ∷ []) ∷ input 1 ∷ [])
 
 pub whole-length : length whole ≡ 50
-unfolding u32 utf8 text refs rec file bool var app input whole Computes.base
+unfolding Records.computes whole Computes.base
 whole-length = refl
 
 pub examples : List (Bytes × Outcome)
@@ -126,7 +93,7 @@ examples =
 
 -- encode answers each file as the table says, and termscript writes what it says
 pub examples-hold : map (λ e. (encoded (e .0) 16384 65536, termscript (e .0))) examples ≡ map (λ e. e .1) examples
-unfolding u32 utf8 text refs rec file bool var app input selfEqual get lines afterOption writes refuses whole examples Computes.base Computes.utf8 Computes.tree Computes.fields Computes.file Computes.text Computes.command Computes.spelling Computes.walk
+unfolding Records.computes selfEqual get lines afterOption writes refuses whole examples Computes.base Computes.utf8 Computes.tree Computes.fields Computes.file Computes.text Computes.command Computes.spelling Computes.walk
 examples-hold = refl
 
 -- ---- string literals

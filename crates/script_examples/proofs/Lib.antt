@@ -1,7 +1,9 @@
-pub mod Lines
 pub mod Examples
-pub mod Readings
-pub mod Roles
-pub mod Pigeonhole
 pub mod Inversion
+pub mod Lines
+pub mod Pigeonhole
+pub mod Readings
+pub mod Records
+pub mod Right
+pub mod Roles
 pub mod Wrong

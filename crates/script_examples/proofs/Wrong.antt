@@ -20,44 +20,44 @@ use Rattle.script_examples.proofs.Inversion.{boolean, names-unique, ass
 
 -- ---- terms and files
 
-abbrev bool : Ty
+abbrev pub bool : Ty
 bool = node Bool· nil
 
-abbrev var : String → Tm
+abbrev pub var : String → Tm
 var id = node (Var (bytes id) bool) nil
 
-abbrev apply : PlainOp → List Tm → Tm
+abbrev pub apply : PlainOp → List Tm → Tm
 apply o ts = node (App bool (Plain o)) (forest ts)
 
-abbrev a : Tm
+abbrev pub a : Tm
 a = var "a"
 
-abbrev b : Tm
+abbrev pub b : Tm
 b = var "b"
 
-abbrev not-a : Tm
+abbrev pub not-a : Tm
 not-a = apply Not (a ∷ [])
 
-abbrev a-and-b : Tm
+abbrev pub a-and-b : Tm
 a-and-b = apply And (a ∷ b ∷ [])
 
-abbrev a-equals-b : Tm
+abbrev pub a-equals-b : Tm
 a-equals-b = apply Eq (a ∷ b ∷ [])
 
 -- one input: not a
-abbrev negation : TermFile
+abbrev pub negation : TermFile
 negation = type bool ∷ term a ∷ term not-a ∷ input not-a ∷ []
 
 -- two inputs: a, and not a
-abbrev contradiction : TermFile
+abbrev pub contradiction : TermFile
 contradiction = type bool ∷ term a ∷ term not-a ∷ input a ∷ input not-a ∷ []
 
 -- one input: a and b
-abbrev conjunction : TermFile
+abbrev pub conjunction : TermFile
 conjunction = type bool ∷ term a ∷ term b ∷ term a-and-b ∷ input a-and-b ∷ []
 
 -- one input: a equals b
-abbrev equality : TermFile
+abbrev pub equality : TermFile
 equality = type bool ∷ term a ∷ term b ∷ term a-equals-b ∷ input a-equals-b ∷ []
 
 -- ---- the wrong scripts
