@@ -1,21 +1,24 @@
 -- What the bytes of a faithful script give away, whatever naming and roles it is faithful by: the names of its things, that there
 -- are enough of them, and the bodies of its assertions; and where all terms are Bool also its definitions and the order of uses.
 -- Assumes nothing.
-use Prim.Native.Nat.{_≤_}
+use Prim.Native.Nat.{ℕ, zero, suc, _≤_}
 use mathlib.Core.Path.{_≡_, refl, sym, ap, _∙_, subst}
 use mathlib.Core.Logic.{_⊎_, inl, inr}
 use mathlib.Core.Bool.{Bool, true, not, _&&_}
 use mathlib.Core.List.{List, [], _∷_, map, tail, append-nil, List·Memᴰ, List·Memᴰ·not-nil, List·Memᴰ·cases-cons}
+use mathlib.Core.Option.{some, Option·map}
 use lib.Dec.{T, T-not}
-use lib.ListN.{length, length-map}
+use lib.ListN.{length, length-map, getElem?}
 use Rattle.script_spec.specs.Base.{Bytes, bytes, all, any, collect}
 use Rattle.script_spec.specs.Tree.{Tm, Mark, Forest, node, nil, cons, trees, children, typeOf, eqTy, eqTm, Bool·, Enums}
 use Rattle.script_spec.specs.File.{distinct}
 use Rattle.script_spec.specs.Spelling.{Names, sort}
-use Rattle.script_spec.specs.Smtlib.{Token, flat}
-use Rattle.script_spec.specs.Faithful.{Thing, term, func, type, Needed, NeededTerm, isInput, isChild, nameOf, wellNamed, full, Role, declares, defines, asserts, command, named, asserted, Definition, definitions, unfolded, Right, uses, inOrder, unique, Every, every, also, things, Says}
+use Rattle.script_spec.specs.Smtlib.{Token, flat, wordEnd}
+use Rattle.script_spec.specs.Faithful.{Thing, term, func, type, Needed, NeededTerm, isInput, isChild, nameOf, wellNamed, lettered, full, Role, declares, defines, asserts, command, named, asserted, Definition, definitions, unfolded, Right, uses, inOrder, unique, Every, every, also, things, Says}
 use Rattle.script_spec.proofs.Computes
 use Rattle.script_spec.proofs.Laws.{and-parts, or-left, or-right, eqTy-eq, eqTm-refl}
+use Rattle.script_spec.proofs.Unfolding.{flat-wordEnd}
+use Rattle.script_spec.proofs.OneResult.{says-named}
 use Rattle.script_spec.proofs.Lists.{all-mem, all-members}
 use Rattle.script_examples.proofs.Pigeonhole.{Apart, apart, new, length-apart}
 use Rattle.script_examples.proofs.Readings.{nameRead, assertionRead, definitionsRead, orderRead}
@@ -133,6 +136,11 @@ every-term P (t ∷ ts) (also p ps) th m = go (List·Memᴰ·cases-cons m) (λ n
 
 -- ---- faithful scripts
 
+getElem?-map : {A B : Type 0} (f : A → B) (xs : List A) (k : ℕ) → getElem? (map f xs) k ≡ Option·map f (getElem? xs k)
+getElem?-map f [] k = refl
+getElem?-map f (x ∷ xs) zero = refl
+getElem?-map f (x ∷ xs) (suc k) = getElem?-map f xs k
+
 module _ {e : Enums} {ins : List Tm} {cs : List (List Token)} (h : Says e ins cs) where
   commands-read : tail cs ≡ map (command e (h .names)) (h .roles)
   commands-read = ap tail (h .commands)
@@ -154,6 +162,13 @@ module _ {e : Enums} {ins : List Tm} {cs : List (List Token)} (h : Says e ins cs
   assertions-count =
       sym (length-map (collect assertionRead (tail cs)) (λ b. flat (unfolded (definitions (h .names) (h .roles)) b)))
       ∙ ap length assertions-of ∙ length-map ins (full e (h .names))
+
+  -- a bare symbol, such as `true`, is asserted only of an input that is spelled so
+  pub bare-of : (w : Bytes) → T (not (lettered 116 w)) → (k : ℕ) → getElem? (collect assertionRead (tail cs)) k ≡ some (wordEnd w) → Option·map (full e (h .names)) (getElem? ins k) ≡ some w
+  bare-of w u k p =
+      sym (getElem?-map (full e (h .names)) ins k) ∙ ap (λ (l : List Bytes). getElem? l k) (sym assertions-of)
+      ∙ getElem?-map (λ b. flat (unfolded (definitions (h .names) (h .roles)) b)) (collect assertionRead (tail cs)) k
+      ∙ rw p (ap some (flat-wordEnd (definitions (h .names) (h .roles)) w (says-named h) u))
 
   module _ (bool : T (all boolean ins)) where
     things-boolean : T (all booleanThing (things (h .roles)))

@@ -5,18 +5,21 @@ use Prim.Native.Nat.{ℕ, _≤_}
 use Prim.Native.String.{String}
 use native.Mathlib.Omega.{arith}
 use mathlib.Core.Path.{_≡_, refl, sym, ap, subst}
-use mathlib.Core.List.{List, [], _∷_, _++_, nil≢cons, List·Memᴰ·head, List·Memᴰ·tail}
+use mathlib.Core.List.{List, [], _∷_, _++_, tail, nil≢cons, List·Memᴰ·head, List·Memᴰ·tail}
+use mathlib.Core.Option.{some, Option·map}
 use lib.Dec.{T, eqb}
-use lib.ListN.{length, getD, drop}
-use Rattle.script_spec.specs.Base.{Bytes, bytes, any}
+use lib.ListN.{length, getD, getElem?, drop}
+use Rattle.script_spec.specs.Base.{Bytes, bytes, any, collect}
 use Rattle.script_spec.specs.Tree.{Ty, Tm, node, nil, forest, Bool·, Var, App, Plain, PlainOp, And, Eq, Not}
-use Rattle.script_spec.specs.File.{TermFile, type, term, input, inputs}
-use Rattle.script_spec.specs.Faithful.{Faithful, isInput, isChild, also, every}
+use Rattle.script_spec.specs.File.{TermFile, type, term, input, members, inputs}
+use Rattle.script_spec.specs.Smtlib.{word, commandsOf}
+use Rattle.script_spec.specs.Faithful.{Faithful, Says, full, isInput, isChild, also, every}
 use Rattle.script_spec.proofs.Computes
 use Rattle.script_spec.proofs.Laws.{any-left, any-right}
 use Rattle.script_examples.proofs.Lines.{lines, afterOption}
 use Rattle.script_examples.proofs.Readings
-use Rattle.script_examples.proofs.Inversion.{boolean, names-unique, assertions-count, unfolded-of, order-of, terms-fit}
+use Rattle.script_examples.proofs.Readings.{assertionRead}
+use Rattle.script_examples.proofs.Inversion.{boolean, names-unique, assertions-count, bare-of, unfolded-of, order-of, terms-fit}
 
 -- ---- terms and files
 
@@ -71,6 +74,16 @@ nothing-written f h = nil≢cons (h .commands)
 pub option-alone : (f : TermFile) (t : Tm) (ts : List Tm) → inputs f ≡ t ∷ ts → Faithful f (afterOption []) → ⊥
 unfolding lines afterOption Readings.computes Computes.base Computes.smtlib Computes.faithful
 option-alone f t ts i h = let k : 0 ≡ length (inputs f) = assertions-count h in let l = ap length i in omega arith
+
+pub option-alone-negation : Faithful negation (afterOption []) → ⊥
+unfolding Computes.base Computes.file
+option-alone-negation = option-alone negation not-a [] refl
+
+-- a bare `true`, for any file: the input in its place is spelled `true`
+pub bare-true : (f : TermFile) (s : Bytes) (h : Says (members f) (inputs f) (commandsOf s)) (k : ℕ) → getElem? (collect assertionRead (tail (commandsOf s))) k ≡ some (word (bytes "true") ∷ [])
+    → Option·map (full (members f) (h .names)) (getElem? (inputs f) k) ≡ some (bytes "true")
+unfolding Computes.base Computes.smtlib Computes.faithful
+bare-true f s h k p = bare-of h (bytes "true") tt k p
 
 -- opens what the proofs below compute with
 computes : Unit {0}

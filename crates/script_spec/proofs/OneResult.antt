@@ -14,6 +14,7 @@ use Rattle.script_spec.specs.Faithful.{term, nameOf, wellNamed, unique, 
 use Rattle.script_spec.proofs.Computes
 use Rattle.script_spec.proofs.Laws.{and-parts, and-both, or-cases, or-left, or-right, any-left, any-right, all-append, all-map, same-eq, same-refl}
 use Rattle.script_spec.proofs.Symbols.{used-lettered}
+use Rattle.script_spec.proofs.Unfolding.{Named}
 use Rattle.script_spec.proofs.Replacing.{Steps, mentions, isSymbol, finished, follows, layered, foreign, steps-unfolded, unfolded-reached, unfolded-is-finished}
 
 -- ---- what mentions a name uses it
@@ -150,6 +151,13 @@ module _ (e : Enums) (ν : Names) where
       (all-map (termAmong (namesOf rs)) (λ c. follows c (ν .term t, b)) (follows-definition t b seen (namesOf rs) (v .0) dis (p .0)) (definitions ν rs) (definitions-among rs x))
       (definitions-layered (ν .term t ∷ seen) rs x (v .1) dis (p .1))
   definitions-layered seen (asserts t b ∷ rs) w u d o = definitions-layered seen rs w u d (inOrder-parts seen (asserts t b) rs o .1)
+
+-- the defined names of a faithful script are those of terms
+pub says-named : {e : Enums} {ins : List Tm} {cs : List (List Token)} (h : Says e ins cs) → Named (definitions (h .names) (h .roles))
+unfolding termAmong
+says-named {e} h =
+    all-map (termAmong (namesOf e (h .names) (h .roles))) (λ d. lettered 116 (d .0))
+    (λ d k. and-parts (any (same (d .0)) (namesOf e (h .names) (h .roles))) (lettered 116 (d .0)) k .1) (definitions (h .names) (h .roles)) (definitions-among e (h .names) (h .roles) (h .lettering))
 
 module _ {e : Enums} {ins : List Tm} {cs : List (List Token)} (h : Says e ins cs) (ts : List Token) where
   abbrev ds : List Definition
