@@ -1,13 +1,11 @@
 -- Trees in which extension types have no parts: if the inputs are such, so are the types that they need. By recursion on trees.
 -- Assumes nothing.
-use Prim.Native.Nat.{ℕ}
-use mathlib.Core.Path.{_≡_, sym, subst}
+use mathlib.Core.Path.{refl, sym, subst}
 use mathlib.Core.List.{List}
-use native.Mathlib.Omega.{arith}
-use Rattle.script_spec.specs.Tree.{Ty, Fun, Tm, TypeMark, Mark, Forest, node, nil, cons, children, typeOf, typesOf, typeFrom, uuf, ExtType, extension, Declared}
+use Rattle.script_spec.specs.Tree.{Ty, Fun, Tm, TypeMark, Mark, Forest, node, nil, cons, children, typeOf, typesOf, typeFrom, uuf}
 use Rattle.script_spec.specs.Tree.{Var, BoolLit, BitVecLit, StringLit, Entity, ExtLit, None, Some, Set, Record, App, Op, Plain, Ext, RecordGet, StringLike, Uuf, ZeroExtend}
 use Rattle.script_spec.specs.Faithful.{type, NeededTerm, isInput, isChild, NeededFun, isApplied, NeededType, ofTerm, ofArgument, ofResult, isPart, Every}
-use Rattle.script_spec.proofs.Names.{Bare}
+use Rattle.script_spec.proofs.Names.{isExtension, Bare}
 use Rattle.script_spec.proofs.Logs.{BareTypes, forest-mem}
 use Rattle.script_spec.proofs.Lists.{every-mem}
 
@@ -20,6 +18,7 @@ unfoldable mutual
   BareParts nil = Unit {0}
   BareParts (cons t ts) = BareType t × BareParts ts
 
+-- each type in a function, an operator and a mark is bare
 unfoldable pub BareFun : Fun → Type 0
 BareFun (uuf id arg out) = BareType arg × BareType out
 
@@ -55,30 +54,18 @@ unfoldable mutual
 
 -- ---- types
 
--- a mark that is no extension type
-unfoldable NoExtension : TypeMark → Type 0
-NoExtension m = (x : ExtType) → m ≡ Declared (extension x) → ⊥
-
-bare-mark : (m : TypeMark) (ts : Forest TypeMark) → NoExtension m → BareParts ts → BareType (node m ts)
-unfolding BareType Bare NoExtension
-bare-mark m ts n b = (λ x us p. absurd (n x (let q : m ≡ Declared (extension x) = cc in q)), b)
-
-pub bare-leaf : (m : TypeMark) → BareType (node m nil)
-unfolding BareType Bare
-bare-leaf m = (λ x us p. let q : us ≡ nil = cc in q, tt)
-
 typeFrom-bare : (m : Mark) (tys : Forest TypeMark) → BareMark m → BareParts tys → BareType (typeFrom m tys)
-unfolding typeFrom BareMark BareType NoExtension
+unfolding typeFrom BareMark BareType Bare isExtension
 typeFrom-bare (Var id ty) tys b bs = b
-typeFrom-bare (BoolLit v) tys b bs = bare-leaf _
-typeFrom-bare (BitVecLit n v) tys b bs = bare-leaf _
-typeFrom-bare (StringLit s) tys b bs = bare-leaf _
+typeFrom-bare (BoolLit v) tys b bs = (λ x. refl, tt)
+typeFrom-bare (BitVecLit n v) tys b bs = (λ x. refl, tt)
+typeFrom-bare (StringLit s) tys b bs = (λ x. refl, tt)
 typeFrom-bare (Entity ty id) tys b bs = b
-typeFrom-bare (ExtLit v) tys b bs = bare-leaf _
-typeFrom-bare (None ty) tys b bs = bare-mark _ (cons ty nil) (λ x p. let z : _≡_ {A = ℕ} 0 1 = cc in omega arith) (b, tt)
-typeFrom-bare Some tys b bs = bare-mark _ tys (λ x p. let z : _≡_ {A = ℕ} 0 1 = cc in omega arith) bs
-typeFrom-bare (Set ty) tys b bs = bare-mark _ (cons ty nil) (λ x p. let z : _≡_ {A = ℕ} 0 1 = cc in omega arith) (b, tt)
-typeFrom-bare (Record names) tys b bs = bare-mark _ tys (λ x p. let z : _≡_ {A = ℕ} 0 1 = cc in omega arith) bs
+typeFrom-bare (ExtLit v) tys b bs = (λ x. refl, tt)
+typeFrom-bare (None ty) tys b bs = (λ x. absurd x, (b, tt))
+typeFrom-bare Some tys b bs = (λ x. absurd x, bs)
+typeFrom-bare (Set ty) tys b bs = (λ x. absurd x, (b, tt))
+typeFrom-bare (Record names) tys b bs = (λ x. absurd x, bs)
 typeFrom-bare (App ty op) tys b bs = b .0
 
 mutual

@@ -2,7 +2,7 @@
 -- over the records.
 -- Assumes nothing.
 use Prim.Native.Nat.{ℕ, zero, suc, _*_}
-use mathlib.Core.Path.{_≡_, ap, _∙_, subst}
+use mathlib.Core.Path.{_≡_, refl, ap, subst}
 use mathlib.Core.Bool.{Bool, true, false}
 use mathlib.Core.List.{List, [], _∷_, _++_, map}
 use mathlib.Core.Option.{Option, none, some}
@@ -10,20 +10,20 @@ use native.Mathlib.Omega.{arith}
 use lib.Dec.{leb}
 use lib.ListN.{length, take, drop, getD}
 use Rattle.script_spec.specs.Base.{Bytes, Answer, accepted, refused, collect, lookup, same}
-use Rattle.script_spec.specs.Tree.{TypeMark, node, nil, forest, uuf, Bool·, Declared, extension}
+use Rattle.script_spec.specs.Tree.{node, nil, forest, uuf, Bool·}
 use Rattle.script_spec.specs.Tree.{TermMark, Var, BoolLit, BitVecLit, StringLit, Entity, ExtLit, None, Some, Set, Record, App, Op, Plain, Ext, RecordGet, StringLike, Uuf, ZeroExtend}
 use Rattle.script_spec.specs.Fields.{Entry, Read, got, bad, Reader, marks, whole, low}
 use Rattle.script_spec.specs.Fields as fields
 use Rattle.script_spec.specs.File.{Named, type, enum, func, term, input, TermFile, types, funs, terms, inputs, typeAt, funAt, termAt, namedOp, namedMark, named, earlier, rules, broken, kept, judged, nextRecord, records, checked}
 use Rattle.script_spec.specs.Faithful.{Every, every, also}
-use Rattle.script_spec.specs.Faithful as thing
 use Rattle.script_spec.proofs.Lists.{every-append}
 use Rattle.script_spec.proofs.Names.{Bare}
-use Rattle.script_spec.proofs.Bare.{BareType, BareParts, BareFun, BareOp, BareMark, BareTerm, BareTerms, bare-leaf}
-use Rattle.script_spec.proofs.BareEntry.{Made, made, unmade, Makes, BareEntryType, BareEntry, marks-bare}
+use Rattle.script_spec.proofs.Bare.{BareType, BareParts, BareFun, BareOp, BareMark, BareTerm, BareTerms}
+use Rattle.script_spec.proofs.BareEntry.{Made, made, unmade, Makes, BareEntry, marks-bare}
 
 -- ---- what a record names
 
+-- each type in what a record names is bare
 unfoldable BareNamed : Named → Type 0
 BareNamed (type t) = BareType t
 BareNamed (enum n ms) = Unit {0}
@@ -105,12 +105,12 @@ lookup-found {A} {P} s (p ∷ ps) (also h hs) = go (same s (p .0)) (lookup-found
 
 module _ (f : TermFile) (bare : Every BareNamed f) where
   typeAt-bare : (n : ℕ) → BareType (typeAt f n)
-  unfolding typeAt
-  typeAt-bare n = every-getD (types f) n (node Bool· nil) (bare-leaf Bool·) (types-bare f bare)
+  unfolding typeAt BareType Bare
+  typeAt-bare n = every-getD (types f) n (node Bool· nil) (λ x. refl, tt) (types-bare f bare)
 
   funAt-bare : (n : ℕ) → BareFun (funAt f n)
-  unfolding funAt BareFun
-  funAt-bare n = every-getD (funs f) n (uuf [] (node Bool· nil) (node Bool· nil)) (bare-leaf Bool·, bare-leaf Bool·) (funs-bare f bare)
+  unfolding funAt BareFun BareType Bare
+  funAt-bare n = every-getD (funs f) n (uuf [] (node Bool· nil) (node Bool· nil)) ((λ x. refl, tt), (λ x. refl, tt)) (funs-bare f bare)
 
   termAt-bare : (n : ℕ) → BareTerm (termAt f n)
   unfolding termAt BareTerm BareMark
@@ -149,17 +149,9 @@ module _ (f : TermFile) (bare : Every BareNamed f) where
   namedMark-bare (Record names) = tt
   namedMark-bare (App n op) = (typeAt-bare n, namedOp-bare op)
 
-  entryType-bare : (m : TypeMark) (rs : List ℕ) → BareEntryType m rs → Bare (thing.type (node m (forest (map (typeAt f) rs))))
-  unfolding BareEntryType Bare forest
-  entryType-bare m rs b x us p =
-      let q : m ≡ Declared (extension x) = cc in
-      let r : us ≡ forest (map (typeAt f) rs) = cc in
-      let k : rs ≡ [] = subst (λ (n : TypeMark). BareEntryType n rs) q b in
-      r ∙ ap (λ (l : List ℕ). forest (map (typeAt f) l)) k
-
   named-bare : (e : Entry) → BareEntry e → BareNamed (named f e)
-  unfolding named BareNamed BareEntry BareFun BareTerm BareType
-  named-bare (fields.type m rs) b = (entryType-bare m rs b, typesAt-bare rs)
+  unfolding named BareNamed BareEntry BareFun BareTerm BareType Bare forest
+  named-bare (fields.type m rs) b = (λ x. ap (λ (l : List ℕ). forest (map (typeAt f) l)) (b x), typesAt-bare rs)
   named-bare (fields.enum n ms) b = tt
   named-bare (fields.func id a r) b = (typeAt-bare a, typeAt-bare r)
   named-bare (fields.term m rs) b = (namedMark-bare m, termsAt-bare rs)

@@ -13,14 +13,14 @@ use Rattle.script_spec.specs.Tree.{Ty, Fun, Tm, node, isVariable, Enums,
 use Rattle.script_spec.specs.Spelling.{Names, body, bodyAt}
 use Rattle.script_spec.specs.Smtlib.{Token, word, tokens, flat}
 use Rattle.script_spec.specs.Faithful.{Definition, Thing, term, func, type, nameOf, wellNamed, unique, lettered, Role, declares, defines, asserts, definitions, replaced, replacedWord, unfolded, full}
-use Rattle.script_spec.proofs.Laws.{and-parts, and-both, is-true, is-false, same-refl, same-eq, any-left, any-right, all-append}
+use Rattle.script_spec.proofs.Laws.{and-parts, and-both, is-true, is-false, same-refl, same-eq, any-left, all-append}
 use Rattle.script_spec.proofs.Log.{HasParts, Ordered, start, next, reversed}
 use Rattle.script_spec.proofs.Lists.{any-mem, reversed-mem}
 use Rattle.script_spec.proofs.Unfolding.{Named, unfolded-word}
 use Rattle.script_spec.proofs.Sorts.{Known}
 use Rattle.script_spec.proofs.Terms.{Unfolds, definition-means}
-use Rattle.script_spec.proofs.Bodies.{anyName}
-use Rattle.script_spec.proofs.Roles.{role, definingBody}
+use Rattle.script_spec.proofs.Means.{Context}
+use Rattle.script_spec.proofs.Roles.{roleBy, role, definingBody}
 
 -- ---- names that differ
 
@@ -87,9 +87,8 @@ module _ (e : Enums) (ν : Names) where
     datatype : {ty : Ty} → Defining (type ty) []
     defined : {t : Tm} → T (not (isVariable t)) → Defining (term t) ((ν .term t, tokens (definingBody e ν t)) ∷ [])
 
-  defining-term : (t : Tm) (x : Bool) → isVariable t ≡ x
-      → Defining (term t) (definitions ν (elim x as (λ z. Role) [ false ↦ defines t (tokens (definingBody e ν t)) | true ↦ declares (term t) ] ∷ []))
-  unfolding definitions
+  defining-term : (t : Tm) (x : Bool) → isVariable t ≡ x → Defining (term t) (definitions ν (roleBy e ν t x ∷ []))
+  unfolding roleBy definitions
   defining-term t true v = variable (subst T (sym v) tt)
   defining-term t false v = defined {t = t} (rw v tt)
 
@@ -101,34 +100,30 @@ module _ (e : Enums) (ν : Names) where
 
   -- ---- their names
 
-  defining-named : {th : Thing} {ds : List Definition} → Defining th ds → T (wellNamed ν th) → Named ds
-  unfolding all wellNamed
-  defining-named (variable v) h = tt
-  defining-named function h = tt
-  defining-named datatype h = tt
-  defining-named (defined {t} v) h = and-both (lettered 116 (ν .term t)) true h tt
+  -- a test of the names of logged terms holds of all defined names
+  defining-all : (p : Bytes → Bool) {th : Thing} {ds : List Definition} → Defining th ds → ((t : Tm) → term t ≡ th → T (p (ν .term t))) → T (all (λ d. p (d .0)) ds)
+  unfolding all
+  defining-all p (variable v) h = tt
+  defining-all p function h = tt
+  defining-all p datatype h = tt
+  defining-all p (defined {t} v) h = and-both (p (ν .term t)) true (h t refl) tt
+
+  defs-all : (p : Bytes → Bool) (log : List Thing) → ((t : Tm) → List·Memᴰ (term t) log → T (p (ν .term t))) → T (all (λ d. p (d .0)) (defs log))
+  unfolding defs all
+  defs-all p [] h = tt
+  defs-all p (th ∷ log) h =
+      all-append (λ d. p (d .0)) (definitions ν (role e ν th ∷ [])) (defs log) (defining-all p (defining th) (λ t q. h t (List·Memᴰ·head q))) (defs-all p log (λ t m. h t (List·Memᴰ·tail m)))
 
   pub defs-named : (log : List Thing) → Well ν log → Named (defs log)
-  unfolding defs all
-  defs-named [] h = tt
-  defs-named (th ∷ log) h =
-      all-append (λ d. lettered 116 (d .0)) (definitions ν (role e ν th ∷ [])) (defs log) (defining-named (defining th) (h th (List·Memᴰ·head refl))) (defs-named log (λ u m. h u (List·Memᴰ·tail m)))
+  unfolding wellNamed
+  defs-named log w = defs-all (lettered 116) log (λ t m. w (term t) m)
 
   differs : (w n : Bytes) → (n ≡ w → ⊥) → T (not (same w n))
   differs w n h = not-T (same w n) (λ k. h (sym (same-eq w n k)))
 
-  defining-differs : {th : Thing} {ds : List Definition} (w : Bytes) → Defining th ds → (nameOf ν th ≡ w → ⊥) → T (all (λ d. not (same w (d .0))) ds)
-  unfolding all nameOf
-  defining-differs w (variable v) h = tt
-  defining-differs w function h = tt
-  defining-differs w datatype h = tt
-  defining-differs w (defined {t} v) h = and-both (not (same w (ν .term t))) true (differs w (ν .term t) h) tt
-
   defs-differ : (w : Bytes) (log : List Thing) → Fresh ν w log → T (all (λ d. not (same w (d .0))) (defs log))
-  unfolding defs all
-  defs-differ w [] h = tt
-  defs-differ w (th ∷ log) h =
-      all-append (λ d. not (same w (d .0))) (definitions ν (role e ν th ∷ [])) (defs log) (defining-differs w (defining th) (h th (List·Memᴰ·head refl))) (defs-differ w log (λ u m. h u (List·Memᴰ·tail m)))
+  unfolding nameOf
+  defs-differ w log f = defs-all (λ n. not (same w n)) log (λ t m. differs w (ν .term t) (f (term t) m))
 
   -- ---- unfolding
 
@@ -159,6 +154,13 @@ module _ (e : Enums) (ν : Names) where
   unfolding unfolded replaced replacedWord
   other-unfolds n w b ds h = rw (is-false (same w n) (differs w n (λ k. h (sym k))))
 
+  -- the definitions of a well named log, with the names that are allowed
+  abbrev pub logContext : (log : List Thing) → Well ν log → (Bytes → Bool) → Context
+  logContext log w ok = record { defined = defs log; named = defs-named log w; allowed = ok }
+
+  known-any : (log : List Thing) (w : Well ν log) → Known (logContext log w (λ n. true)) ν log
+  known-any log w = record { well = w; usable = λ x m. tt }
+
   -- the latest thing's name
   latest-unfolds : {th : Thing} {ds : List Definition} (log : List Thing) → Defining th ds → Well ν log → Fresh ν (nameOf ν th) log → HasParts e log th → Unfolds e ν log (defs log)
       → (t : Tm) → term t ≡ th → flat (unfolded (ds ++ defs log) (word (ν .term t) ∷ [])) ≡ full e ν t
@@ -172,7 +174,7 @@ module _ (e : Enums) (ν : Names) where
       let q : u ≡ t = cc in
       subst (λ (x : Tm). flat (unfolded ((ν .term u, tokens (definingBody e ν u)) ∷ defs log) (word (ν .term x) ∷ [])) ≡ full e ν x) q
       (ap flat (defined-unfolds (ν .term u) (tokens (definingBody e ν u)) (defs log))
-      ∙ definition-means e ν log (defs log) anyName (defs-named log w) (record { well = w; usable = λ x m. tt }) un u v h .unfolds)
+      ∙ definition-means e (known-any log w) un u v h .unfolds)
 
   -- an earlier thing's name
   earlier-unfolds : {th : Thing} {ds : List Definition} (log : List Thing) → Defining th ds → Fresh ν (nameOf ν th) log → Unfolds e ν log (defs log)
@@ -189,4 +191,7 @@ module _ (e : Enums) (ν : Names) where
   log-unfolds (next {th} {log} o h n) w u = λ t m.
       let w′ : Well ν log = λ x k. w x (List·Memᴰ·tail k) in
       let un = log-unfolds o w′ (u .1) in
-      ⊎-elim (λ (p : term t ≡ th). latest-unfolds log (defining th) w′ (u .0) h un t p) (λ (k : List·Memᴰ (term t) log). earlier-unfolds log (defining th) (u .0) un t k) (List·Memᴰ·cases-cons m)
+      ⊎-elim
+      (λ (p : term t ≡ th). latest-unfolds log (defining th) w′ (u .0) h un t p)
+      (λ (k : List·Memᴰ (term t) log). earlier-unfolds log (defining th) (u .0) un t k)
+      (List·Memᴰ·cases-cons m)

@@ -38,12 +38,24 @@ module _ {A : Type 0} (eq : A → A → Bool) (eq-eq : (x y : A) → T (eq x y) 
 
 -- ---- things back from names
 
+-- an extension type's mark
+unfoldable pub isExtension : TypeMark → Bool
+isExtension Bool· = false
+isExtension String· = false
+isExtension Option· = false
+isExtension Set· = false
+isExtension (BitVec· n) = false
+isExtension (Declared (entity name)) = false
+isExtension (Declared (extension x)) = true
+isExtension (Declared (recordOf names)) = false
+
 -- an extension type has no parts
 unfoldable pub Bare : Thing → Type 0
 Bare (term t) = Unit {0}
 Bare (func f) = Unit {0}
-Bare (type ty) = (x : ExtType) (ts : Forest TypeMark) → ty ≡ node (Declared (extension x)) ts → ts ≡ nil
+Bare (type (node m ts)) = T (isExtension m) → ts ≡ nil
 
+-- the extension types by their names
 extensions : List (Bytes × Thing)
 extensions = map (λ x. (extName x, type (node (Declared (extension x)) nil))) (IPAddr ∷ Decimal ∷ Datetime ∷ Duration ∷ [])
 
@@ -82,7 +94,7 @@ extension-back s Datetime = refl
 extension-back s Duration = refl
 
 thingOf-name : (e : Enums) (s : State) (th : Thing) → Tabled s th → T (nameable e th) → Bare th → thingOf s (nameOf (names s) th) ≡ some th
-unfolding thingOf nameOf names typeName letter bytes Tabled nameable Bare sort sortFrom datatypeSort datatype datatypeMark isSome
+unfolding thingOf nameOf names typeName letter bytes Tabled nameable Bare isExtension sort sortFrom datatypeSort datatype datatypeMark isSome
 thingOf-name e s (term t) h n b = numbered-back eqTm eqTm-eq s (bytes "t") term (s .terms) (λ r. refl) t h
 thingOf-name e s (func f) h n b = numbered-back eqFun eqFun-eq s (bytes "f") func (s .funs) (λ r. refl) f h
 thingOf-name e s (type (node Bool· ts)) h n b = absurd n
@@ -91,7 +103,7 @@ thingOf-name e s (type (node Option· ts)) h n b = absurd n
 thingOf-name e s (type (node Set· ts)) h n b = absurd n
 thingOf-name e s (type (node (BitVec· k) ts)) h n b = absurd n
 thingOf-name e s (type (node (Declared (entity name)) ts)) h n b = numbered-back eqTy eqTy-eq s (bytes "E") type (s .types) (λ r. refl) (node (Declared (entity name)) ts) h
-thingOf-name e s (type (node (Declared (extension x)) ts)) h n b = extension-back s x ∙ ap (λ (us : Forest TypeMark). some (type (node (Declared (extension x)) us))) (sym (b x ts refl))
+thingOf-name e s (type (node (Declared (extension x)) ts)) h n b = extension-back s x ∙ ap (λ (us : Forest TypeMark). some (type (node (Declared (extension x)) us))) (sym (b tt))
 thingOf-name e s (type (node (Declared (recordOf names)) ts)) h n b = numbered-back eqTy eqTy-eq s (bytes "R") type (s .types) (λ r. refl) (node (Declared (recordOf names)) ts) h
 
 -- different things have different names

@@ -30,7 +30,7 @@ pub record Refusal (ins : List Tm) (n : ℕ) (t : Tm) : Type 0 where
   pub most : n ≤ 19
   pub needed : NeededTerm ins t
 
--- the function of an applied operator is logged
+-- the function of an operator, and that of a mark, is logged
 unfoldable AppliedOp : List Thing → Op Fun → Type 0
 AppliedOp log (Plain o) = Unit {0}
 AppliedOp log (Ext o) = Unit {0}

@@ -1,21 +1,20 @@
 -- The commands of a log are in order: each uses only its own name and names before it. By recursion on the log, the names seen being
 -- those of the log; then the assertions, which use logged names.
 -- Assumes nothing.
-use mathlib.Core.Path.{_≡_, refl, sym, ap, _∙_, subst}
-use mathlib.Core.Bool.{Bool, true, false, not, _&&_}
+use mathlib.Core.Path.{_≡_, refl, ap, _∙_}
+use mathlib.Core.Bool.{Bool, true, false}
 use mathlib.Core.List.{List, [], _∷_, _++_, map, map-append, List·Memᴰ, List·Memᴰ·head, List·Memᴰ·tail, Memᴰ·map}
 use lib.Dec.{T}
 use Rattle.script_spec.specs.Base.{Bytes, same, any, all}
 use Rattle.script_spec.specs.Tree.{Tm, Enums, isVariable}
 use Rattle.script_spec.specs.Spelling.{Names}
-use Rattle.script_spec.specs.Smtlib.{tokens}
-use Rattle.script_spec.specs.Faithful.{Thing, term, func, type, nameOf, Role, declares, defines, asserts, named, uses, inOrder, Every, every, also}
+use Rattle.script_spec.specs.Faithful.{Thing, term, func, type, nameOf, Role, named, uses, inOrder, Every, every, also}
 use Rattle.script_spec.proofs.Laws.{and-parts, and-both, same-refl}
 use Rattle.script_spec.proofs.Log.{HasTerm, Ordered, start, next, reversed}
 use Rattle.script_spec.proofs.Lists.{any-mem}
 use Rattle.script_spec.proofs.Sorts.{Known}
-use Rattle.script_spec.proofs.Roles.{role, definingBody, assertion, thing-fulfils, assertion-fulfils}
-use Rattle.script_spec.proofs.Defined.{Well, Unlike, defs, defs-named, log-unfolds}
+use Rattle.script_spec.proofs.Roles.{roleBy, role, assertion, thing-fulfils, assertion-fulfils}
+use Rattle.script_spec.proofs.Defined.{Well, Unlike, logContext, log-unfolds}
 
 -- ---- names seen
 
@@ -50,10 +49,10 @@ inOrder-append e ν seen (r ∷ rs) qs h k =
 module _ (e : Enums) (ν : Names) where
   -- a thing's command names the thing
   pub named-role : (th : Thing) → named (role e ν th) ≡ th ∷ []
-  unfolding role named
+  unfolding roleBy role named
   named-role (term t) = go (isVariable t)
     where
-      go : (x : Bool) → named (elim x as (λ z. Role) [ false ↦ defines t (tokens (definingBody e ν t)) | true ↦ declares (term t) ]) ≡ term t ∷ []
+      go : (x : Bool) → named (roleBy e ν t x) ≡ term t ∷ []
       go true = refl
       go false = refl
   named-role (func f) = refl
@@ -74,7 +73,7 @@ module _ (e : Enums) (ν : Names) where
       ap (seenAfter ν []) (logRoles-next th log) ∙ seenAfter-append ν [] (logRoles log) (role e ν th ∷ [])
       ∙ rw (named-role th, seenAfter-log log) refl
 
-  pub known-in : {log : List Thing} (log′ : List Thing) → Well ν log → ((th : Thing) → List·Memᴰ th log → List·Memᴰ th log′) → Known ν log (nameIn ν log′)
+  pub known-in : {log : List Thing} (log′ : List Thing) (w : Well ν log) → ((th : Thing) → List·Memᴰ th log → List·Memᴰ th log′) → Known (logContext e ν log w (nameIn ν log′)) ν log
   known-in log′ w g = record { well = w; usable = λ th m. nameIn-mem ν log′ (g th m) }
 
   -- what a command uses once its own name is seen
@@ -87,7 +86,7 @@ module _ (e : Enums) (ν : Names) where
   inOrder-log start w u = tt
   inOrder-log (next {th} {log} o h n) w u =
       let w′ : Well ν log = λ x k. w x (List·Memᴰ·tail k) in
-      let f = thing-fulfils e ν log (defs e ν log) (nameIn ν (th ∷ log)) (defs-named e ν log w′) (known-in (th ∷ log) w′ (λ x k. List·Memᴰ·tail k)) (log-unfolds e ν o w′ (u .1)) th
+      let f = thing-fulfils e (known-in (th ∷ log) w′ (λ x k. List·Memᴰ·tail k)) (log-unfolds e ν o w′ (u .1)) th
       (w th (List·Memᴰ·head refl)) (nameIn-mem ν (th ∷ log) (List·Memᴰ·head refl)) n h in
       rw (logRoles-next th log)
       (inOrder-append e ν [] (logRoles log) (role e ν th ∷ []) (inOrder-log o w′ (u .1)) (rw (seenAfter-log log) (inOrder-one th (map (nameOf ν) log) (f .inOrder))))
@@ -101,8 +100,9 @@ module _ (e : Enums) (ν : Names) where
   assertions-inOrder log (t ∷ ins) f (also h hs) =
       and-both (all (nameIn ν log) (uses e ν (assertion e ν t))) (inOrder e ν (map (nameOf ν) log) (map (assertion e ν) ins)) (f t h) (assertions-inOrder log ins f hs)
 
-  pub roles-inOrder : {log : List Thing} (ins : List Tm) → Ordered e log → Well ν log → Unlike ν log → Every (HasTerm e log) ins → T (inOrder e ν [] (logRoles log ++ map (assertion e ν) ins))
+  pub roles-inOrder : {log : List Thing} (ins : List Tm) → Ordered e log → Well ν log → Unlike ν log → Every (HasTerm e log) ins
+      → T (inOrder e ν [] (logRoles log ++ map (assertion e ν) ins))
   roles-inOrder {log} ins o w u h =
       inOrder-append e ν [] (logRoles log) (map (assertion e ν) ins) (inOrder-log o w u)
       (rw (seenAfter-log log)
-      (assertions-inOrder log ins (λ t k. assertion-fulfils e ν log (defs e ν log) (nameIn ν log) (defs-named e ν log w) (known-in log w (λ x m. m)) (log-unfolds e ν o w u) t k .inOrder) h))
+      (assertions-inOrder log ins (λ t k. assertion-fulfils e (known-in log w (λ x m. m)) (log-unfolds e ν o w u) t k .inOrder) h))

@@ -2,28 +2,26 @@
 -- logs, roles and commands.
 -- Assumes nothing.
 use mathlib.Core.Path.{_≡_, refl, sym, ap, _∙_, subst}
-use mathlib.Core.Logic.{_↔_}
 use mathlib.Core.Bool.{Bool, true, false, not}
 use mathlib.Core.List.{List, [], _∷_, _++_, map, map-append, append-nil, List·Memᴰ, List·Memᴰ·head, List·Memᴰ·tail}
 use lib.Dec.{T}
-use Rattle.script_spec.specs.Base.{collect, all}
+use Rattle.script_spec.specs.Base.{collect}
 use Rattle.script_spec.specs.Tree.{Tm, Enums, isVariable}
 use Rattle.script_spec.specs.Command.{Command, assertThat, script, spelled}
 use Rattle.script_spec.specs.Spelling.{Names, atom, optionDeclaration}
 use Rattle.script_spec.specs.Walk.{assertions}
 use Rattle.script_spec.specs.Smtlib.{Token, tokens, commandsOf}
-use Rattle.script_spec.specs.Faithful.{Definition, Thing, term, func, type, Needed, nameOf, wellNamed, unique, Role, declares, defines, asserts, command, named, asserted, definitions, Right, things, Every, every, also, Says}
+use Rattle.script_spec.specs.Faithful.{Definition, Thing, term, func, type, wellNamed, Role, command, named, asserted, definitions, Right, things, Every, also, Says}
 use Rattle.script_spec.proofs.Laws.{collect-append}
-use Rattle.script_spec.proofs.Log.{commandOf, silent, HasTerm, HasParts, nameable, Ordered, start, next, reversed, Logged}
+use Rattle.script_spec.proofs.Log.{commandOf, HasTerm, nameable, Ordered, next, reversed, Logged}
 use Rattle.script_spec.proofs.Grow.{ordered-parts}
 use Rattle.script_spec.proofs.Lists.{mem-reversed, reversed-mem, all-mem, every-map, every-mem, every-append, map-map, collect-map-none, collect-map-each}
 use Rattle.script_spec.proofs.Reading.{Good, AllGood, commandTokens, commandsOf-script}
-use Rattle.script_spec.proofs.Unfolding.{Named}
 use Rattle.script_spec.proofs.Sorts.{Known}
 use Rattle.script_spec.proofs.Terms.{Unfolds, atom-means, definition-means}
 use Rattle.script_spec.proofs.Declarations.{option-good}
-use Rattle.script_spec.proofs.Roles.{role, definingBody, assertion, Fulfils, thing-fulfils, assertion-fulfils}
-use Rattle.script_spec.proofs.Defined.{Well, Unlike, unlike, definitions-append, defs, definitions-log, defs-named, log-unfolds}
+use Rattle.script_spec.proofs.Roles.{roleBy, role, definingBody, assertion, Fulfils, thing-fulfils, assertion-fulfils}
+use Rattle.script_spec.proofs.Defined.{Well, Unlike, unlike, definitions-append, defs, definitions-log, logContext, log-unfolds}
 use Rattle.script_spec.proofs.Order.{nameIn, nameIn-mem, named-role, logRoles, known-in, roles-inOrder}
 
 ordered-nameable : {e : Enums} {log : List Thing} → Ordered e log → (th : Thing) → List·Memᴰ th log → T (nameable e th)
@@ -44,10 +42,10 @@ module _ (e : Enums) (ν : Names) (log : List Thing) (ins : List Tm) where
       ∙ rw (collect-map-each named (role e ν) (named-role e ν) (reversed log), collect-map-none named (assertion e ν) (λ t. refl) ins) (append-nil (reversed log))
 
   asserted-role : (th : Thing) → asserted (role e ν th) ≡ []
-  unfolding role asserted
+  unfolding roleBy role asserted
   asserted-role (term t) = go (isVariable t)
     where
-      go : (x : Bool) → asserted (elim x as (λ z. Role) [ false ↦ defines t (tokens (definingBody e ν t)) | true ↦ declares (term t) ]) ≡ []
+      go : (x : Bool) → asserted (roleBy e ν t x) ≡ []
       go true = refl
       go false = refl
   asserted-role (func f) = refl
@@ -70,21 +68,19 @@ module _ (e : Enums) (ν : Names) (log : List Thing) (ins : List Tm) where
   module _ (o : Ordered e log) (w : Well ν log) (u : Unlike ν log) (h : Every (HasTerm e log) ins) where
     -- ---- commands
 
-    nd : Named (defs e ν log)
-    nd = defs-named e ν log w
-
-    kn : Known ν log (nameIn ν log)
+    kn : Known (logContext e ν log w (nameIn ν log)) ν log
     kn = known-in e ν log w (λ x m. m)
 
     un : Unfolds e ν log (defs e ν log)
     un = log-unfolds e ν o w u
 
     thing-made : (th : Thing) → List·Memᴰ th log → Fulfils e ν (nameIn ν log) (commandOf e ν th) (role e ν th)
-    thing-made th m = thing-fulfils e ν log (defs e ν log) (nameIn ν log) nd kn un th (w th m) (nameIn-mem ν log m) (ordered-nameable o th m) (ordered-parts o th m)
+    thing-made th m = thing-fulfils e kn un th (w th m) (nameIn-mem ν log m) (ordered-nameable o th m) (ordered-parts o th m)
 
     assertion-made : (t : Tm) → List·Memᴰ t ins → Fulfils e ν (nameIn ν log) (assertThat (atom e ν t)) (assertion e ν t)
-    assertion-made t m = assertion-fulfils e ν log (defs e ν log) (nameIn ν log) nd kn un t (every-mem h m)
+    assertion-made t m = assertion-fulfils e kn un t (every-mem h m)
 
+    -- the commands of the log and of the inputs
     abbrev madeCommands : List Command
     madeCommands = optionDeclaration ∷ (map (commandOf e ν) (reversed log) ++ assertions e ν ins)
 
@@ -102,17 +98,18 @@ module _ (e : Enums) (ν : Names) (log : List Thing) (ins : List Tm) where
         let made = map-map (commandOf e ν) tokensOf (role e ν) (command e ν) (reversed log) (λ th m. thing-made th (mem-reversed th log m) .fulfils) in
         let claimed = map-map (λ t. assertThat (atom e ν t)) tokensOf (assertion e ν) (command e ν) ins (λ t m. assertion-made t m .fulfils) in
         ap (λ (l : List (List Token)). tokens (spelled optionDeclaration) ∷ l)
-        (map-append tokensOf (map (commandOf e ν) (reversed log)) (assertions e ν ins) ∙ (λ i. made i ++ claimed i) ∙ sym (map-append (command e ν) (logRoles e ν log) (map (assertion e ν) ins)))
+        (map-append tokensOf (map (commandOf e ν) (reversed log)) (assertions e ν ins) ∙ (λ i. made i ++ claimed i)
+        ∙ sym (map-append (command e ν) (logRoles e ν log) (map (assertion e ν) ins)))
 
     -- ---- bodies and assertions
 
     term-right : (t : Tm) (x : Bool) → isVariable t ≡ x → List·Memᴰ (term t) log
-        → Right e ν (defs e ν log) (elim x as (λ z. Role) [ false ↦ defines t (tokens (definingBody e ν t)) | true ↦ declares (term t) ])
-    unfolding Right definingBody
+        → Right e ν (defs e ν log) (roleBy e ν t x)
+    unfolding Right roleBy definingBody
     term-right t true v m = subst T (sym v) tt
     term-right t false v m =
         let nv : T (not (isVariable t)) = rw v tt in
-        (nv, definition-means e ν log (defs e ν log) (nameIn ν log) nd kn un t nv (ordered-parts o (term t) m) .unfolds)
+        (nv, definition-means e kn un t nv (ordered-parts o (term t) m) .unfolds)
 
     thing-right : (th : Thing) → List·Memᴰ th log → Right e ν (defs e ν log) (role e ν th)
     unfolding Right role
@@ -122,7 +119,7 @@ module _ (e : Enums) (ν : Names) (log : List Thing) (ins : List Tm) where
 
     assertion-right : (t : Tm) → List·Memᴰ t ins → Right e ν (defs e ν log) (assertion e ν t)
     unfolding Right assertion
-    assertion-right t m = atom-means e ν log (defs e ν log) (nameIn ν log) nd kn un t (every-mem h m) .unfolds
+    assertion-right t m = atom-means e kn un t (every-mem h m) .unfolds
 
     roles-right : Every (Right e ν (definitions ν rolesOf)) rolesOf
     roles-right =
@@ -130,6 +127,7 @@ module _ (e : Enums) (ν : Names) (log : List Thing) (ins : List Tm) where
         (every-append (every-map (Right e ν (defs e ν log)) (role e ν) (reversed log) (λ th m. thing-right th (mem-reversed th log m)))
         (every-map (Right e ν (defs e ν log)) (assertion e ν) ins assertion-right))
 
+-- demand 3 of a script whose commands are those of such a log
 pub logged-says : {e : Enums} {ins : List Tm} {ν : Names} {cs : List Command} {log : List Thing} → Logged e ins ν cs log → Says e ins (commandsOf (script cs))
 logged-says {e} {ins} {ν} {cs} {log} l =
     let w : Well ν log = λ th m. all-mem (wellNamed ν) (reversed log) (l .lettering) (reversed-mem log m) in
@@ -137,7 +135,9 @@ logged-says {e} {ins} {ν} {cs} {log} l =
     record {
       names = ν;
       roles = rolesOf e ν log ins;
-      commands = commandsOf-script cs (rw (l .commands) (commands-good e ν log ins (l .ordered) w u (l .inputs))) ∙ ap commandTokens (l .commands) ∙ commands-tokens e ν log ins (l .ordered) w u (l .inputs);
+      commands =
+          commandsOf-script cs (rw (l .commands) (commands-good e ν log ins (l .ordered) w u (l .inputs))) ∙ ap commandTokens (l .commands)
+          ∙ commands-tokens e ν log ins (l .ordered) w u (l .inputs);
       right = roles-right e ν log ins (l .ordered) w u (l .inputs);
       needed = λ th. rw (things-roles e ν log ins) (λ n. reversed-mem log (l .needed th .0 n), λ m. l .needed th .1 (mem-reversed th log m));
       unlike = rw (things-roles e ν log ins) (l .unlike);

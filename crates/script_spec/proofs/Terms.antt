@@ -2,25 +2,24 @@
 -- their definitions. From `Bodies`, by recursion on the children.
 -- Assumes nothing.
 use Prim.Native.Nat.{ℕ}
-use mathlib.Core.Path.{_≡_, refl, sym, ap, _∙_, subst}
+use mathlib.Core.Path.{_≡_, refl, sym, _∙_, subst}
 use mathlib.Core.Bool.{Bool, true, false, not}
-use mathlib.Core.List.{List, [], _∷_, _++_, map, List·Memᴰ}
-use mathlib.Core.Option.{Option, none, some}
+use mathlib.Core.List.{List, [], _∷_, map, List·Memᴰ}
+use mathlib.Core.Option.{none}
 use lib.Dec.{T}
-use Rattle.script_spec.specs.Base.{Bytes, bytes, all}
-use Rattle.script_spec.specs.Tree.{Ty, Fun, Tm, Mark, Forest, node, nil, cons, children, trees, typeOf, typesOf, Enums, enumOf, Negation, ordinary, falsehood, comparison, negation, isFalsehood, isVariable, Op}
+use Rattle.script_spec.specs.Base.{Bytes, all}
+use Rattle.script_spec.specs.Tree.{Tm, Mark, Forest, node, nil, cons, children, trees, typesOf, Enums, Negation, ordinary, falsehood, comparison, negation, isFalsehood, isVariable}
 use Rattle.script_spec.specs.Tree.{Var, BoolLit, BitVecLit, StringLit, Entity, ExtLit, None, Some, Set, Record, App}
 use Rattle.script_spec.specs.Spelling.{Names, application, negated, bodyAt, body, inlined, atom}
-use Rattle.script_spec.specs.Smtlib.{Token, word, tokens, flat, wordEnd}
-use Rattle.script_spec.specs.Faithful.{Definition, unfolded, Thing, term, nameOf, wellNamed, lettered, used, namesIn, full, fulls, Every, every, also}
+use Rattle.script_spec.specs.Smtlib.{word, flat, wordEnd}
+use Rattle.script_spec.specs.Faithful.{Definition, unfolded, Thing, term, nameOf, wellNamed, lettered, full, fulls, Every, also}
 use Rattle.script_spec.proofs.Laws.{and-both}
-use Rattle.script_spec.proofs.Log.{HasType, HasTerm, HasParts}
+use Rattle.script_spec.proofs.Log.{HasTerm, HasParts}
 use Rattle.script_spec.proofs.Pieces.{word-piece, tokens-word}
 use Rattle.script_spec.proofs.Symbols.{lettered-word, used-lettered}
-use Rattle.script_spec.proofs.Unfolding.{Named}
-use Rattle.script_spec.proofs.Means.{Means, Meanings, none, more, namesIn-wordEnd}
+use Rattle.script_spec.proofs.Means.{Context, Means, Meanings, none, more, namesIn-wordEnd}
 use Rattle.script_spec.proofs.Sorts.{Known}
-use Rattle.script_spec.proofs.Bodies.{BodyMeans, body-means}
+use Rattle.script_spec.proofs.Bodies.{BodyMeans, isFalse, body-means}
 use Rattle.script_spec.proofs.Computes
 
 -- ---- names of terms
@@ -31,14 +30,14 @@ wordEnd-lettered l [] h = absurd h
 wordEnd-lettered l (b ∷ w) h = refl
 
 -- a term's name means what it unfolds to
-pub term-means : (ds : List Definition) (ok : Bytes → Bool) (w g : Bytes) → T (lettered 116 w) → T (ok w) → flat (unfolded ds (word w ∷ [])) ≡ g → Means ds ok w g
+pub term-means : {c : Context} {w g : Bytes} → T (lettered 116 w) → T (c .allowed w) → flat (unfolded (c .defined) (word w ∷ [])) ≡ g → Means c w g
 unfolding all Computes.base
-term-means ds ok w g h u e =
+term-means {c} {w} h u e =
     let k = lettered-word 116 w tt h in
     record {
       piece = word-piece w k;
       unfolds = rw (tokens-word w k, wordEnd-lettered 116 w h) e;
-      uses = rw (tokens-word w k) (namesIn-wordEnd ok w (rw (used-lettered 116 w tt h) (and-both (ok w) true u tt)));
+      uses = rw (tokens-word w k) (namesIn-wordEnd (c .allowed) w (rw (used-lettered 116 w tt h) (and-both (c .allowed w) true u tt)));
     }
 
 -- ---- terms that are spelled where they are used
@@ -57,7 +56,7 @@ inlined-variable e (node (Set ty) ts) h = tt
 inlined-variable e (node (Record names) ts) h = tt
 inlined-variable e (node (App ty op) ts) h = tt
 
-negated-falsehood : (n : Negation) (app app′ : Bytes) (args gs : List Bytes) → T (elim n as (λ z. Bool) [ ordinary ↦ false | falsehood ↦ true | comparison k ↦ false ]) → negated n app args ≡ negated n app′ gs
+negated-falsehood : (n : Negation) (app app′ : Bytes) (args gs : List Bytes) → T (isFalse n) → negated n app args ≡ negated n app′ gs
 unfolding negated
 negated-falsehood ordinary app app′ args gs h = absurd h
 negated-falsehood falsehood app app′ args gs h = refl
@@ -88,27 +87,27 @@ full-body e ν (node m ts) h = inlined-body e ν (node m ts) [] (fulls e ν ts) 
 abbrev pub Unfolds : Enums → Names → List Thing → List Definition → Type 0
 Unfolds e ν log ds = (t : Tm) → List·Memᴰ (term t) log → flat (unfolded ds (word (ν .term t) ∷ [])) ≡ full e ν t
 
-module _ (e : Enums) (ν : Names) (log : List Thing) (ds : List Definition) (ok : Bytes → Bool) (nd : Named ds) (kn : Known ν log ok) (un : Unfolds e ν log ds) where
-  atomBy-means : (x : Bool) (t : Tm) → inlined e t ≡ x → HasTerm e log t → Means ds ok (elim x as (λ z. Bytes) [ false ↦ ν .term t | true ↦ body e ν t [] ]) (full e ν t)
+module _ (e : Enums) {c : Context} {ν : Names} {log : List Thing} (kn : Known c ν log) (un : Unfolds e ν log (c .defined)) where
+  atomBy-means : (x : Bool) (t : Tm) → inlined e t ≡ x → HasTerm e log t → Means c (elim x as (λ z. Bytes) [ false ↦ ν .term t | true ↦ body e ν t [] ]) (full e ν t)
   unfolding wellNamed nameOf
   atomBy-means true t i h =
       let k = subst T (sym i) tt in
-      let p = body-means ds nd ok ν log kn e t (inlined-variable e t k) (h .typed) (λ n. absurd (rw i at n)) none in
+      let p = body-means kn e t (inlined-variable e t k) (h .typed) (λ n. absurd (rw i at n)) none in
       record { piece = p .piece; unfolds = p .unfolds ∙ full-body e ν t k; uses = p .inlineUses k }
   atomBy-means false t i h =
       let m = h .known (rw i tt) in
-      term-means ds ok (ν .term t) (full e ν t) (kn .well (term t) m) (kn .usable (term t) m) (un t m)
+      term-means (kn .well (term t) m) (kn .usable (term t) m) (un t m)
 
-  pub atom-means : (t : Tm) → HasTerm e log t → Means ds ok (atom e ν t) (full e ν t)
+  pub atom-means : (t : Tm) → HasTerm e log t → Means c (atom e ν t) (full e ν t)
   unfolding atom
   atom-means t h = atomBy-means (inlined e t) t refl h
 
-  atoms-means : (ts : Forest Mark) → Every (HasTerm e log) (trees ts) → Meanings ds ok (map (atom e ν) (trees ts)) (fulls e ν ts)
+  atoms-means : (ts : Forest Mark) → Every (HasTerm e log) (trees ts) → Meanings c (map (atom e ν) (trees ts)) (fulls e ν ts)
   unfolding trees full
   atoms-means nil h = none
   atoms-means (cons t ts) (also p h) = more (atom-means t p) (atoms-means ts h)
 
   -- the body of a term's definition
-  pub definition-means : (t : Tm) → T (not (isVariable t)) → HasParts e log (term t) → BodyMeans ds ok (inlined e t) (body e ν t (map (atom e ν) (children t))) (full e ν t)
+  pub definition-means : (t : Tm) → T (not (isVariable t)) → HasParts e log (term t) → BodyMeans c (inlined e t) (body e ν t (map (atom e ν) (children t))) (full e ν t)
   unfolding full children HasParts
-  definition-means (node m ts) nv h = body-means ds nd ok ν log kn e (node m ts) nv (h .0) (λ n. h) (atoms-means ts (h .1 nv))
+  definition-means (node m ts) nv h = body-means kn e (node m ts) nv (h .0) (λ n. h) (atoms-means ts (h .1 nv))

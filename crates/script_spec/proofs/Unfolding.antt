@@ -4,11 +4,14 @@ use Prim.Native.Nat.{ℕ}
 use mathlib.Core.Path.{_≡_, refl, sym, ap, _∙_, subst}
 use mathlib.Core.Bool.{Bool, true, false, not}
 use mathlib.Core.List.{List, [], _∷_, _++_, append-assoc, append-nil}
-use lib.Dec.{T, T-not, not-T}
+use lib.Dec.{T, eqb, T-not, not-T}
 use Rattle.script_spec.specs.Base.{Bytes, same, all}
-use Rattle.script_spec.specs.Smtlib.{Token, word, string, mark, flat, wordEnd}
-use Rattle.script_spec.specs.Faithful.{Definition, replaced, replacedWord, unfolded, lettered, namesIn, used}
+use Rattle.script_spec.specs.Tree.{ExtType, IPAddr, Decimal, Datetime, Duration}
+use Rattle.script_spec.specs.Spelling.{extName}
+use Rattle.script_spec.specs.Smtlib.{Token, word, string, mark, tokens, flat, wordEnd}
+use Rattle.script_spec.specs.Faithful.{Definition, replaced, replacedWord, unfolded, lettered, namesIn, used, operands, afterExtName, isExtName}
 use Rattle.script_spec.proofs.Laws.{and-parts, is-false, same-eq, all-append, all-map}
+use Rattle.script_spec.proofs.Computes
 
 -- ---- parts
 
@@ -78,7 +81,9 @@ unlettered-differs w n h k = not-T (same w n) (λ e. T-not (lettered 116 w) h (s
 pub flat-wordEnd : (ds : List Definition) (w : Bytes) → Named ds → T (not (lettered 116 w)) → flat (unfolded ds (wordEnd w)) ≡ w
 unfolding wordEnd flat
 flat-wordEnd ds [] nd h = rw (unfolded-nil ds) refl
-flat-wordEnd ds (b ∷ w) nd h = rw (unfolded-word ds (b ∷ w) (all-map (λ d. lettered 116 (d .0)) (λ d. not (same (b ∷ w) (d .0))) (λ d k. unlettered-differs (b ∷ w) (d .0) h k) ds nd)) (append-nil (b ∷ w))
+flat-wordEnd ds (b ∷ w) nd h =
+    let other = all-map (λ d. lettered 116 (d .0)) (λ d. not (same (b ∷ w) (d .0))) (λ d k. unlettered-differs (b ∷ w) (d .0) h k) ds nd in
+    rw (unfolded-word ds (b ∷ w) other) (append-nil (b ∷ w))
 
 -- ---- a separator between two parts stays between them
 
@@ -93,3 +98,44 @@ flat-mark ds c ts = flat-sep ds [] ts c ∙ rw (unfolded-nil ds) refl
 pub namesIn-sep : (ok : Bytes → Bool) (a b : List Token) (c : ℕ) → T (all ok (namesIn a)) → T (all ok (namesIn b)) → T (all ok (namesIn (a ++ (mark c ∷ b))))
 unfolding namesIn
 namesIn-sep ok a b c h k = rw (namesIn-append a (mark c ∷ b)) (all-append ok (namesIn a) (namesIn b) h k)
+
+-- ---- operands
+
+all-right : (ok : Bytes → Bool) (xs ys : List Bytes) → T (all ok (xs ++ ys)) → T (all ok ys)
+unfolding all
+all-right ok [] ys h = h
+all-right ok (x ∷ xs) ys h = all-right ok xs ys (and-parts (ok x) (all ok (xs ++ ys)) h .1)
+
+-- what stands after an extension name, or all
+dropped-uses : (ok : Bytes → Bool) (x : Bool) (w : Bytes) (ts : List Token) → T (all ok (namesIn (word w ∷ ts)))
+    → T (all ok (namesIn (elim x as (λ z. List Token) [ false ↦ word w ∷ ts | true ↦ ts ])))
+unfolding namesIn
+dropped-uses ok true w ts h = all-right ok (used w) (namesIn ts) h
+dropped-uses ok false w ts h = h
+
+afterExtName-uses : (ok : Bytes → Bool) (ts : List Token) → T (all ok (namesIn ts)) → T (all ok (namesIn (afterExtName ts)))
+unfolding namesIn afterExtName
+afterExtName-uses ok [] h = h
+afterExtName-uses ok (word w ∷ ts) h = dropped-uses ok (isExtName w) w ts h
+afterExtName-uses ok (string l ∷ ts) h = h
+afterExtName-uses ok (mark c ∷ ts) h = h
+
+opened-uses : (ok : Bytes → Bool) (x : Bool) (ts : List Token) → T (all ok (namesIn ts))
+    → T (all ok (namesIn (elim x as (λ z. List Token) [ false ↦ ts | true ↦ afterExtName ts ])))
+opened-uses ok true ts h = afterExtName-uses ok ts h
+opened-uses ok false ts h = h
+
+pub operands-uses : (ok : Bytes → Bool) (ts : List Token) → T (all ok (namesIn ts)) → T (all ok (namesIn (operands ts)))
+unfolding namesIn operands
+operands-uses ok [] h = h
+operands-uses ok (word w ∷ ts) h = h
+operands-uses ok (string l ∷ ts) h = h
+operands-uses ok (mark c ∷ ts) h = opened-uses ok (eqb c 40) ts h
+
+-- the operands of an extension name
+pub operands-extName : (x : ExtType) (s : Bytes) → operands (tokens (40 ∷ (extName x ++ (32 ∷ s)))) ≡ mark 32 ∷ tokens s
+unfolding extName Computes.base Computes.smtlib Computes.faithful
+operands-extName IPAddr s = refl
+operands-extName Decimal s = refl
+operands-extName Datetime s = refl
+operands-extName Duration s = refl
