@@ -3,9 +3,8 @@
 -- Assumes nothing.
 use Prim.Native.Nat.{ℕ, zero, suc, _≤_}
 use mathlib.Core.Path.{_≡_, refl, sym, ap, _∙_, subst}
-use mathlib.Core.Logic.{_⊎_, inl, inr}
 use mathlib.Core.Bool.{Bool, true, not, _&&_}
-use mathlib.Core.List.{List, [], _∷_, map, tail, append-nil, List·Memᴰ, List·Memᴰ·not-nil, List·Memᴰ·cases-cons}
+use mathlib.Core.List.{List, [], _∷_, map, tail, append-nil, List·Memᴰ, List·Memᴰ·head, List·Memᴰ·tail}
 use mathlib.Core.Option.{some, Option·map}
 use lib.Dec.{T, T-not}
 use lib.ListN.{length, length-map, getElem?}
@@ -112,12 +111,8 @@ module _ (e : Enums) (ν : Names) where
 
 term-any : (t : Tm) (ts : List Tm) → List·Memᴰ (term t) (map term ts) → T (any (eqTm t) ts)
 unfolding any
-term-any t [] m = absurd (List·Memᴰ·not-nil m)
-term-any t (u ∷ ts) m = go (List·Memᴰ·cases-cons m) (λ n. term-any t ts n)
-  where
-    go : (term t ≡ term u) ⊎ List·Memᴰ (term t) (map term ts) → (List·Memᴰ (term t) (map term ts) → T (any (eqTm t) ts)) → T (any (eqTm t) (u ∷ ts))
-    go (inl p) later = or-left (eqTm t u) (any (eqTm t) ts) (let q : t ≡ u = cc in subst (λ (x : Tm). T (eqTm t x)) q (eqTm-refl t))
-    go (inr n) later = or-right (eqTm t u) (any (eqTm t) ts) (later n)
+term-any t (u ∷ ts) (List·Memᴰ·head p) = or-left (eqTm t u) (any (eqTm t) ts) (let q : t ≡ u = cc in subst (λ (x : Tm). T (eqTm t x)) q (eqTm-refl t))
+term-any t (u ∷ ts) (List·Memᴰ·tail m) = or-right (eqTm t u) (any (eqTm t) ts) (term-any t ts m)
 
 distinct-apart : (ts : List Tm) → T (distinct ts) → Apart (map term ts)
 unfolding distinct
@@ -127,12 +122,8 @@ distinct-apart (t ∷ ts) d =
     new (λ m. T-not (any (eqTm t) ts) (q .0) (term-any t ts m)) (distinct-apart ts (q .1))
 
 every-term : (P : Thing → Type 0) (ts : List Tm) → Every (λ t. P (term t)) ts → (th : Thing) → List·Memᴰ th (map term ts) → P th
-every-term P [] every th m = absurd (List·Memᴰ·not-nil m)
-every-term P (t ∷ ts) (also p ps) th m = go (List·Memᴰ·cases-cons m) (λ n. every-term P ts ps th n)
-  where
-    go : (th ≡ term t) ⊎ List·Memᴰ th (map term ts) → (List·Memᴰ th (map term ts) → P th) → P th
-    go (inl q) later = subst P (sym q) p
-    go (inr n) later = later n
+every-term P (t ∷ ts) (also p ps) th (List·Memᴰ·head q) = subst P (sym q) p
+every-term P (t ∷ ts) (also p ps) th (List·Memᴰ·tail m) = every-term P ts ps th m
 
 -- ---- faithful scripts
 

@@ -9,6 +9,7 @@ use Rattle.script_spec.specs.Base.{Bytes, bytes, same, all, any}
 use Rattle.script_spec.specs.Smtlib.{Token, word, string, mark}
 use Rattle.script_spec.specs.Faithful.{Definition, namesIn, operands}
 
+-- the symbol of a token that is a word
 unfoldable pub wordOf : Token → Bytes
 wordOf (word w) = w
 wordOf (string l) = []
@@ -18,12 +19,15 @@ wordOf (mark b) = []
 unfoldable pub wordAt : ℕ → List Token → Bytes
 wordAt n c = wordOf (getD c n (mark 0))
 
+-- a command that begins with `(assert `
 unfoldable pub isAssertion : List Token → Bool
 isAssertion c = same (wordAt 1 c) (bytes "assert")
 
+-- a command that begins with `(define-fun `
 unfoldable pub isDefinition : List Token → Bool
 isDefinition c = same (wordAt 1 c) (bytes "define-fun")
 
+-- tokens without the last one
 unfoldable pub withoutLast : List Token → List Token
 withoutLast [] = []
 withoutLast (t ∷ []) = []

@@ -27,14 +27,14 @@ use Rattle.script_examples.proofs.Readings.{wordAt, isAssertion, isDefi
 isWord : Bytes → Bool
 isWord w = not (empty w) && all wordByte w
 
-wordEnd-word : (w : Bytes) → T (isWord w) → tokens w ≡ word w ∷ []
+tokens-isWord : (w : Bytes) → T (isWord w) → tokens w ≡ word w ∷ []
 unfolding isWord Computes.base Computes.smtlib
-wordEnd-word [] h = absurd h
-wordEnd-word (b ∷ w) h = tokens-word (b ∷ w) h
+tokens-isWord [] h = absurd h
+tokens-isWord (b ∷ w) h = tokens-word (b ∷ w) h
 
 word-tokens : (w r : Bytes) → T (isWord w) → tokens (w ++ (32 ∷ r)) ≡ word w ∷ mark 32 ∷ tokens r
 unfolding isWord
-word-tokens w r h = after-tokens w r 32 space (word-piece w (and-parts (not (empty w)) (all wordByte w) h .1)) ∙ rw (wordEnd-word w h) refl
+word-tokens w r h = after-tokens w r 32 space (word-piece w (and-parts (not (empty w)) (all wordByte w) h .1)) ∙ rw (tokens-isWord w h) refl
 
 lettered-isWord : (l : ℕ) (n : Bytes) → Letter l → T (lettered l n) → T (isWord n)
 unfolding isWord lettered empty
@@ -99,6 +99,7 @@ unfolding assertionRead definitionRead usesRead
 declaration-kind c a d = record { assertion = rw (a, assertionRead); definition = rw (d, definitionRead); uses = rw (a, d, usesRead) }
 
 module _ (e : Enums) (ν : Names) where
+  -- the command that declares a type which is this datatype, if it is one
   declares-type : Ty → Option Datatype → List Token
   declares-type ty o = tokens (elim o [ none ↦ [] | some d ↦ spelled (typeDeclaration e ν d ty) ])
 

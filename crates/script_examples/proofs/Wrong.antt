@@ -23,12 +23,15 @@ use Rattle.script_examples.proofs.Inversion.{boolean, names-unique, ass
 
 -- ---- terms and files
 
+-- the type Bool
 abbrev pub bool : Ty
 bool = node Bool· nil
 
+-- a variable of type Bool
 abbrev pub var : String → Tm
 var id = node (Var (bytes id) bool) nil
 
+-- an operator with result Bool
 abbrev pub apply : PlainOp → List Tm → Tm
 apply o ts = node (App bool (Plain o)) (forest ts)
 
@@ -75,6 +78,7 @@ pub option-alone : (f : TermFile) (t : Tm) (ts : List Tm) → inputs f ≡ t ∷
 unfolding lines afterOption Readings.computes Computes.base Computes.smtlib Computes.faithful
 option-alone f t ts i h = let k : 0 ≡ length (inputs f) = assertions-count h in let l = ap length i in omega arith
 
+-- so for the file of one negation
 pub option-alone-negation : Faithful negation (afterOption []) → ⊥
 unfolding Computes.base Computes.file
 option-alone-negation = option-alone negation not-a [] refl
