@@ -15,11 +15,11 @@ use Rattle.script_spec.proofs.Computes
 use Rattle.script_spec.proofs.Laws.{and-parts, and-both, or-cases, or-left, or-right, any-left, any-right, all-append, all-map, same-eq, same-refl}
 use Rattle.script_spec.proofs.Symbols.{used-lettered}
 use Rattle.script_spec.proofs.Unfolding.{Named}
-use Rattle.script_spec.proofs.Replacing.{Steps, mentions, isSymbol, finished, follows, layered, foreign, steps-unfolded, unfolded-reached, unfolded-is-finished}
+use Rattle.script_spec.proofs.Replacing.{Steps, mentions, isSymbol, finished, follows, layered, steps-unfolded}
 
 -- ---- what mentions a name uses it
 
-any-same-all : (p : Bytes → Bool) (ns : List Bytes) (n : Bytes) → T (any (same n) ns) → T (all p ns) → T (p n)
+pub any-same-all : (p : Bytes → Bool) (ns : List Bytes) (n : Bytes) → T (any (same n) ns) → T (all p ns) → T (p n)
 unfolding any all
 any-same-all p [] n h k = absurd h
 any-same-all p (m ∷ ns) n h k = pick (or-cases (same n m) (any (same n) ns) h) (λ i. any-same-all p ns n i (q .1))
@@ -36,7 +36,7 @@ unfolding isExtName Computes.base Computes.faithful
 isExtName-unlettered w h = any-same-all (λ v. not (lettered 116 v)) (bytes "IPAddr" ∷ bytes "Decimal" ∷ bytes "Datetime" ∷ bytes "Duration" ∷ []) w h tt
 
 module _ (n : Bytes) (l : T (lettered 116 n)) where
-  mentions-namesIn : (ts : List Token) → T (mentions n ts) → T (any (same n) (namesIn ts))
+  pub mentions-namesIn : (ts : List Token) → T (mentions n ts) → T (any (same n) (namesIn ts))
   unfolding mentions isSymbol any namesIn
   mentions-namesIn [] h = absurd h
   mentions-namesIn (word w ∷ ts) h = pick (or-cases (same w n) (mentions n ts) h) (λ k. mentions-namesIn ts k)
@@ -58,7 +58,7 @@ module _ (n : Bytes) (l : T (lettered 116 n)) where
   mentions-afterExtName (string s ∷ ts) h = h
   mentions-afterExtName (mark c ∷ ts) h = h
 
-  mentions-operands : (ts : List Token) → T (mentions n ts) → T (mentions n (operands ts))
+  pub mentions-operands : (ts : List Token) → T (mentions n ts) → T (mentions n (operands ts))
   unfolding mentions isSymbol any operands
   mentions-operands [] h = h
   mentions-operands (word w ∷ ts) h = h
@@ -159,22 +159,13 @@ says-named {e} h =
     all-map (termAmong (namesOf e (h .names) (h .roles))) (λ d. lettered 116 (d .0))
     (λ d k. and-parts (any (same (d .0)) (namesOf e (h .names) (h .roles))) (lettered 116 (d .0)) k .1) (definitions (h .names) (h .roles)) (definitions-among e (h .names) (h .roles) (h .lettering))
 
-module _ {e : Enums} {ins : List Tm} {cs : List (List Token)} (h : Says e ins cs) (ts : List Token) where
-  abbrev ds : List Definition
-  ds = definitions (h .names) (h .roles)
+pub says-layered : {e : Enums} {ins : List Tm} {cs : List (List Token)} (h : Says e ins cs) → T (layered (definitions (h .names) (h .roles)))
+unfolding any namesOf
+says-layered {e} h = definitions-layered e (h .names) [] (h .roles) (h .lettering) (h .unlike) (λ n i j. j) (h .order)
 
-  says-layered : T (layered ds)
-  unfolding any namesOf
-  says-layered = definitions-layered e (h .names) [] (h .roles) (h .lettering) (h .unlike) (λ n i j. j) (h .order)
+-- ---- the result
 
-  -- what `unfolded` gives is reached by replacing one name after the other
-  pub result-reached : Steps ds ts (unfolded ds ts)
-  result-reached = unfolded-reached ds ts
-
-  -- whatever order one replaces in, a text without defined names is what `unfolded` gives
-  pub one-result : (us : List Token) → Steps ds ts us → T (finished ds us) → us ≡ unfolded ds ts
-  one-result us s f = steps-unfolded ds says-layered s f
-
-  -- and that is a text without defined names, if no body mentions its own name
-  pub result-finished : T (foreign ds) → T (finished ds (unfolded ds ts))
-  result-finished k = unfolded-is-finished ds says-layered k ts
+-- whatever order one replaces in, a text without defined names is what `unfolded` gives
+pub one-result : {e : Enums} {ins : List Tm} {cs : List (List Token)} (h : Says e ins cs) {ts us : List Token}
+    → Steps (definitions (h .names) (h .roles)) ts us → T (finished (definitions (h .names) (h .roles)) us) → us ≡ unfolded (definitions (h .names) (h .roles)) ts
+one-result h s f = steps-unfolded (definitions (h .names) (h .roles)) (says-layered h) s f
