@@ -38,3 +38,4 @@ pub mod TypeLog
 pub mod Unfolding
 pub mod Utf8Range
 pub mod Values
+pub mod LastDigit
