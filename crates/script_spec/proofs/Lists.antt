@@ -7,7 +7,7 @@ use mathlib.Core.List.{List, [], _∷_, _++_, map, List·Memᴰ, List·Memᴰ·h
 use lib.Dec.{T}
 use Rattle.script_spec.specs.Base.{any, all, collect}
 use Rattle.script_spec.specs.Faithful.{Every, every, also}
-use Rattle.script_spec.proofs.Laws.{and-parts, or-left, or-right}
+use Rattle.script_spec.proofs.Laws.{and-parts, and-both, or-left, or-right}
 use Rattle.script_spec.proofs.Log.{reversed}
 
 -- ---- members
@@ -30,6 +30,11 @@ pub all-mem : {A : Type 0} (p : A → Bool) {a : A} (xs : List A) → T (all p x
 unfolding all
 all-mem p (x ∷ xs) h (List·Memᴰ·head e) = subst (λ y. T (p y)) (sym e) (and-parts (p x) (all p xs) h .0)
 all-mem p (x ∷ xs) h (List·Memᴰ·tail m) = all-mem p xs (and-parts (p x) (all p xs) h .1) m
+
+pub all-members : {A : Type 0} (p : A → Bool) (xs : List A) → ((x : A) → List·Memᴰ x xs → T (p x)) → T (all p xs)
+unfolding all
+all-members p [] h = tt
+all-members p (x ∷ xs) h = and-both (p x) (all p xs) (h x (List·Memᴰ·head refl)) (all-members p xs (λ y m. h y (List·Memᴰ·tail m)))
 
 pub any-mem : {A : Type 0} (p : A → Bool) {a : A} (xs : List A) → List·Memᴰ a xs → T (p a) → T (any p xs)
 unfolding any

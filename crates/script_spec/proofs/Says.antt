@@ -145,3 +145,9 @@ logged-says {e} {ins} {ν} {cs} {log} l =
       order = roles-inOrder e ν ins (l .ordered) w u (l .inputs);
       assertions = asserted-roles e ν log ins;
     }
+
+-- the definitions by which it is shown are those of the log
+pub logged-definitions : {e : Enums} {ins : List Tm} {ν : Names} {cs : List Command} {log : List Thing} (l : Logged e ins ν cs log)
+    → definitions (logged-says l .names) (logged-says l .roles) ≡ defs e ν log
+unfolding logged-says
+logged-definitions {e} {ins} {ν} {cs} {log} l = definitions-roles e ν log ins

@@ -27,7 +27,7 @@ replaced-append n b (word w ∷ ts) us = rw (replaced-append n b ts us) (replace
 replaced-append n b (string l ∷ ts) us = ap (λ (r : List Token). string l ∷ r) (replaced-append n b ts us)
 replaced-append n b (mark c ∷ ts) us = ap (λ (r : List Token). mark c ∷ r) (replaced-append n b ts us)
 
-unfolded-append : (ds : List Definition) (ts us : List Token) → unfolded ds (ts ++ us) ≡ unfolded ds ts ++ unfolded ds us
+pub unfolded-append : (ds : List Definition) (ts us : List Token) → unfolded ds (ts ++ us) ≡ unfolded ds ts ++ unfolded ds us
 unfolding unfolded
 unfolded-append [] ts us = refl
 unfolded-append (d ∷ ds) ts us = rw (replaced-append (d .0) (d .1) ts us) (unfolded-append ds (replaced (d .0) (d .1) ts) (replaced (d .0) (d .1) us))
