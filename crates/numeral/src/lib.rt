@@ -1,0 +1,47 @@
+// Numbers written in decimal and hexadecimal, without leading zeros.
+ghost use mathlib.Core.Path.{_≡_};
+ghost use mathlib.Core.List.{[]};
+ghost use Prim.Native.Nat.{_%_};
+ghost use Rattle.script_spec.specs.Text.{digit, digits, decimal, hex};
+ghost use Rattle.writer.specs.Writing.{Appends};
+ghost use Rattle.numeral.specs.Base.{IsBase};
+
+// The last digit of n in a base of at most sixteen.
+fn last_digit(n: u64, base: u64) -> u8
+    requires { ⌜ IsBase base ⌝ }
+    ensures { λ r. ⌜ r ≡ digit (n % base) ⌝ }
+{
+    let table = b"0123456789abcdef";
+    table[(n % base) as usize]
+}
+
+// Writes n in a base from ten to sixteen: its digits are laid into twenty bytes from the end.
+fn put_numeral(out: &mut [u8], at: usize, limit: usize, n: u64, base: u64) -> usize
+    requires { ⌜ IsBase base ⌝ }
+    ensures { λ r. ⌜ Appends limit (now (out .entry)) at (now (out .exit)) r (digits n base n []) ⌝ }
+{
+    let mut text = [0u8; 20];
+    let mut left = n;
+    let mut i: usize = 19;
+    text[i] = last_digit(left, base);
+    while base <= left {
+        left = left / base;
+        i -= 1;
+        text[i] = last_digit(left, base);
+    }
+    writer::put_at(out, at, limit, &text[i..])
+}
+
+// Writes n in decimal.
+pub fn put_decimal(out: &mut [u8], at: usize, limit: usize, n: u64) -> usize
+    ensures { λ r. ⌜ Appends limit (now (out .entry)) at (now (out .exit)) r (decimal n) ⌝ }
+{
+    put_numeral(out, at, limit, n, 10)
+}
+
+// Writes n in lower-case hexadecimal.
+pub fn put_hex(out: &mut [u8], at: usize, limit: usize, n: u64) -> usize
+    ensures { λ r. ⌜ Appends limit (now (out .entry)) at (now (out .exit)) r (hex n) ⌝ }
+{
+    put_numeral(out, at, limit, n, 16)
+}
