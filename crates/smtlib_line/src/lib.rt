@@ -5,7 +5,7 @@ ghost use mathlib.Core.Path.{_≡_};
 ghost use mathlib.Core.Bool.{false};
 ghost use mathlib.Core.List.{[], map, zip};
 ghost use Rattle.script_spec.specs.Base.{empty};
-ghost use Rattle.script_spec.specs.Command.{line, spaced, declareDatatype, declareConst, declareFun, defineFun, assertThat, setLogic, setOption};
+ghost use Rattle.script_spec.specs.Command.{line, spaced, comment as commented, declareDatatype, declareConst, declareFun, defineFun, assertThat, setLogic, setOption};
 ghost use Rattle.writer.specs.Writing.{Appends};
 ghost use Rattle.smtlib_line.specs.Opened.{opened};
 
@@ -33,6 +33,15 @@ pub fn put_word(out: &mut [u8], at: usize, limit: usize, word: Word) -> usize
         Word::SetLogic => writer::put_at(out, at, limit, b"(set-logic "),
         Word::SetOption => writer::put_at(out, at, limit, b"(set-option "),
     }
+}
+
+// `; COMMENT`, on one line.
+pub fn comment(out: &mut [u8], at: usize, limit: usize, comment: &[u8]) -> usize
+    ensures { λ r. ⌜ Appends limit (now (out .entry)) at (now (out .exit)) r (line (commented (now (comment .entry)))) ⌝ }
+{
+    let a = writer::put_at(out, at, limit, b"; ");
+    let b = text::put_comment_text(out, a, limit, comment);
+    writer::put_at(out, b, limit, b"\n")
 }
 
 // A declaration without parameters.

@@ -7,6 +7,18 @@ ghost use mathlib.Core.List.{map, zip};
 ghost use Rattle.script_spec.specs.Command as command;
 ghost use Rattle.smtlib_script.specs.Writes.{Writes};
 
+// `; COMMENT`, on one line.
+pub fn comment(comment: &[u8], out: &mut [u8]) -> Written
+    ensures { λ r. ⌜ Writes (command.comment (now (comment .entry))) (now (out .entry)) (now (out .exit)) r ⌝ }
+{
+    if !utf8::is_utf8(comment) {
+        return writer::refuse_text(out);
+    }
+    let limit = out.len();
+    let end = smtlib_line::comment(out, 0, limit, comment);
+    writer::finish(out, end)
+}
+
 // `(declare-datatype ID (CONSTRUCTORS))`, or `(declare-datatype ID (par (PARAMS) (CONSTRUCTORS)))`.
 pub fn declare_datatype(
     id: &[u8],
