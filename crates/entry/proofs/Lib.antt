@@ -1,0 +1,4 @@
+pub mod Inverse
+pub mod Places
+pub mod TypeEntries
+pub mod Rows
