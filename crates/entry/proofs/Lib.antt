@@ -2,3 +2,5 @@ pub mod Inverse
 pub mod Places
 pub mod TypeEntries
 pub mod Rows
+pub mod Classes
+pub mod SymbolEntries

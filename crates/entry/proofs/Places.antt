@@ -2,14 +2,14 @@
 -- Assumes nothing.
 use mathlib.Core.Path.{_≡_, refl, sym, ap, _∙_, subst}
 use mathlib.Core.Bool.{Bool, true, false, _&&_}
-use mathlib.Core.List.{[], _∷_}
-use Prim.Native.Nat.{ℕ, _+_, _≤_, _<_}
+use mathlib.Core.List.{List, [], _∷_}
+use Prim.Native.Nat.{ℕ, zero, suc, _+_, _≤_, _<_}
 use native.Mathlib.Omega.{arith}
 use lib.Dec.{leb}
 use lib.ListN.{length, take, drop, length-take, length-drop, drop-of-length-le, getD}
-use lib.Seq.{take-nil}
+use lib.Seq.{take-nil, drop-drop}
 use borrow.Author.Tests.{leb-false}
-use Rattle.script_spec.specs.Base.{Bytes, bytes, same, any}
+use Rattle.script_spec.specs.Base.{Bytes, bytes, same, any, firsts}
 use Rattle.script_spec.specs.Fields.{got, bad, _>>=_, pure, low, number, part, u32}
 use Rattle.field.specs.Reads.{value, refusal, asRead, Reads}
 use Rattle.index.specs.Standing.{markAt, sizeAt, bodyAt}
@@ -19,7 +19,7 @@ use Rattle.term_file.specs.Marks.{Marked, MarkedAs, mark}
 use Rattle.term_file.specs.declared.mark.Kind.{Kind}
 use Rattle.term_file.specs.declared.mark.Kind.the-variants as kind
 use Rattle.term_file.proofs.Marked.{names, unmarked}
-use Rattle.entry.specs.Places.{numberAt}
+use Rattle.entry.specs.Places.{numberAt, firstText, textSize, namedItems, texts, IsText}
 use Rattle.entry.proofs.Inverse.{u32-inverse}
 
 -- ---- numbers
@@ -83,3 +83,28 @@ pub marked-as : (file m : Bytes) (o : ℕ) {at : ℕ} {k : Kind} → m ≡ take 
 unfolding markAt
 marked-as file m o {at} {k} e i h g =
     subst (λ (s : Bytes). Marked s k) (sym (two-bytes (drop at file) m e h) ∙ e ∙ ap (λ (n : ℕ). take 2 (drop n file)) i) g
+
+-- ---- lists
+
+pub past-end : (s : Bytes) (at n : ℕ) → length s ≤ at + n → drop (length s) s ≡ drop n (drop at s)
+past-end s at n h =
+    drop-of-length-le s {i = length s} (omega arith) ∙ sym (drop-of-length-le (drop at s) {i = n} (rw length-drop (omega arith)))
+
+pub past-on : (s : Bytes) (at n : ℕ) → drop (at + n) s ≡ drop n (drop at s)
+past-on s at n = sym (drop-drop n at s)
+
+pub text-is : (s : Bytes) (at : ℕ) {n m start end : ℕ} → m ≡ numberAt s at → n ≡ m → drop start s ≡ drop 4 (drop at s) → drop end s ≡ drop n (drop start s)
+    → IsText s at (record { start = start; len = n; end = end })
+unfolding firstText textSize numberAt
+text-is s at {n} {m} {start} {end} e i a b =
+    let size : n ≡ numberAt (drop at s) 0 = i ∙ e in
+    record {
+      is = rw (a, size);
+      rest = b ∙ (rw (a, size)) ∙ drop-drop (numberAt (drop at s) 0) 4 (drop at s);
+    }
+
+-- the names of items that have a reference too
+pub texts-named : (n : ℕ) (s : Bytes) → firsts (namedItems n s) ≡ texts 4 n s
+unfolding firsts namedItems texts
+texts-named zero s = refl
+texts-named (suc n) s = ap (λ (l : List Bytes). firstText s ∷ l) (texts-named n (drop 4 (drop (textSize s) s)))

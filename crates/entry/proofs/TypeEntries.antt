@@ -1,26 +1,24 @@
 -- Each type is what its record has under its mark; no other mark has types.
 -- Assumes nothing.
 use mathlib.Core.Path.{_≡_, refl, sym, ap, _∙_, subst}
-use mathlib.Core.Bool.{Bool, true, false, true≢false}
+use mathlib.Core.Bool.{Bool}
 use mathlib.Core.List.{List, [], _∷_, map}
-use mathlib.Core.Option.{Option, none, some, Option·none-ne-some}
-use Prim.Native.Nat.{ℕ, _≤_, _^_}
-use lib.Dec.{ltb}
+use mathlib.Core.Option.{Option, none, some}
+use Prim.Native.Nat.{ℕ, _≤_}
 use lib.ListN.{take, drop}
-use types.Run.{OneOf, miss}
+use types.Run.{OneOf}
 use denote.Enum.Declared.{tagOf}
-use Rattle.script_spec.specs.Base.{Bytes, bytes, at, same, lookup, andThen, firsts, seconds}
+use Rattle.script_spec.specs.Base.{Bytes, bytes, all, at, same, lookup, andThen, firsts, seconds}
 use Rattle.script_spec.specs.Tree as tree
-use Rattle.script_spec.specs.Tree.{Bool·, String·, Option·, Set·, BitVec·, Declared, entity, extension, recordOf, TypeMark}
-use Rattle.script_spec.specs.Fields.{Entry, type, got, bad, Reader, _>>=_, pure, ensure, present, byte, u32, text, list, times, ref, pair, width, coded, extType, marks, number, leaf, entityRef, operator}
-use Rattle.script_spec.specs.Fields as fields
+use Rattle.script_spec.specs.Tree.{Bool·, String·, Option·, Set·, BitVec·, Declared, entity, extension, recordOf}
+use Rattle.script_spec.specs.Fields.{Entry, type, got, bad, Reader, _>>=_, pure, present, byte, u32, text, list, times, ref, pair, width, coded, extType, marks}
 use Rattle.index.specs.Standing.{markAt, bodyAt, entryOf, entryAt, loose}
-use Rattle.index.proofs.Readers.{bad-not-got, got-value, Gives, gives-after, gives-pure}
+use Rattle.index.proofs.Readers.{bad-not-got, got-value}
 use Rattle.field.specs.Reads.{value, refusal, asRead, Reads}
 use Rattle.field.specs.Answers.{spanned}
 use Rattle.field.proofs.Skims.{bind-got, bind-bad}
 use Rattle.field.proofs.Coded.{at-past}
-use Rattle.term_file.specs.Marks.{mark, Marked, MarkedAs}
+use Rattle.term_file.specs.Marks.{mark, Marked}
 use Rattle.term_file.proofs.mark.Kind.{the-type}
 use Rattle.term_file.specs.declared.mark.Kind.{Kind}
 use Rattle.term_file.specs.declared.mark.Kind.the-variants as kind
@@ -29,6 +27,7 @@ use Rattle.entry.specs.Types.{extTypeOf, typeSaid, IsType, TypeAt}
 use Rattle.entry.specs.declared.types.ExtType.{ExtType}
 use Rattle.entry.specs.declared.types.TypeEntry.{TypeEntry}
 use Rattle.entry.specs.declared.types.TypeEntry.the-variants as entry
+use Rattle.entry.proofs.Classes.{class, classTag, kind-class, other-class, marked-entry}
 use Rattle.entry.proofs.Inverse.{entry-whole, bind-inverse, tested-inverse, text-inverse, u32-inverse, named-inverse}
 
 -- a code that a table has, and one that it has not
@@ -140,73 +139,18 @@ module _ {body : Bytes} where
 
 -- ---- marks that have no types
 
-unfoldable isType : Entry → Bool
-isType (type m rs) = true
-isType (fields.enum n ms) = false
-isType (fields.func id a r) = false
-isType (fields.term m rs) = false
-isType (fields.input n) = false
-
--- a reader that makes no type
-abbrev TypeFree : Reader Entry → Type 0
-TypeFree r = Gives (λ e. isType e ≡ false) r r
-
-free-mark : {body : Bytes} (m : Bytes) (reader : Reader Entry) → lookup m (marks loose) ≡ some reader → TypeFree reader → IsType (some m) body entry.Unreadable
-unfolding entryOf andThen isType
-free-mark {body} m reader found G = record {
-  go = λ m′ t rs e g.
-      let same : m ≡ m′ = cc in
-      let read : reader body ≡ got (type t rs) [] = entry-whole (reader body) (type t rs) (rw (← same, found) at g) in
-      absurd (true≢false (G .go body [] (type t rs) read .0));
-}
-
--- a field, and the last
-after : {A : Type 0} (r : Reader A) {k : A → Reader Entry} → ((a : A) → TypeFree (k a)) → TypeFree (_>>=_ r k)
-after r H = gives-after {P = λ e. isType e ≡ false} r H
-
-last : (e : Entry) → isType e ≡ false → TypeFree (pure e)
-last e h = gives-pure {P = λ e. isType e ≡ false} e h
-
--- the places of the kinds of types
+-- the places of the other kinds
 abbrev tags : List ℕ
 tags = 8 ∷ 9 ∷ 10 ∷ 11 ∷ 12 ∷ 13 ∷ 14 ∷ 15 ∷ 16 ∷ 17 ∷ 18 ∷ 19 ∷ 20 ∷ 21 ∷ 22 ∷ []
 
 pub no-types : {body : Bytes} (k : Kind) → OneOf tags (tagOf the-type k) → IsType (mark k) body entry.Unreadable
-unfolding mark marks lookup same bytes isType leaf
-no-types kind.TB h = absurd (miss tags 0 tt h)
-no-types kind.TS h = absurd (miss tags 1 tt h)
-no-types kind.TV h = absurd (miss tags 2 tt h)
-no-types kind.TO h = absurd (miss tags 3 tt h)
-no-types kind.TC h = absurd (miss tags 4 tt h)
-no-types kind.TE h = absurd (miss tags 5 tt h)
-no-types kind.TX h = absurd (miss tags 6 tt h)
-no-types kind.TR h = absurd (miss tags 7 tt h)
-no-types kind.EN h = free-mark (bytes "EN") _ refl (after text (λ n. after (list text) (λ ms. last (fields.enum n ms) refl)))
-no-types kind.UF h = free-mark (bytes "UF") _ refl (after text (λ n. after (ref (loose .types)) (λ a. after (ref (loose .types)) (λ r. last (fields.func n a r) refl))))
-no-types kind.XV h = free-mark (bytes "XV") _ refl (after text (λ n. after (ref (loose .types)) (λ t. last (leaf (tree.Var n t)) refl)))
-no-types kind.XB h = free-mark (bytes "XB") _ refl (after _ (λ b. last (leaf (tree.BoolLit b)) refl))
-no-types kind.XN h = free-mark (bytes "XN") _ refl (after width (λ n. after (number 16) (λ v. after (ensure 7 (ltb v (2 ^ n)) v) (λ w. last (leaf (tree.BitVecLit n w)) refl))))
-no-types kind.XS h = free-mark (bytes "XS") _ refl (after text (λ s. last (leaf (tree.StringLit s)) refl))
-no-types kind.XE h = free-mark (bytes "XE") _ refl (after (entityRef loose) (λ t. after text (λ i. last (leaf (tree.Entity t i)) refl)))
-no-types kind.XX h = free-mark (bytes "XX") _ refl (after fields.value (λ v. last (leaf (tree.ExtLit v)) refl))
-no-types kind.X0 h = free-mark (bytes "X0") _ refl (after (ref (loose .types)) (λ t. last (leaf (tree.None t)) refl))
-no-types kind.X1 h = free-mark (bytes "X1") _ refl (after (ref (loose .terms)) (λ t. last (fields.term tree.Some (t ∷ [])) refl))
-no-types kind.XC h = free-mark (bytes "XC") _ refl (after (ref (loose .types)) (λ t. after (list (ref (loose .terms))) (λ ts. last (fields.term (tree.Set t) ts) refl)))
-no-types kind.XR h = free-mark (bytes "XR") _ refl (after (list (pair text (ref (loose .terms)))) (λ ps. last (fields.term (tree.Record (firsts ps)) (seconds ps)) refl))
-no-types kind.XA h =
-    free-mark (bytes "XA") _ refl
-    (after (ref (loose .types)) (λ t. after (operator (loose .funs)) (λ o. after (list (ref (loose .terms))) (λ ts. last (fields.term (tree.App t o) ts) refl))))
-no-types kind.IN h = free-mark (bytes "IN") _ refl (after (ref (loose .terms)) (λ t. last (fields.input t) refl))
-no-types kind.Unknown h = record { go = λ m t rs e g. absurd (Option·none-ne-some m e) }
+unfolding class classTag all
+no-types {body} k h = record { go = λ m t rs e g. absurd (other-class 0 tags (tagOf the-type k) h tt (kind-class body k m (type t rs) e g)) }
 
 -- ---- the record at an offset
 
-marked-type : (s : Bytes) {body : Bytes} {r : TypeEntry} (o : Option Bytes) → MarkedAs s o → IsType o body r
-    → (t : TypeMark) (rs : List ℕ) → entryOf s body ≡ some (type t rs) → typeSaid body r ≡ some (type t rs)
-unfolding MarkedAs entryOf andThen
-marked-type s none h i t rs g = absurd (Option·none-ne-some (type t rs) (rw (h loose) at g))
-marked-type s (some m) h i t rs g = i .go m t rs refl (rw h at g)
-
 pub type-at : {file body : Bytes} {o : ℕ} {k : Kind} {r : TypeEntry} → Marked (markAt file o) k → body ≡ bodyAt file o → IsType (mark k) body r → TypeAt file o r
 unfolding entryAt
-type-at {file} {body} {o} {k} {r} m e i = record { go = λ t rs g. rw (← e) (marked-type (markAt file o) (mark k) (m .is) i t rs (rw (← e) at g)) }
+type-at {file} {body} {o} {k} {r} m e i =
+    let j : IsType (mark k) (bodyAt file o) r = subst (λ (b : Bytes). IsType (mark k) b r) e i in
+    record { go = λ t rs g. marked-entry (bodyAt file o) (markAt file o) (mark k) (m .is) g (λ m h q. j .go m t rs h q) }

@@ -1,4 +1,6 @@
 // The records of an accepted file, read again by their offsets.
+pub mod lists;
+pub mod symbols;
 pub mod types;
 
 use field::Cursor;

@@ -1,1 +1,3 @@
 pub mod SortLaws
+pub mod Runs
+pub mod CommentLaws
