@@ -2,7 +2,6 @@
 use crate::sorts;
 use entry::symbols::Fun;
 ghost use mathlib.Core.Path.{_≡_};
-ghost use Rattle.writer.specs.Writing.{Appends};
 ghost use Rattle.index.specs.Cells.{cell, funOffset, funFirst};
 ghost use Rattle.naming.specs.Naming.{nameAt, funName};
 ghost use Rattle.entry.specs.Symbols.{FunAt};

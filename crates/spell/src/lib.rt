@@ -2,4 +2,5 @@
 // index and the names given.
 pub mod comments;
 pub mod functions;
+pub mod records;
 pub mod sorts;
