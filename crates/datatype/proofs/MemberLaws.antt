@@ -1,18 +1,19 @@
 -- The declarations of entity types and enums, piece by piece; members by recursion on their number.
 -- Assumes nothing.
-use mathlib.Core.Path.{_≡_, refl, sym, _∙_}
+use mathlib.Core.Path.{_≡_, refl, sym, ap, _∙_}
 use mathlib.Core.List.{List, [], _∷_, _++_, append-assoc, append-nil}
 use mathlib.Core.Option.{none, some}
 use Prim.Native.Nat.{ℕ, suc, _+_, _-_, _<_, _≤_}
 use native.Mathlib.Numerals.{add-one}
 use native.Mathlib.Omega.{arith}
 use lib.ListN.{length}
-use Rattle.script_spec.specs.Base.{Bytes, bytes, joined}
-use Rattle.script_spec.specs.Text.{decimal}
-use Rattle.script_spec.specs.Command.{line, spelled, headed, listed, spaced, constructorList, datatypeBody, declareDatatype}
-use Rattle.script_spec.specs.Spelling.{memberName, numberedFrom, entityConstructors}
+use Rattle.script_spec.specs.Base.{Bytes, bytes, joined, endsLine}
+use Rattle.script_spec.specs.Text.{decimal, oneLine, spaceIf}
+use Rattle.script_spec.specs.Command.{line, spelled, headed, listed, spaced, constructorList, datatypeBody, declareDatatype, comment}
+use Rattle.script_spec.specs.Spelling.{memberName, numberedFrom, entityConstructors, entityComment}
 use Rattle.writer.specs.Writing.{Appends}
 use Rattle.writer.proofs.Laws.{_then_, says}
+use Rattle.spell.proofs.CommentLaws.{oneLine-append}
 use Rattle.datatype.specs.Members.{entityName, memberText, membersText, SpellsMembers, SpellsEnum}
 
 pub entity-pieces : (n : Bytes) → bytes "(declare-datatype " ++ (n ++ (bytes " (\n  (" ++ (n ++ (bytes " (" ++ (n ++ bytes "_eid String))))\n"))))) ≡ line (declareDatatype n [] (entityConstructors n none))
@@ -66,3 +67,22 @@ enum-pieces n cs = simp append-assoc
 pub spells-enum : {name n limit at p₁ p₂ p₃ p₄ r : ℕ} {x x₁ x₂ x₃ x₄ y : Bytes} → Appends limit x at x₁ p₁ (bytes "(declare-datatype ") → Appends limit x₁ p₁ x₂ p₂ (entityName name)
     → Appends limit x₂ p₂ x₃ p₃ (bytes " (") → SpellsMembers name n limit x₃ p₃ x₄ p₄ → Appends limit x₄ p₄ y r (bytes "))\n") → SpellsEnum name n limit x at y r
 spells-enum A N B M C = record { go = λ ms e. says (enum-pieces _ _) (A then N then B then M .go ms e then C) }
+
+-- ---- comments
+
+pub entity-comment : (s : Bytes) → bytes "; " ++ (oneLine s ++ bytes "\n") ≡ line (comment (entityComment s none))
+unfolding line spelled entityComment bytes
+entity-comment s = refl
+
+comment-pieces : (u v : Bytes) → bytes "; " ++ (u ++ (bytes "::[" ++ (v ++ bytes "]\n"))) ≡ (bytes "; " ++ (u ++ (bytes "::[" ++ (v ++ bytes "]")))) ++ bytes "\n"
+unfolding bytes
+comment-pieces u v = simp append-assoc
+
+enum-text : (s : Bytes) (ms : List Bytes) → oneLine s ++ (bytes "::[" ++ (oneLine (joined (bytes ", ") ms) ++ bytes "]")) ≡ oneLine (entityComment s (some ms))
+unfolding entityComment bytes oneLine spaceIf endsLine
+enum-text s ms =
+    sym (oneLine-append s (bytes "::[" ++ (joined (bytes ", ") ms ++ bytes "]")) ∙ ap (λ (t : Bytes). oneLine s ++ (bytes "::[" ++ t)) (oneLine-append (joined (bytes ", ") ms) (bytes "]")))
+
+pub enum-comment : (s : Bytes) (ms : List Bytes) → bytes "; " ++ (oneLine s ++ (bytes "::[" ++ (oneLine (joined (bytes ", ") ms) ++ bytes "]\n"))) ≡ line (comment (entityComment s (some ms)))
+unfolding line spelled
+enum-comment s ms = comment-pieces (oneLine s) (oneLine (joined (bytes ", ") ms)) ∙ ap (λ (t : Bytes). (bytes "; " ++ t) ++ bytes "\n") (enum-text s ms)

@@ -1,4 +1,6 @@
-// The declarations of entity types, enums and extension types.
+// The comments and declarations of entity types, enums and extension types.
+pub mod comments;
+
 use entry::types::ExtType;
 ghost use mathlib.Core.List.{[]};
 ghost use mathlib.Core.Option.{none};
