@@ -6,7 +6,7 @@ use mathlib.Core.Bool.{Bool, true, false, not}
 use mathlib.Core.List.{List, [], _∷_, _++_, map, List·Memᴰ}
 use mathlib.Core.Option.{none, some}
 use lib.Dec.{T}
-use Rattle.script_spec.specs.Base.{Bytes, isSome, collect, all}
+use Rattle.script_spec.specs.Base.{isSome, collect, all}
 use Rattle.script_spec.specs.Tree.{Ty, Fun, Tm, TypeMark, Mark, Forest, node, nil, cons, children, typeOf, isVariable, Enums, datatype, uuf, App, Uuf}
 use Rattle.script_spec.specs.Command.{Command, comment, declareDatatype, declareConst, declareFun, defineFun, assertThat, setLogic, setOption, checkSat, getModel, reset, exit}
 use Rattle.script_spec.specs.Spelling.{Names, sort, body, atom, inlined, typeDeclaration, funDeclaration, optionDeclaration}
