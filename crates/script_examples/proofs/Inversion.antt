@@ -13,7 +13,7 @@ use Rattle.script_spec.specs.Tree.{Tm, Mark, Forest, node, nil, cons, trees, ch
 use Rattle.script_spec.specs.File.{distinct}
 use Rattle.script_spec.specs.Spelling.{Names, sort}
 use Rattle.script_spec.specs.Smtlib.{Token, flat, wordEnd}
-use Rattle.script_spec.specs.Faithful.{Thing, term, func, type, Needed, NeededTerm, isInput, isChild, nameOf, wellNamed, lettered, full, Role, declares, defines, asserts, command, named, asserted, Definition, definitions, unfolded, Right, uses, inOrder, unique, Every, every, also, things, Says}
+use Rattle.script_spec.specs.Faithful.{Thing, term, func, type, Needed, NeededTerm, isInput, isChild, nameOf, wellNamed, lettered, full, Role, declares, defines, asserts, command, named, asserted, Definition, definitions, unfolded, Right, uses, own, inOrder, unique, Every, every, also, things, Says}
 use Rattle.script_spec.proofs.Computes
 use Rattle.script_spec.proofs.Laws.{and-parts, or-left, or-right, eqTy-eq, eqTm-refl}
 use Rattle.script_spec.proofs.Unfolding.{flat-wordEnd}
@@ -21,7 +21,7 @@ use Rattle.script_spec.proofs.OneResult.{says-named}
 use Rattle.script_spec.proofs.Lists.{all-mem, all-members}
 use Rattle.script_examples.proofs.Pigeonhole.{Apart, apart, new, length-apart}
 use Rattle.script_examples.proofs.Readings.{nameRead, assertionRead, definitionsRead, orderRead}
-use Rattle.script_examples.proofs.Roles.{declares-kind, declares-name, defines-name, defines-assertion, defines-definition, defines-uses, asserts-name, asserts-assertion, asserts-definition, asserts-uses}
+use Rattle.script_examples.proofs.Roles.{declares-kind, declares-name, defines-name, defines-own, defines-assertion, defines-definition, defines-uses, asserts-name, asserts-own, asserts-assertion, asserts-definition, asserts-uses}
 
 -- ---- names and assertions
 
@@ -95,17 +95,17 @@ module _ (e : Enums) (ν : Names) where
   definitions-read (asserts t b ∷ rs) h k = rw (asserts-definition e ν t b) (append-nil _ ∙ definitions-read rs h k)
 
   order-read : (seen : List Bytes) (rs : List Role) → T (all (wellNamed ν) (things rs)) → T (all booleanThing (things rs)) → inOrder e ν seen rs ≡ orderRead seen (map (command e ν) rs)
-  unfolding things named collect all booleanThing inOrder orderRead uses
+  unfolding things named own collect all booleanThing inOrder orderRead uses
   order-read seen [] h k = refl
   order-read seen (declares th ∷ rs) h k =
       let p = and-parts (wellNamed ν th) (all (wellNamed ν) (things rs)) h in
       let q = and-parts (booleanThing th) (all booleanThing (things rs)) k in
-      rw (declares-name e ν th (p .0), declares-kind e ν th .uses, order-read (nameOf ν th ∷ seen) rs (p .1) (q .1)) refl
+      rw (declares-kind e ν th .own, declares-name e ν th (p .0), declares-kind e ν th .uses, order-read (nameOf ν th ∷ seen) rs (p .1) (q .1)) refl
   order-read seen (defines t b ∷ rs) h k =
       let p = and-parts (wellNamed ν (term t)) (all (wellNamed ν) (things rs)) h in
       let q = and-parts (boolean t) (all booleanThing (things rs)) k in
-      rw (defines-name e ν t b (p .0), defines-uses e ν t b (p .0) (boolean-sort ν t (q .0)), order-read (nameOf ν (term t) ∷ seen) rs (p .1) (q .1)) refl
-  order-read seen (asserts t b ∷ rs) h k = rw (asserts-name e ν t b, asserts-uses e ν t b, order-read seen rs h k) refl
+      rw (defines-own e ν t b, defines-name e ν t b (p .0), defines-uses e ν t b (p .0) (boolean-sort ν t (q .0)), order-read (nameOf ν (term t) ∷ seen) rs (p .1) (q .1)) refl
+  order-read seen (asserts t b ∷ rs) h k = rw (asserts-own e ν t b, asserts-name e ν t b, asserts-uses e ν t b, order-read seen rs h k) refl
 
 -- ---- unlike terms
 

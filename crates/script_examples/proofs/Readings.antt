@@ -62,14 +62,16 @@ usesRead c =
       | false ↦ elim (isDefinition c) [ true ↦ namesIn (operands (bodyFrom 10 c)) | false ↦ namesIn c ]
     ]
 
--- each command uses only names that it or a command before it declares or defines
+-- the name that a command may use itself: that of a declaration
+unfoldable pub ownRead : List Token → List Bytes
+ownRead c = elim (isDefinition c) [ true ↦ [] | false ↦ nameRead c ]
+
+-- each command uses only names that commands before it declare or define; a declaration also uses its own
 unfoldable pub orderRead : List Bytes → List (List Token) → Bool
 orderRead seen [] = true
-orderRead seen (c ∷ cs) =
-    let now = nameRead c ++ seen in
-    all (λ n. any (same n) now) (usesRead c) && orderRead now cs
+orderRead seen (c ∷ cs) = all (λ n. any (same n) (ownRead c ++ seen)) (usesRead c) && orderRead (nameRead c ++ seen) cs
 
 -- opens all definitions of this module
 unfoldable pub computes : Unit {0}
-unfolding wordOf wordAt isAssertion isDefinition withoutLast bodyFrom nameRead assertionRead definitionRead definitionsRead usesRead orderRead
+unfolding wordOf wordAt isAssertion isDefinition withoutLast bodyFrom nameRead assertionRead definitionRead definitionsRead usesRead ownRead orderRead
 computes = tt

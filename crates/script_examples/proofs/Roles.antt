@@ -19,7 +19,7 @@ use Rattle.script_spec.proofs.Reading.{space}
 use Rattle.script_spec.proofs.Pieces.{wordByte, tokens-word, word-piece, after-tokens}
 use Rattle.script_spec.proofs.Symbols.{Letter, lettered-word}
 use Rattle.script_examples.proofs.Readings
-use Rattle.script_examples.proofs.Readings.{wordAt, isAssertion, isDefinition, withoutLast, nameRead, assertionRead, definitionRead, usesRead}
+use Rattle.script_examples.proofs.Readings.{wordAt, isAssertion, isDefinition, withoutLast, nameRead, assertionRead, definitionRead, usesRead, ownRead}
 
 -- ---- names are words
 
@@ -93,10 +93,11 @@ pub record Declaration (c : List Token) : Type 0 where
   pub assertion : assertionRead c ≡ []
   pub definition : definitionRead c ≡ []
   pub uses : usesRead c ≡ namesIn c
+  pub own : ownRead c ≡ nameRead c
 
 declaration-kind : (c : List Token) → isAssertion c ≡ false → isDefinition c ≡ false → Declaration c
-unfolding assertionRead definitionRead usesRead
-declaration-kind c a d = record { assertion = rw (a, assertionRead); definition = rw (d, definitionRead); uses = rw (a, d, usesRead) }
+unfolding assertionRead definitionRead usesRead ownRead
+declaration-kind c a d = record { assertion = rw (a, assertionRead); definition = rw (d, definitionRead); uses = rw (a, d, usesRead); own = rw (d, ownRead) }
 
 module _ (e : Enums) (ν : Names) where
   -- the command that declares a type which is this datatype, if it is one
@@ -129,6 +130,10 @@ module _ (e : Enums) (ν : Names) where
     unfolding Readings.computes Computes.base Computes.smtlib Computes.faithful
     defines-name h = rw (word-tokens (ν .term t) (40 ∷ 41 ∷ 32 ∷ (sort ν (typeOf t) ++ (32 ∷ []))) (wellNamed-isWord ν (term t) h)) refl
 
+    pub defines-own : ownRead (command e ν (defines t b)) ≡ []
+    unfolding Readings.computes Computes.base Computes.smtlib command
+    defines-own = refl
+
     pub defines-assertion : assertionRead (command e ν (defines t b)) ≡ []
     unfolding Readings.computes Computes.base Computes.smtlib command
     defines-assertion = refl
@@ -147,6 +152,10 @@ module _ (e : Enums) (ν : Names) where
     pub asserts-name : nameRead (command e ν (asserts t b)) ≡ []
     unfolding Readings.computes Computes.base Computes.smtlib command
     asserts-name = refl
+
+    pub asserts-own : ownRead (command e ν (asserts t b)) ≡ []
+    unfolding Readings.computes Computes.base Computes.smtlib command
+    asserts-own = refl
 
     pub asserts-assertion : assertionRead (command e ν (asserts t b)) ≡ b ∷ []
     unfolding Readings.computes Computes.base Computes.smtlib command

@@ -165,3 +165,12 @@ pub used-before : Faithful negation (afterOption
     ∷ [])) → ⊥
 unfolding computes
 used-before h = order-of h tt
+
+-- a definition that uses its own name
+pub used-in-itself : Faithful negation (afterOption
+    ("(declare-const t0 Bool)"
+    ∷ "(define-fun t1 () Bool (not t1))"
+    ∷ "(assert t1)"
+    ∷ [])) → ⊥
+unfolding computes
+used-in-itself h = order-of h tt

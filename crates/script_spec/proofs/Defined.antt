@@ -158,7 +158,8 @@ module _ (e : Enums) (ν : Names) where
   abbrev pub logContext : (log : List Thing) → Well ν log → (Bytes → Bool) → Context
   logContext log w ok = record { defined = defs log; named = defs-named log w; allowed = ok }
 
-  known-any : (log : List Thing) (w : Well ν log) → Known (logContext log w (λ n. true)) ν log
+  -- all names are allowed
+  pub known-any : (log : List Thing) (w : Well ν log) → Known (logContext log w (λ n. true)) ν log
   known-any log w = record { well = w; usable = λ x m. tt }
 
   -- the latest thing's name

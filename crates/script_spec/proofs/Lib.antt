@@ -7,7 +7,6 @@ pub mod Computes
 pub mod Declarations
 pub mod Defined
 pub mod Demand
-pub mod EncodedResult
 pub mod Encoding
 pub mod Entered
 pub mod Grow

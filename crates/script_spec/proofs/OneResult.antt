@@ -1,5 +1,6 @@
--- In a faithful script unfolding has one result, in whatever order defined names are replaced: by `order` a body uses no name of a
--- later command, and by `unlike` no name is defined twice, so that the definitions are layered.
+-- In a faithful script unfolding has exactly one result, in whatever order defined names are replaced (`one-result`): by `order` a
+-- body uses neither its own name nor that of a later command, and by `unlike` no name is defined twice, so that the definitions are
+-- layered.
 -- Assumes nothing.
 use mathlib.Core.Path.{_≡_, refl, sym, subst}
 use mathlib.Core.Logic.{_⊎_, inl, inr, ⊎-elim}
@@ -10,16 +11,16 @@ use Rattle.script_spec.specs.Base.{Bytes, bytes, same, any, all, collect
 use Rattle.script_spec.specs.Tree.{Tm, typeOf, Enums}
 use Rattle.script_spec.specs.Spelling.{Names, sort}
 use Rattle.script_spec.specs.Smtlib.{Token, word, string, mark, tokens}
-use Rattle.script_spec.specs.Faithful.{term, nameOf, wellNamed, unique, lettered, Role, declares, defines, asserts, named, things, Definition, definitions, unfolded, used, isExtName, namesIn, afterExtName, operands, uses, inOrder, Says}
+use Rattle.script_spec.specs.Faithful.{term, nameOf, wellNamed, unique, lettered, Role, declares, defines, asserts, named, things, Definition, definitions, used, isExtName, namesIn, afterExtName, operands, uses, own, inOrder, Says}
 use Rattle.script_spec.proofs.Computes
 use Rattle.script_spec.proofs.Laws.{and-parts, and-both, or-cases, or-left, or-right, any-left, any-right, all-append, all-map, same-eq, same-refl}
 use Rattle.script_spec.proofs.Symbols.{used-lettered}
 use Rattle.script_spec.proofs.Unfolding.{Named}
-use Rattle.script_spec.proofs.Replacing.{Steps, mentions, isSymbol, finished, follows, layered, steps-unfolded}
+use Rattle.script_spec.proofs.Replacing.{mentions, isSymbol, follows, Layered, ground, layer, Resolves, layered-resolves}
 
 -- ---- what mentions a name uses it
 
-pub any-same-all : (p : Bytes → Bool) (ns : List Bytes) (n : Bytes) → T (any (same n) ns) → T (all p ns) → T (p n)
+any-same-all : (p : Bytes → Bool) (ns : List Bytes) (n : Bytes) → T (any (same n) ns) → T (all p ns) → T (p n)
 unfolding any all
 any-same-all p [] n h k = absurd h
 any-same-all p (m ∷ ns) n h k = pick (or-cases (same n m) (any (same n) ns) h) (λ i. any-same-all p ns n i (q .1))
@@ -36,7 +37,7 @@ unfolding isExtName Computes.base Computes.faithful
 isExtName-unlettered w h = any-same-all (λ v. not (lettered 116 v)) (bytes "IPAddr" ∷ bytes "Decimal" ∷ bytes "Datetime" ∷ bytes "Duration" ∷ []) w h tt
 
 module _ (n : Bytes) (l : T (lettered 116 n)) where
-  pub mentions-namesIn : (ts : List Token) → T (mentions n ts) → T (any (same n) (namesIn ts))
+  mentions-namesIn : (ts : List Token) → T (mentions n ts) → T (any (same n) (namesIn ts))
   unfolding mentions isSymbol any namesIn
   mentions-namesIn [] h = absurd h
   mentions-namesIn (word w ∷ ts) h = pick (or-cases (same w n) (mentions n ts) h) (λ k. mentions-namesIn ts k)
@@ -58,7 +59,7 @@ module _ (n : Bytes) (l : T (lettered 116 n)) where
   mentions-afterExtName (string s ∷ ts) h = h
   mentions-afterExtName (mark c ∷ ts) h = h
 
-  pub mentions-operands : (ts : List Token) → T (mentions n ts) → T (mentions n (operands ts))
+  mentions-operands : (ts : List Token) → T (mentions n ts) → T (mentions n (operands ts))
   unfolding mentions isSymbol any operands
   mentions-operands [] h = h
   mentions-operands (word w ∷ ts) h = h
@@ -71,14 +72,12 @@ module _ (n : Bytes) (l : T (lettered 116 n)) where
 
 -- ---- the definitions of a faithful script are layered
 
-layered-snoc : (d : Definition) (ds : List Definition) → T (all (λ d′. follows d′ d) ds) → T (layered ds) → T (layered (ds ++ (d ∷ [])))
-unfolding layered all
-layered-snoc d [] h k = tt
-layered-snoc d (c ∷ ds) h k =
-    let p = and-parts (follows c d) (all (λ d′. follows d′ d) ds) h in
-    let q = and-parts (all (follows c) ds) (layered ds) k in
-    and-both (all (follows c) (ds ++ (d ∷ []))) (layered (ds ++ (d ∷ [])))
-    (all-append (follows c) ds (d ∷ []) (q .0) (and-both (follows c d) true (p .0) tt)) (layered-snoc d ds (p .1) (q .1))
+layered-snoc : (d : Definition) {ds : List Definition} → T (all (λ c. follows c d) ds) → T (not (mentions (d .0) (d .1))) → Layered ds → Layered (ds ++ (d ∷ []))
+unfolding all
+layered-snoc d h k ground = layer tt k ground
+layered-snoc d h k (layer {d = c} {ds} f o l) =
+    let p = and-parts (follows c d) (all (λ c′. follows c′ d) ds) h in
+    layer (all-append (follows c) ds (d ∷ []) f (and-both (follows c d) true (p .0) tt)) o (layered-snoc d (p .1) k l)
 
 -- a name of a term, among these
 termAmong : List Bytes → Definition → Bool
@@ -95,10 +94,15 @@ termAmong-cons n ns ds h =
 abbrev Disjoint : List Bytes → List Bytes → Type 0
 Disjoint ns ms = (n : Bytes) → T (any (same n) ns) → T (any (same n) ms) → ⊥
 
-disjoint-cons : (m : Bytes) (ns ms : List Bytes) → T (not (any (same m) ns)) → Disjoint ns ms → Disjoint ns (m ∷ ms)
+disjoint-rest : (m : Bytes) (ns ms : List Bytes) → Disjoint (m ∷ ns) ms → Disjoint ns ms
 unfolding any
-disjoint-cons m ns ms h d n i j =
-    ⊎-elim (λ e. T-not (any (same m) ns) h (subst (λ (x : Bytes). T (any (same x) ns)) (same-eq n m e) i)) (λ k. d n i k) (or-cases (same n m) (any (same n) ms) j)
+disjoint-rest m ns ms d n i j = d n (or-right (same n m) (any (same n) ns) i) j
+
+-- the first name goes over to those
+disjoint-next : (m : Bytes) (ns ms : List Bytes) → T (not (any (same m) ns)) → Disjoint (m ∷ ns) ms → Disjoint ns (m ∷ ms)
+unfolding any
+disjoint-next m ns ms h d n i j =
+    ⊎-elim (λ e. T-not (any (same m) ns) h (subst (λ (x : Bytes). T (any (same x) ns)) (same-eq n m e) i)) (λ k. disjoint-rest m ns ms d n i k) (or-cases (same n m) (any (same n) ms) j)
 
 module _ (e : Enums) (ν : Names) where
   namesOf : List Role → List Bytes
@@ -117,39 +121,49 @@ module _ (e : Enums) (ν : Names) where
       (and-both (any (same (ν .term t)) (ν .term t ∷ namesOf rs)) (lettered 116 (ν .term t)) (or-left (same (ν .term t) (ν .term t)) (any (same (ν .term t)) (namesOf rs)) (same-refl (ν .term t))) (q .0)) tt)
   definitions-among (asserts t b ∷ rs) h = definitions-among rs h
 
-  -- a body mentions no name of a later command
-  follows-definition : (t : Tm) (b : List Token) (seen ns : List Bytes) → T (not (any (same (ν .term t)) ns)) → Disjoint ns (ν .term t ∷ seen)
-      → T (all (λ n. any (same n) (ν .term t ∷ seen)) (uses e ν (defines t b))) → (d : Definition) → T (termAmong ns d) → T (follows d (ν .term t, b))
-  unfolding uses follows termAmong
-  follows-definition t b seen ns u dis o d h =
+  -- a name of a term that a body mentions stands before the definition
+  mentioned-seen : (t : Tm) (b : List Token) (seen : List Bytes) → T (all (λ n. any (same n) seen) (uses e ν (defines t b))) → (n : Bytes) → T (lettered 116 n) → T (mentions n b) → T (any (same n) seen)
+  unfolding uses
+  mentioned-seen t b seen o n l k =
+      any-same-all (λ m. any (same m) seen) (namesIn (tokens (sort ν (typeOf t))) ++ namesIn (operands b)) n
+      (any-right (same n) (namesIn (tokens (sort ν (typeOf t)))) (namesIn (operands b)) (mentions-namesIn n l (operands b) (mentions-operands n l b k))) o
+
+  -- a name of a term that does not stand before a definition is not mentioned in its body
+  unseen-unmentioned : (t : Tm) (b : List Token) (seen ns : List Bytes) → Disjoint ns seen → T (all (λ n. any (same n) seen) (uses e ν (defines t b)))
+      → (n : Bytes) → T (any (same n) ns) → T (lettered 116 n) → T (not (mentions n b))
+  unseen-unmentioned t b seen ns d o n i l = not-T (mentions n b) (λ k. d n i (mentioned-seen t b seen o n l k))
+
+  -- a later definition has another name, which the body does not mention
+  later-follows : (t : Tm) (b : List Token) (seen ns : List Bytes) → T (not (any (same (ν .term t)) ns)) → Disjoint ns seen → T (all (λ n. any (same n) seen) (uses e ν (defines t b)))
+      → (d : Definition) → T (termAmong ns d) → T (follows d (ν .term t, b))
+  unfolding follows termAmong
+  later-follows t b seen ns u dis o d h =
       let q = and-parts (any (same (d .0)) ns) (lettered 116 (d .0)) h in
       and-both (not (same (ν .term t) (d .0))) (not (mentions (d .0) b))
       (not-T (same (ν .term t) (d .0)) (λ k. T-not (any (same (ν .term t)) ns) u (subst (λ (x : Bytes). T (any (same x) ns)) (sym (same-eq (ν .term t) (d .0) k)) (q .0))))
-      (not-T (mentions (d .0) b) (λ k. dis (d .0) (q .0)
-      (any-same-all (λ n. any (same n) (ν .term t ∷ seen)) (namesIn (tokens (sort ν (typeOf t))) ++ namesIn (operands b)) (d .0)
-      (any-right (same (d .0)) (namesIn (tokens (sort ν (typeOf t)))) (namesIn (operands b)) (mentions-namesIn (d .0) (q .1) (operands b) (mentions-operands (d .0) (q .1) b k))) o)))
+      (unseen-unmentioned t b seen ns dis o (d .0) (q .0) (q .1))
 
   inOrder-parts : (seen : List Bytes) (r : Role) (rs : List Role) → T (inOrder e ν seen (r ∷ rs))
-      → T (all (λ n. any (same n) (map (nameOf ν) (named r) ++ seen)) (uses e ν r)) × T (inOrder e ν (map (nameOf ν) (named r) ++ seen) rs)
+      → T (all (λ n. any (same n) (map (nameOf ν) (own r) ++ seen)) (uses e ν r)) × T (inOrder e ν (map (nameOf ν) (named r) ++ seen) rs)
   unfolding inOrder
-  inOrder-parts seen r rs o = and-parts (all (λ n. any (same n) (map (nameOf ν) (named r) ++ seen)) (uses e ν r)) (inOrder e ν (map (nameOf ν) (named r) ++ seen) rs) o
+  inOrder-parts seen r rs o = and-parts (all (λ n. any (same n) (map (nameOf ν) (own r) ++ seen)) (uses e ν r)) (inOrder e ν (map (nameOf ν) (named r) ++ seen) rs) o
 
-  definitions-layered : (seen : List Bytes) (rs : List Role) → T (all (wellNamed ν) (things rs)) → T (unique (namesOf rs)) → Disjoint (namesOf rs) seen → T (inOrder e ν seen rs) → T (layered (definitions ν rs))
-  unfolding namesOf things named collect all any unique definitions layered nameOf
-  definitions-layered seen [] w u d o = tt
+  definitions-layered : (seen : List Bytes) (rs : List Role) → T (all (wellNamed ν) (things rs)) → T (unique (namesOf rs)) → Disjoint (namesOf rs) seen → T (inOrder e ν seen rs) → Layered (definitions ν rs)
+  unfolding namesOf things named own collect all any unique definitions nameOf wellNamed
+  definitions-layered seen [] w u d o = ground
   definitions-layered seen (declares th ∷ rs) w u d o =
       let v = and-parts (not (any (same (nameOf ν th)) (namesOf rs))) (unique (namesOf rs)) u in
       definitions-layered (nameOf ν th ∷ seen) rs (and-parts (wellNamed ν th) (all (wellNamed ν) (things rs)) w .1) (v .1)
-      (disjoint-cons (nameOf ν th) (namesOf rs) seen (v .0) (λ n i j. d n (or-right (same n (nameOf ν th)) (any (same n) (namesOf rs)) i) j))
-      (inOrder-parts seen (declares th) rs o .1)
+      (disjoint-next (nameOf ν th) (namesOf rs) seen (v .0) d) (inOrder-parts seen (declares th) rs o .1)
   definitions-layered seen (defines t b ∷ rs) w u d o =
-      let v = and-parts (not (any (same (ν .term t)) (namesOf rs))) (unique (namesOf rs)) u in
+      let n = ν .term t in
+      let v = and-parts (not (any (same n) (namesOf rs))) (unique (namesOf rs)) u in
       let p = inOrder-parts seen (defines t b) rs o in
-      let x = and-parts (wellNamed ν (term t)) (all (wellNamed ν) (things rs)) w .1 in
-      let dis = disjoint-cons (ν .term t) (namesOf rs) seen (v .0) (λ n i j. d n (or-right (same n (ν .term t)) (any (same n) (namesOf rs)) i) j) in
-      layered-snoc (ν .term t, b) (definitions ν rs)
-      (all-map (termAmong (namesOf rs)) (λ c. follows c (ν .term t, b)) (follows-definition t b seen (namesOf rs) (v .0) dis (p .0)) (definitions ν rs) (definitions-among rs x))
-      (definitions-layered (ν .term t ∷ seen) rs x (v .1) dis (p .1))
+      let x = and-parts (lettered 116 n) (all (wellNamed ν) (things rs)) w in
+      layered-snoc (n, b)
+      (all-map (termAmong (namesOf rs)) (λ c. follows c (n, b)) (later-follows t b seen (namesOf rs) (v .0) (disjoint-rest n (namesOf rs) seen d) (p .0)) (definitions ν rs) (definitions-among rs (x .1)))
+      (unseen-unmentioned t b seen (n ∷ namesOf rs) d (p .0) n (or-left (same n n) (any (same n) (namesOf rs)) (same-refl n)) (x .0))
+      (definitions-layered (n ∷ seen) rs (x .1) (v .1) (disjoint-next n (namesOf rs) seen (v .0) d) (p .1))
   definitions-layered seen (asserts t b ∷ rs) w u d o = definitions-layered seen rs w u d (inOrder-parts seen (asserts t b) rs o .1)
 
 -- the defined names of a faithful script are those of terms
@@ -159,13 +173,13 @@ says-named {e} h =
     all-map (termAmong (namesOf e (h .names) (h .roles))) (λ d. lettered 116 (d .0))
     (λ d k. and-parts (any (same (d .0)) (namesOf e (h .names) (h .roles))) (lettered 116 (d .0)) k .1) (definitions (h .names) (h .roles)) (definitions-among e (h .names) (h .roles) (h .lettering))
 
-pub says-layered : {e : Enums} {ins : List Tm} {cs : List (List Token)} (h : Says e ins cs) → T (layered (definitions (h .names) (h .roles)))
+says-layered : {e : Enums} {ins : List Tm} {cs : List (List Token)} (h : Says e ins cs) → Layered (definitions (h .names) (h .roles))
 unfolding any namesOf
 says-layered {e} h = definitions-layered e (h .names) [] (h .roles) (h .lettering) (h .unlike) (λ n i j. j) (h .order)
 
 -- ---- the result
 
--- whatever order one replaces in, a text without defined names is what `unfolded` gives
-pub one-result : {e : Enums} {ins : List Tm} {cs : List (List Token)} (h : Says e ins cs) {ts us : List Token}
-    → Steps (definitions (h .names) (h .roles)) ts us → T (finished (definitions (h .names) (h .roles)) us) → us ≡ unfolded (definitions (h .names) (h .roles)) ts
-one-result h s f = steps-unfolded (definitions (h .names) (h .roles)) (says-layered h) s f
+-- In a faithful script unfolding has one result: whatever text one starts from and in whatever order one replaces, the only text without
+-- defined names that one reaches is what `unfolded` gives.
+pub one-result : {e : Enums} {ins : List Tm} {cs : List (List Token)} (h : Says e ins cs) → Resolves (definitions (h .names) (h .roles))
+one-result h = layered-resolves (says-layered h)

@@ -1,14 +1,14 @@
--- The commands of a log are in order: each uses only its own name and names before it. By recursion on the log, the names seen being
--- those of the log; then the assertions, which use logged names.
+-- The commands of a log are in order: each uses only names before it, a declaration also its own. By recursion on the log, the names
+-- seen being those of the log; then the assertions, which use logged names.
 -- Assumes nothing.
-use mathlib.Core.Path.{_≡_, refl, ap, _∙_}
+use mathlib.Core.Path.{_≡_, refl, ap, _∙_, subst}
 use mathlib.Core.Bool.{Bool, true, false}
-use mathlib.Core.List.{List, [], _∷_, _++_, map, map-append, List·Memᴰ, List·Memᴰ·head, List·Memᴰ·tail, Memᴰ·map}
+use mathlib.Core.List.{List, [], _∷_, _++_, map, map-append, List·Memᴰ, List·Memᴰ·head, List·Memᴰ·tail, Memᴰ·map, Memᴰ·append-left, Memᴰ·append-right}
 use lib.Dec.{T}
 use Rattle.script_spec.specs.Base.{Bytes, same, any, all}
 use Rattle.script_spec.specs.Tree.{Tm, Enums, isVariable}
 use Rattle.script_spec.specs.Spelling.{Names}
-use Rattle.script_spec.specs.Faithful.{Thing, term, func, type, nameOf, Role, named, uses, inOrder, Every, every, also}
+use Rattle.script_spec.specs.Faithful.{Thing, term, func, type, nameOf, Role, named, uses, own, inOrder, Every, every, also}
 use Rattle.script_spec.proofs.Laws.{and-parts, and-both, same-refl}
 use Rattle.script_spec.proofs.Log.{HasTerm, Ordered, start, next, reversed}
 use Rattle.script_spec.proofs.Lists.{any-mem}
@@ -39,10 +39,10 @@ inOrder-append : (e : Enums) (ν : Names) (seen : List Bytes) (rs qs : List Role
 unfolding seenAfter inOrder
 inOrder-append e ν seen [] qs h k = k
 inOrder-append e ν seen (r ∷ rs) qs h k =
+    let used = all (λ n. any (same n) (map (nameOf ν) (own r) ++ seen)) (uses e ν r) in
     let now = map (nameOf ν) (named r) ++ seen in
-    let own = all (λ n. any (same n) now) (uses e ν r) in
-    let q = and-parts own (inOrder e ν now rs) h in
-    and-both own (inOrder e ν now (rs ++ qs)) (q .0) (inOrder-append e ν now rs qs (q .1) k)
+    let q = and-parts used (inOrder e ν now rs) h in
+    and-both used (inOrder e ν now (rs ++ qs)) (q .0) (inOrder-append e ν now rs qs (q .1) k)
 
 -- ---- a log's commands
 
@@ -76,26 +76,29 @@ module _ (e : Enums) (ν : Names) where
   pub known-in : {log : List Thing} (log′ : List Thing) (w : Well ν log) → ((th : Thing) → List·Memᴰ th log → List·Memᴰ th log′) → Known (logContext e ν log w (nameIn ν log′)) ν log
   known-in log′ w g = record { well = w; usable = λ th m. nameIn-mem ν log′ (g th m) }
 
-  -- what a command uses once its own name is seen
-  inOrder-one : (th : Thing) (seen : List Bytes) → T (all (λ n. any (same n) (nameOf ν th ∷ seen)) (uses e ν (role e ν th))) → T (inOrder e ν seen (role e ν th ∷ []))
+  -- a command after those of a log
+  inOrder-one : (r : Role) (log : List Thing) → T (all (nameIn ν (own r ++ log)) (uses e ν r)) → T (inOrder e ν (map (nameOf ν) log) (r ∷ []))
   unfolding inOrder
-  inOrder-one th seen h = and-both (all (λ n. any (same n) (map (nameOf ν) (named (role e ν th)) ++ seen)) (uses e ν (role e ν th))) true (rw (named-role th) h) tt
+  inOrder-one r log h =
+      and-both (all (λ n. any (same n) (map (nameOf ν) (own r) ++ map (nameOf ν) log)) (uses e ν r)) true
+      (subst (λ (ns : List Bytes). T (all (λ n. any (same n) ns) (uses e ν r))) (map-append (nameOf ν) (own r) log) h) tt
 
   inOrder-log : {log : List Thing} → Ordered e log → Well ν log → Unlike ν log → T (inOrder e ν [] (logRoles log))
   unfolding inOrder reversed Unlike
   inOrder-log start w u = tt
   inOrder-log (next {th} {log} o h n) w u =
       let w′ : Well ν log = λ x k. w x (List·Memᴰ·tail k) in
-      let f = thing-fulfils e (known-in (th ∷ log) w′ (λ x k. List·Memᴰ·tail k)) (log-unfolds e ν o w′ (u .1)) th
-      (w th (List·Memᴰ·head refl)) (nameIn-mem ν (th ∷ log) (List·Memᴰ·head refl)) n h in
+      let seen = own (role e ν th) ++ log in
+      let f = thing-fulfils e (known-in seen w′ (λ x k. Memᴰ·append-right (own (role e ν th)) k)) (log-unfolds e ν o w′ (u .1)) th
+      (w th (List·Memᴰ·head refl)) (λ x k. nameIn-mem ν seen (Memᴰ·append-left log k)) n h in
       rw (logRoles-next th log)
-      (inOrder-append e ν [] (logRoles log) (role e ν th ∷ []) (inOrder-log o w′ (u .1)) (rw (seenAfter-log log) (inOrder-one th (map (nameOf ν) log) (f .inOrder))))
+      (inOrder-append e ν [] (logRoles log) (role e ν th ∷ []) (inOrder-log o w′ (u .1)) (rw (seenAfter-log log) (inOrder-one (role e ν th) log (f .inOrder))))
 
   -- ---- assertions
 
   assertions-inOrder : (log : List Thing) (ins : List Tm) → ((t : Tm) → HasTerm e log t → T (all (nameIn ν log) (uses e ν (assertion e ν t)))) → Every (HasTerm e log) ins
       → T (inOrder e ν (map (nameOf ν) log) (map (assertion e ν) ins))
-  unfolding inOrder assertion named
+  unfolding inOrder assertion named own
   assertions-inOrder log [] f every = tt
   assertions-inOrder log (t ∷ ins) f (also h hs) =
       and-both (all (nameIn ν log) (uses e ν (assertion e ν t))) (inOrder e ν (map (nameOf ν) log) (map (assertion e ν) ins)) (f t h) (assertions-inOrder log ins f hs)

@@ -1,9 +1,9 @@
 -- The roles of the commands of a log and of its inputs. The command of each thing is well made, is the command of its role, and uses only
--- its own name and names of things logged before it. From `Declarations` and `Terms`.
+-- names of things logged before it, a declaration also its own. From `Declarations` and `Terms`.
 -- Assumes nothing.
 use mathlib.Core.Path.{_≡_, refl, sym, ap, _∙_, subst}
 use mathlib.Core.Bool.{Bool, true, false, not}
-use mathlib.Core.List.{List, [], _∷_, _++_, map, append-assoc}
+use mathlib.Core.List.{List, [], _∷_, _++_, map, append-assoc, List·Memᴰ, List·Memᴰ·head}
 use mathlib.Core.Option.{Option, none, some}
 use lib.Dec.{T}
 use Rattle.script_spec.specs.Base.{Bytes, bytes, all, isSome}
@@ -11,7 +11,7 @@ use Rattle.script_spec.specs.Tree.{Tm, TypeMark, Forest, node, children,
 use Rattle.script_spec.specs.Command.{Command, declareConst, defineFun, assertThat, exit, spelled, headed, listed, spaced}
 use Rattle.script_spec.specs.Spelling.{Names, sort, body, atom, typeDeclaration}
 use Rattle.script_spec.specs.Smtlib.{Token, word, mark, tokens}
-use Rattle.script_spec.specs.Faithful.{Thing, term, func, type, nameOf, wellNamed, datatypeNamed, Role, declares, defines, asserts, declaration, command, namesIn, operands, uses}
+use Rattle.script_spec.specs.Faithful.{Thing, term, func, type, nameOf, wellNamed, datatypeNamed, Role, declares, defines, asserts, declaration, command, namesIn, operands, uses, own}
 use Rattle.script_spec.proofs.Laws.{all-append}
 use Rattle.script_spec.proofs.Log.{commandOf, HasTypes, HasTerm, HasParts, nameable}
 use Rattle.script_spec.proofs.Reading.{space, closing, Good}
@@ -88,8 +88,12 @@ declares-fulfils : {e : Enums} {ν : Names} {c : Context} {d : Command} {th : Th
 unfolding command uses
 declares-fulfils {c} s f = record { good = f .good; fulfils = ap tokens s; inOrder = subst (λ (b : Bytes). T (all (c .allowed) (namesIn (tokens b)))) s (f .uses) }
 
--- A thing stands after a log that has its parts. The names of the log may be used, and the thing's own; the names of logged terms unfold
--- to full spellings.
+-- the name that a command may use itself is allowed
+abbrev pub OwnAllowed : Context → Names → Role → Type 0
+OwnAllowed c ν r = (th : Thing) → List·Memᴰ th (own r) → T (c .allowed (nameOf ν th))
+
+-- A thing stands after a log that has its parts. The names of the log may be used, and a declaration's own; the names of logged terms
+-- unfold to full spellings.
 module _ (e : Enums) {c : Context} {ν : Names} {log : List Thing} (kn : Known c ν log) (un : Unfolds e ν log (c .defined)) where
   define-fulfils : (t : Tm) → T (not (isVariable t)) → T (wellNamed ν (term t)) → HasParts e log (term t)
       → Fulfils e ν (c .allowed) (defineFun (ν .term t) [] (sort ν (typeOf t)) (definingBody e ν t)) (defines t (tokens (definingBody e ν t)))
@@ -106,12 +110,12 @@ module _ (e : Enums) {c : Context} {ν : Names} {log : List Thing} (kn : Known c
         inOrder = all-append (c .allowed) (namesIn (tokens (sort ν (typeOf t)))) (namesIn (operands (tokens (definingBody e ν t)))) (s .uses) (b .uses);
       }
 
-  term-fulfils : (t : Tm) (x : Bool) → isVariable t ≡ x → T (wellNamed ν (term t)) → T (c .allowed (nameOf ν (term t))) → HasParts e log (term t)
+  term-fulfils : (t : Tm) (x : Bool) → isVariable t ≡ x → T (wellNamed ν (term t)) → OwnAllowed c ν (roleBy e ν t x) → HasParts e log (term t)
       → Fulfils e ν (c .allowed)
       (elim x as (λ z. Command) [ false ↦ defineFun (ν .term t) [] (sort ν (typeOf t)) (definingBody e ν t) | true ↦ declareConst (ν .term t) (sort ν (typeOf t)) ])
       (roleBy e ν t x)
-  unfolding roleBy declaration wellNamed nameOf HasParts
-  term-fulfils t true v h u k = declares-fulfils refl (const-fit kn t h u (k .0))
+  unfolding roleBy own declaration wellNamed nameOf HasParts
+  term-fulfils t true v h u k = declares-fulfils refl (const-fit kn t h (u (term t) (List·Memᴰ·head refl)) (k .0))
   term-fulfils t false v h u k = define-fulfils t (rw v tt) h k
 
   type-fulfils : (m : TypeMark) (ts : Forest TypeMark) (o : Option Datatype) → datatype (node m ts) ≡ o → T (isSome o)
@@ -121,11 +125,11 @@ module _ (e : Enums) {c : Context} {ν : Names} {log : List Thing} (kn : Known c
   type-fulfils m ts none d n h u k = absurd n
   type-fulfils m ts (some x) d n h u k = declares-fulfils (rw (d, declaration) refl) (type-fit kn e x m ts h u k)
 
-  pub thing-fulfils : (th : Thing) → T (wellNamed ν th) → T (c .allowed (nameOf ν th)) → T (nameable e th) → HasParts e log th → Fulfils e ν (c .allowed) (commandOf e ν th) (role e ν th)
-  unfolding commandOf role definingBody declaration wellNamed nameOf nameable HasParts
+  pub thing-fulfils : (th : Thing) → T (wellNamed ν th) → OwnAllowed c ν (role e ν th) → T (nameable e th) → HasParts e log th → Fulfils e ν (c .allowed) (commandOf e ν th) (role e ν th)
+  unfolding commandOf role own definingBody declaration wellNamed nameOf nameable HasParts
   thing-fulfils (term t) h u n k = term-fulfils t (isVariable t) refl h u k
-  thing-fulfils (func (uuf id arg out)) h u n k = declares-fulfils refl (fun-fit kn id arg out h u (k .0) (k .1))
-  thing-fulfils (type (node m ts)) h u n k = type-fulfils m ts (datatype (node m ts)) refl n h u k
+  thing-fulfils (func (uuf id arg out)) h u n k = declares-fulfils refl (fun-fit kn id arg out h (u (func (uuf id arg out)) (List·Memᴰ·head refl)) (k .0) (k .1))
+  thing-fulfils (type (node m ts)) h u n k = type-fulfils m ts (datatype (node m ts)) refl n h (u (type (node m ts)) (List·Memᴰ·head refl)) k
 
   pub assertion-fulfils : (t : Tm) → HasTerm e log t → Fulfils e ν (c .allowed) (assertThat (atom e ν t)) (assertion e ν t)
   unfolding assertion uses spelled plain-computes

@@ -21,8 +21,8 @@ use Rattle.script_spec.proofs.Sorts.{Known}
 use Rattle.script_spec.proofs.Terms.{Unfolds, atom-means, definition-means}
 use Rattle.script_spec.proofs.Declarations.{option-good}
 use Rattle.script_spec.proofs.Roles.{roleBy, role, definingBody, assertion, Fulfils, thing-fulfils, assertion-fulfils}
-use Rattle.script_spec.proofs.Defined.{Well, Unlike, unlike, definitions-append, defs, definitions-log, logContext, log-unfolds}
-use Rattle.script_spec.proofs.Order.{nameIn, nameIn-mem, named-role, logRoles, known-in, roles-inOrder}
+use Rattle.script_spec.proofs.Defined.{Well, Unlike, unlike, definitions-append, defs, definitions-log, logContext, known-any, log-unfolds}
+use Rattle.script_spec.proofs.Order.{named-role, logRoles, roles-inOrder}
 
 ordered-nameable : {e : Enums} {log : List Thing} → Ordered e log → (th : Thing) → List·Memᴰ th log → T (nameable e th)
 ordered-nameable {e} (next o h n) th (List·Memᴰ·head p) = subst (λ (x : Thing). T (nameable e x)) (sym p) n
@@ -68,16 +68,16 @@ module _ (e : Enums) (ν : Names) (log : List Thing) (ins : List Tm) where
   module _ (o : Ordered e log) (w : Well ν log) (u : Unlike ν log) (h : Every (HasTerm e log) ins) where
     -- ---- commands
 
-    kn : Known (logContext e ν log w (nameIn ν log)) ν log
-    kn = known-in e ν log w (λ x m. m)
+    kn : Known (logContext e ν log w (λ n. true)) ν log
+    kn = known-any e ν log w
 
     un : Unfolds e ν log (defs e ν log)
     un = log-unfolds e ν o w u
 
-    thing-made : (th : Thing) → List·Memᴰ th log → Fulfils e ν (nameIn ν log) (commandOf e ν th) (role e ν th)
-    thing-made th m = thing-fulfils e kn un th (w th m) (nameIn-mem ν log m) (ordered-nameable o th m) (ordered-parts o th m)
+    thing-made : (th : Thing) → List·Memᴰ th log → Fulfils e ν (λ n. true) (commandOf e ν th) (role e ν th)
+    thing-made th m = thing-fulfils e kn un th (w th m) (λ x k. tt) (ordered-nameable o th m) (ordered-parts o th m)
 
-    assertion-made : (t : Tm) → List·Memᴰ t ins → Fulfils e ν (nameIn ν log) (assertThat (atom e ν t)) (assertion e ν t)
+    assertion-made : (t : Tm) → List·Memᴰ t ins → Fulfils e ν (λ n. true) (assertThat (atom e ν t)) (assertion e ν t)
     assertion-made t m = assertion-fulfils e kn un t (every-mem h m)
 
     -- the commands of the log and of the inputs
@@ -145,9 +145,3 @@ logged-says {e} {ins} {ν} {cs} {log} l =
       order = roles-inOrder e ν ins (l .ordered) w u (l .inputs);
       assertions = asserted-roles e ν log ins;
     }
-
--- the definitions by which it is shown are those of the log
-pub logged-definitions : {e : Enums} {ins : List Tm} {ν : Names} {cs : List Command} {log : List Thing} (l : Logged e ins ν cs log)
-    → definitions (logged-says l .names) (logged-says l .roles) ≡ defs e ν log
-unfolding logged-says
-logged-definitions {e} {ins} {ν} {cs} {log} l = definitions-roles e ν log ins

@@ -200,12 +200,17 @@ uses e ν (declares th) = namesIn (command e ν (declares th))
 uses e ν (defines t b) = namesIn (tokens (sort ν (typeOf t))) ++ namesIn (operands b)
 uses e ν (asserts t b) = namesIn b
 
--- each command uses only names that it or a command before it declares or defines
+-- the thing whose name a command may use though no command before it has it: the one it declares, as constructors have its name
+unfoldable pub own : Role → List Thing
+own (declares th) = th ∷ []
+own (defines t b) = []
+own (asserts t b) = []
+
+-- each command uses only names that commands before it declare or define; a declaration also uses its own
 unfoldable pub inOrder : Enums → Names → List Bytes → List Role → Bool
 inOrder e ν seen [] = true
 inOrder e ν seen (r ∷ rs) =
-    let now = map (nameOf ν) (named r) ++ seen in
-    all (λ n. any (same n) now) (uses e ν r) && inOrder e ν now rs
+    all (λ n. any (same n) (map (nameOf ν) (own r) ++ seen)) (uses e ν r) && inOrder e ν (map (nameOf ν) (named r) ++ seen) rs
 
 -- ---- demand 3
 
