@@ -41,49 +41,34 @@ every-getD [] n d k every = k
 every-getD (x ∷ xs) zero d k (also p ps) = p
 every-getD (x ∷ xs) (suc n) d k (also p ps) = every-getD xs n d k ps
 
+-- what of each kind a record names
+kinds-bare : (r : Named) → BareNamed r
+    → Every BareType (elim r [ type t ↦ t ∷ [] | enum n ms ↦ [] | func g ↦ [] | term t ↦ [] | input t ↦ [] ])
+    × Every BareFun (elim r [ type t ↦ [] | enum n ms ↦ [] | func g ↦ g ∷ [] | term t ↦ [] | input t ↦ [] ])
+    × Every BareTerm (elim r [ type t ↦ [] | enum n ms ↦ [] | func g ↦ [] | term t ↦ t ∷ [] | input t ↦ [] ])
+    × Every BareTerm (elim r [ type t ↦ [] | enum n ms ↦ [] | func g ↦ [] | term t ↦ [] | input t ↦ t ∷ [] ])
+unfolding BareNamed
+kinds-bare (type t) b = (also b every, every, every, every)
+kinds-bare (enum n ms) b = (every, every, every, every)
+kinds-bare (func g) b = (every, also b every, every, every)
+kinds-bare (term t) b = (every, every, also b every, every)
+kinds-bare (input t) b = (every, every, every, also b every)
+
 types-bare : (f : TermFile) → Every BareNamed f → Every BareType (types f)
-unfolding types BareNamed
-types-bare f bare = every-collect _ each f bare
-  where
-    each : (r : Named) → BareNamed r → Every BareType (elim r [ type t ↦ t ∷ [] | enum n ms ↦ [] | func g ↦ [] | term t ↦ [] | input t ↦ [] ])
-    each (type t) b = also b every
-    each (enum n ms) b = every
-    each (func g) b = every
-    each (term t) b = every
-    each (input t) b = every
+unfolding types
+types-bare = every-collect _ (λ r b. kinds-bare r b .0)
 
 funs-bare : (f : TermFile) → Every BareNamed f → Every BareFun (funs f)
-unfolding funs BareNamed
-funs-bare f bare = every-collect _ each f bare
-  where
-    each : (r : Named) → BareNamed r → Every BareFun (elim r [ type t ↦ [] | enum n ms ↦ [] | func g ↦ g ∷ [] | term t ↦ [] | input t ↦ [] ])
-    each (type t) b = every
-    each (enum n ms) b = every
-    each (func g) b = also b every
-    each (term t) b = every
-    each (input t) b = every
+unfolding funs
+funs-bare = every-collect _ (λ r b. kinds-bare r b .1)
 
 terms-bare : (f : TermFile) → Every BareNamed f → Every BareTerm (terms f)
-unfolding terms BareNamed
-terms-bare f bare = every-collect _ each f bare
-  where
-    each : (r : Named) → BareNamed r → Every BareTerm (elim r [ type t ↦ [] | enum n ms ↦ [] | func g ↦ [] | term t ↦ t ∷ [] | input t ↦ [] ])
-    each (type t) b = every
-    each (enum n ms) b = every
-    each (func g) b = every
-    each (term t) b = also b every
-    each (input t) b = every
+unfolding terms
+terms-bare = every-collect _ (λ r b. kinds-bare r b .2)
 
 inputs-bare : (f : TermFile) → Every BareNamed f → Every BareTerm (inputs f)
-unfolding inputs BareNamed
-inputs-bare f bare = every-collect _ each f bare
-  where
-    each : (r : Named) → BareNamed r → Every BareTerm (elim r [ type t ↦ [] | enum n ms ↦ [] | func g ↦ [] | term t ↦ [] | input t ↦ t ∷ [] ])
-    each (type t) b = every
-    each (enum n ms) b = every
-    each (func g) b = every
-    each (term t) b = every
-    each (input t) b = also b every
+unfolding inputs
+inputs-bare = every-collect _ (λ r b. kinds-bare r b .3)
 
 -- what both branches have, and what each entry of a table has
 either-way : {A : Type 0} (P : A → Type 0) (x y : A) (b : Bool) → P x → P y → P (elim b [ false ↦ x | true ↦ y ])

@@ -18,6 +18,7 @@ pub mod Log
 pub mod Logs
 pub mod Means
 pub mod Names
+pub mod Negated
 pub mod NewLog
 pub mod Numerals
 pub mod OneResult

@@ -9,13 +9,13 @@ use mathlib.Core.List.{List, [], _∷_, _++_, map, map-append, List·Memᴰ, Lis
 use mathlib.Core.Option.{Option, none, some}
 use lib.Dec.{T, eqb, T-not, not-T}
 use borrow.Author.Tests.{eq-eqb}
-use Rattle.script_spec.specs.Base.{Bytes, bytes, isSome, any, all, place, placeFrom, at, lookup, andThen, same}
+use Rattle.script_spec.specs.Base.{Bytes, bytes, isSome, any, place, placeFrom, at, lookup, andThen, same}
 use Rattle.script_spec.specs.Tree.{Forest, TypeMark, node, nil, eqTy, eqFun, eqTm, Enums, datatype, datatypeMark, entity, extension, recordOf, ExtType, IPAddr, Decimal, Datetime, Duration, Bool·, String·, Option·, Set·, BitVec·, Declared}
 use Rattle.script_spec.specs.Text.{decimal}
 use Rattle.script_spec.specs.Spelling.{Names, sort, sortFrom, datatypeSort, extName}
 use Rattle.script_spec.specs.Walk.{State, numbered, letter, typeName, names}
 use Rattle.script_spec.specs.Faithful.{Thing, term, func, type, nameOf, digitsOnly, lettered, datatypeNamed, wellNamed, unique}
-use Rattle.script_spec.proofs.Laws.{eqTy-eq, eqFun-eq, eqTm-eq, same-refl, same-eq, and-parts, and-both, or-cases, any-cases, all-append}
+use Rattle.script_spec.proofs.Laws.{eqTy-eq, eqFun-eq, eqTm-eq, same-refl, same-eq, and-parts, and-both, or-cases, any-cases, any-place}
 use Rattle.script_spec.proofs.Log.{nameable, reversed}
 use Rattle.script_spec.proofs.Lists.{mem-reversed}
 use Rattle.script_spec.proofs.Invariant.{Tabled, Distinct}
@@ -115,21 +115,9 @@ nameOf-injective e s a b ta tb na nb la lb p =
 
 -- ---- letters and digits
 
-lettered-numbered : (l : ℕ) (o : Option ℕ) → T (isSome o) → T (lettered l (numbered (l ∷ []) o))
-unfolding lettered numbered isSome
-lettered-numbered l none h = absurd h
-lettered-numbered l (some n) h = and-both (eqb l l) (digitsOnly (decimal n)) (rw (eq-eqb l l refl) tt) (decimal-digitsOnly n)
-
-module _ {A : Type 0} (p : A → Bool) where
-  any-place : (xs : List A) → T (any p xs) → T (isSome (place p xs))
-  unfolding any place placeFrom isSome
-  any-place [] h = absurd h
-  any-place (x ∷ xs) h = go (p x) (place p xs) h (λ k. any-place xs k)
-    where
-      go : (b : Bool) (o : Option ℕ) → T (b || any p xs) → (T (any p xs) → T (isSome o)) → T (isSome (placeFrom b o))
-      go true o k ih = tt
-      go false none k ih = ih k
-      go false (some n) k ih = tt
+lettered-numbered : (l : ℕ) (o : Option ℕ) → (n : ℕ) × (o ≡ some n) → T (lettered l (numbered (l ∷ []) o))
+unfolding lettered numbered
+lettered-numbered l o r = rw (r .1) (and-both (eqb l l) (digitsOnly (decimal (r .0))) (rw (eq-eqb l l refl) tt) (decimal-digitsOnly (r .0)))
 
 pub nameOf-wellNamed : (e : Enums) (s : State) (th : Thing) → Tabled s th → T (nameable e th) → T (wellNamed (names s) th)
 unfolding wellNamed datatypeNamed names typeName letter bytes Tabled nameable sort sortFrom datatypeSort datatype datatypeMark isSome
@@ -179,9 +167,3 @@ unique-names ν (th ∷ log) d inj =
     let k = mem-reversed (r .0) log (r .1) in
     let q : r .0 ≡ th = inj (r .0) th (List·Memᴰ·tail k) (List·Memᴰ·head refl) (sym (r .2) ∙ p) in
     d .0 (Memᴰ·cast (sym q) k)))
-
--- a test of each thing of a log
-pub all-reversed : {A : Type 0} (p : A → Bool) (xs : List A) → ((a : A) → List·Memᴰ a xs → T (p a)) → T (all p (reversed xs))
-unfolding all reversed
-all-reversed p [] h = tt
-all-reversed p (x ∷ xs) h = all-append p (reversed xs) (x ∷ []) (all-reversed p xs (λ a m. h a (List·Memᴰ·tail m))) (and-both (p x) true (h x (List·Memᴰ·head refl)) tt)

@@ -1,4 +1,4 @@
--- What the characters of numerals are: a decimal numeral has decimal digits only. By recursion on the fuel, which suffices.
+-- What the characters of numerals are: a decimal numeral has decimal digits only. By the last digit.
 -- Assumes nothing.
 use Prim.Native.Nat.{ℕ, zero, suc, _/_, _%_, _≤_, _<_}
 use mathlib.Core.Path.{_≡_, refl, sym, subst}
@@ -20,22 +20,29 @@ getD-all p [] i k h = absurd (omega arith)
 getD-all p (b ∷ t) zero k h = and-parts (p b) (all p t) h .0
 getD-all p (b ∷ t) (suc i) k h = getD-all p t i (omega arith) (and-parts (p b) (all p t) h .1)
 
+-- What holds of a number n, the bytes after its numeral and the whole, by the last digit: where n is below the base, and where it holds
+-- of n / base with the last digit among the bytes after. The fuel suffices.
+pub digits-by : (base : ℕ) → 1 < base → (P : ℕ → Bytes → Bytes → Type 0) → ((n : ℕ) (s : Bytes) → n < base → P n s (digit n ∷ s))
+    → ((n : ℕ) (s r : Bytes) → P (n / base) (digit (n % base) ∷ s) r → P n s r) → (f n : ℕ) (s : Bytes) → n ≤ f → P n s (digits f base n s)
+unfolding digits
+digits-by base large P one more zero n s k = one n s (omega arith)
+digits-by base large P one more (suc f) n s k = go (ltb n base) refl (λ m. digits-by base large P one more f (n / base) (digit (n % base) ∷ s) m)
+  where
+    go : (t : Bool) → ltb n base ≡ t → (n / base ≤ f → P (n / base) (digit (n % base) ∷ s) (digits f base (n / base) (digit (n % base) ∷ s)))
+        → P n s (elim t as (λ z. Bytes) [ false ↦ digits f base (n / base) (digit (n % base) ∷ s) | true ↦ digit n ∷ s ])
+    go true e below = one n s (ltb-true n base e)
+    go false e below = more n s _ (below (let m : n / base < n = div-lt-self (omega (arith, ltb-false n base e)) large in omega arith))
+
 -- what holds of each digit of a base holds of the digits of a number
-module _ (p : ℕ → Bool) (base : ℕ) (large : 1 < base) (each : (i : ℕ) → i < base → T (p (digit i))) where
-  digits-all : (f n : ℕ) (s : Bytes) → n ≤ f → T (all p s) → T (all p (digits f base n s))
-  unfolding digits all
-  digits-all zero n s k h = and-both (p (digit n)) (all p s) (each n (omega arith)) h
-  digits-all (suc f) n s k h =
-      go (ltb n base) refl (λ m. digits-all f (n / base) (digit (n % base) ∷ s) m (and-both (p (digit (n % base))) (all p s) (each (n % base) (mod-lt n (omega arith))) h))
-    where
-      go : (t : Bool) → ltb n base ≡ t → (n / base ≤ f → T (all p (digits f base (n / base) (digit (n % base) ∷ s))))
-          → T (all p (elim t as (λ z. Bytes) [ false ↦ digits f base (n / base) (digit (n % base) ∷ s) | true ↦ digit n ∷ s ]))
-      go true e below = and-both (p (digit n)) (all p s) (each n (ltb-true n base e)) h
-      go false e below = below (let m : n / base < n = div-lt-self (omega (arith, ltb-false n base e)) large in omega arith)
+digits-all : (p : ℕ → Bool) (base : ℕ) → 1 < base → ((i : ℕ) → i < base → T (p (digit i))) → (n : ℕ) → T (all p (digits n base n []))
+unfolding all
+digits-all p base large each n =
+    digits-by base large (λ m s r. T (all p s) → T (all p r)) (λ m s k h. and-both (p (digit m)) (all p s) (each m k) h)
+    (λ m s r later h. later (and-both (p (digit (m % base))) (all p s) (each (m % base) (mod-lt m (omega arith))) h)) n n [] (omega arith) tt
 
 pub hex-all : (p : ℕ → Bool) → T (all p (bytes "0123456789abcdef")) → (n : ℕ) → T (all p (hex n))
 unfolding hex digit Computes.base
-hex-all p h n = digits-all p 16 (lit< tt) (λ i k. getD-all p (bytes "0123456789abcdef") i k h) n n [] (omega arith) tt
+hex-all p h n = digits-all p 16 (lit< tt) (λ i k. getD-all p (bytes "0123456789abcdef") i k h) n
 
 -- a decimal digit
 unfoldable pub isDigit : ℕ → Bool
@@ -45,7 +52,7 @@ pub decimal-digits : (n : ℕ) → T (all isDigit (decimal n))
 unfolding decimal digit isDigit Computes.base
 decimal-digits n =
     digits-all isDigit 10 (lit< tt)
-    (λ i k. subst (λ (b : ℕ). T (isDigit b)) (sym (List·getD-append (bytes "0123456789") (bytes "abcdef") 0 i k)) (getD-all isDigit (bytes "0123456789") i k tt)) n n [] (omega arith) tt
+    (λ i k. subst (λ (b : ℕ). T (isDigit b)) (sym (List·getD-append (bytes "0123456789") (bytes "abcdef") 0 i k)) (getD-all isDigit (bytes "0123456789") i k tt)) n
 
 -- a digit is no other byte
 pub digit-unlike : (b c : ℕ) → T (isDigit b) → T (not (isDigit c)) → eqb b c ≡ false

@@ -2,18 +2,18 @@
 -- seen being those of the log; then the assertions, which use logged names.
 -- Assumes nothing.
 use mathlib.Core.Path.{_≡_, refl, ap, _∙_, subst}
-use mathlib.Core.Bool.{Bool, true, false}
+use mathlib.Core.Bool.{Bool, true}
 use mathlib.Core.List.{List, [], _∷_, _++_, map, map-append, List·Memᴰ, List·Memᴰ·head, List·Memᴰ·tail, Memᴰ·map, Memᴰ·append-left, Memᴰ·append-right}
 use lib.Dec.{T}
 use Rattle.script_spec.specs.Base.{Bytes, same, any, all}
-use Rattle.script_spec.specs.Tree.{Tm, Enums, isVariable}
+use Rattle.script_spec.specs.Tree.{Tm, Enums}
 use Rattle.script_spec.specs.Spelling.{Names}
-use Rattle.script_spec.specs.Faithful.{Thing, term, func, type, nameOf, Role, named, uses, own, inOrder, Every, every, also}
+use Rattle.script_spec.specs.Faithful.{Thing, nameOf, Role, named, uses, own, inOrder, Every, every, also}
 use Rattle.script_spec.proofs.Laws.{and-parts, and-both, same-refl}
 use Rattle.script_spec.proofs.Log.{HasTerm, Ordered, start, next, reversed}
 use Rattle.script_spec.proofs.Lists.{any-mem}
 use Rattle.script_spec.proofs.Sorts.{Known}
-use Rattle.script_spec.proofs.Roles.{roleBy, role, assertion, thing-fulfils, assertion-fulfils}
+use Rattle.script_spec.proofs.Roles.{role, role-by, assertion, thing-fulfils, assertion-fulfils}
 use Rattle.script_spec.proofs.Defined.{Well, Unlike, logContext, log-unfolds}
 
 -- ---- names seen
@@ -49,14 +49,8 @@ inOrder-append e ν seen (r ∷ rs) qs h k =
 module _ (e : Enums) (ν : Names) where
   -- a thing's command names the thing
   pub named-role : (th : Thing) → named (role e ν th) ≡ th ∷ []
-  unfolding roleBy role named
-  named-role (term t) = go (isVariable t)
-    where
-      go : (x : Bool) → named (roleBy e ν t x) ≡ term t ∷ []
-      go true = refl
-      go false = refl
-  named-role (func f) = refl
-  named-role (type ty) = refl
+  unfolding named
+  named-role = role-by (λ th r. named r ≡ th ∷ []) (λ th. refl) (λ t b. refl) e ν
 
   -- the roles of a log's commands
   abbrev pub logRoles : List Thing → List Role

@@ -40,6 +40,17 @@ role e ν (term t) = roleBy e ν t (isVariable t)
 role e ν (func f) = declares (func f)
 role e ν (type ty) = declares (type ty)
 
+-- what holds of declarations and of definitions holds of the role of a thing's command
+pub role-by : (P : Thing → Role → Type 0) → ((th : Thing) → P th (declares th)) → ((t : Tm) (b : List Token) → P (term t) (defines t b)) → (e : Enums) (ν : Names) (th : Thing) → P th (role e ν th)
+unfolding role roleBy
+role-by P declared defined e ν (term t) = go (isVariable t)
+  where
+    go : (x : Bool) → P (term t) (roleBy e ν t x)
+    go true = declared (term t)
+    go false = defined t (tokens (definingBody e ν t))
+role-by P declared defined e ν (func f) = declared (func f)
+role-by P declared defined e ν (type ty) = declared (type ty)
+
 -- the role of an input's assertion
 unfoldable pub assertion : Enums → Names → Tm → Role
 assertion e ν t = asserts t (tokens (atom e ν t))
