@@ -11,16 +11,16 @@ use borrow.Author.Tests.{lt-ltb, le-ltb}
 use Rattle.script_spec.specs.Base.{Bytes}
 use Rattle.script_spec.specs.Text.{digit, digits, decimal}
 
+-- a number of one digit
+pub digits-one : (base f n : ℕ) (rest : Bytes) → n < base → digits f base n rest ≡ digit n ∷ rest
+unfolding digits
+digits-one base zero n rest h = refl
+digits-one base (suc f) n rest h = rw (lt-ltb n base h, digits)
+
 module _ (base : ℕ) (two : 2 ≤ base) where
   -- a quotient is smaller
   quotient-le : (n f : ℕ) → base ≤ n → n ≤ suc f → n / base ≤ f
   quotient-le n f h g = le-of-suc-le-suc (lt-of-lt-of-le (div-lt-self (omega arith) two) g)
-
-  -- a number of one digit
-  pub digits-one : (f n : ℕ) (rest : Bytes) → n < base → digits f base n rest ≡ digit n ∷ rest
-  unfolding digits
-  digits-one zero n rest h = refl
-  digits-one (suc f) n rest h = rw (lt-ltb n base h, digits)
 
   digits-suc : (f n : ℕ) (rest : Bytes) → base ≤ n → digits (suc f) base n rest ≡ digits f base (n / base) (digit (n % base) ∷ rest)
   unfolding digits
@@ -29,14 +29,14 @@ module _ (base : ℕ) (two : 2 ≤ base) where
   -- any number of digits that is large enough serves
   digits-enough : (f g n : ℕ) (rest : Bytes) → n ≤ f → n ≤ g → digits f base n rest ≡ digits g base n rest
   digits-enough zero zero n rest h k = refl
-  digits-enough zero (suc g) n rest h k = let b : n < base = omega arith in digits-one zero n rest b ∙ sym (digits-one (suc g) n rest b)
-  digits-enough (suc f) zero n rest h k = let b : n < base = omega arith in digits-one (suc f) n rest b ∙ sym (digits-one zero n rest b)
+  digits-enough zero (suc g) n rest h k = let b : n < base = omega arith in digits-one base zero n rest b ∙ sym (digits-one base (suc g) n rest b)
+  digits-enough (suc f) zero n rest h k = let b : n < base = omega arith in digits-one base (suc f) n rest b ∙ sym (digits-one base zero n rest b)
   digits-enough (suc f) (suc g) n rest h k =
       go (λ m. digits-enough f g (n / base) (digit (n % base) ∷ rest) (quotient-le n f m h) (quotient-le n g m k)) (decLt n base)
     where
       go : (base ≤ n → digits f base (n / base) (digit (n % base) ∷ rest) ≡ digits g base (n / base) (digit (n % base) ∷ rest))
           → Dec (n < base) → digits (suc f) base n rest ≡ digits (suc g) base n rest
-      go less (yes b) = digits-one (suc f) n rest b ∙ sym (digits-one (suc g) n rest b)
+      go less (yes b) = digits-one base (suc f) n rest b ∙ sym (digits-one base (suc g) n rest b)
       go less (no b) = let m : base ≤ n = omega arith in digits-suc f n rest m ∙ less m ∙ sym (digits-suc g n rest m)
 
   -- what stands after the digits
@@ -47,7 +47,7 @@ module _ (base : ℕ) (two : 2 ≤ base) where
     where
       go : ((r : Bytes) → digits f base (n / base) r ≡ digits f base (n / base) [] ++ r)
           → Dec (n < base) → digits (suc f) base n rest ≡ digits (suc f) base n [] ++ rest
-      go less (yes b) = digits-one (suc f) n rest b ∙ ap (λ (s : Bytes). s ++ rest) (sym (digits-one (suc f) n [] b))
+      go less (yes b) = digits-one base (suc f) n rest b ∙ ap (λ (s : Bytes). s ++ rest) (sym (digits-one base (suc f) n [] b))
       go less (no b) =
           let m : base ≤ n = omega arith in
           let d = digit (n % base) in
@@ -63,7 +63,7 @@ module _ (base : ℕ) (two : 2 ≤ base) where
 
 pub decimal-one : (n : ℕ) → n < 10 → decimal n ≡ digit n ∷ []
 unfolding decimal
-decimal-one n h = digits-one 10 (lit≤ tt) n n [] h
+decimal-one n h = digits-one 10 n n [] h
 
 pub decimal-more : (n : ℕ) → 10 ≤ n → decimal n ≡ decimal (n / 10) ++ (digit (n % 10) ∷ [])
 unfolding decimal
