@@ -1,12 +1,13 @@
 -- What the walk keeps true of its tables and commands and of a log: the invariant, and that entering a thing keeps it.
 -- Assumes nothing.
+use Prim.Native.Nat.{ℕ}
 use mathlib.Core.Path.{_≡_, refl, sym, ap, ap₂, _∙_, subst}
 use mathlib.Core.Logic.{_⊎_, inl, inr}
 use mathlib.Core.Bool.{Bool}
 use mathlib.Core.List.{List, [], _∷_, _++_, map, append-nil, List·Memᴰ, map-append, List·Memᴰ·head, List·Memᴰ·tail, List·Memᴰ·not-nil, List·Memᴰ·cases-cons}
 use mathlib.Core.Option.{Option, none, some}
 use lib.Dec.{T}
-use Rattle.script_spec.specs.Base.{Bytes, bytes, any, place, collect}
+use Rattle.script_spec.specs.Base.{Bytes, bytes, any, place, isSome, collect}
 use Rattle.script_spec.specs.Tree.{Ty, Fun, Tm, eqTy, eqFun, eqTm, Enums, Datatype, datatype}
 use Rattle.script_spec.specs.Command.{Command}
 use Rattle.script_spec.specs.Spelling.{Names, optionDeclaration}
@@ -34,7 +35,12 @@ pub record Extends (s s′ : State) : Type 0 where
   pub types : (ty : Ty) → Tabled s (type ty) → names s′ .type ty ≡ names s .type ty
 
 place-kept : {A : Type 0} (p : A → Bool) (xs ys : List A) → T (any p xs) → place p (xs ++ ys) ≡ place p xs
-place-kept p xs ys h = let r = any-place p xs h in place-append p xs ys (r .0) (r .1) ∙ sym (r .1)
+unfolding isSome
+place-kept p xs ys h = go (place p xs) refl (subst T (any-place p xs) h)
+  where
+    go : (o : Option ℕ) → place p xs ≡ o → T (isSome o) → place p (xs ++ ys) ≡ place p xs
+    go none e k = absurd k
+    go (some n) e k = place-append p xs ys n e ∙ sym e
 
 -- tables with more entries
 pub extends : (s s′ : State) (tys : List Ty) (fs : List Fun) (ts : List Tm)

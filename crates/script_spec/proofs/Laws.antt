@@ -1,14 +1,14 @@
 -- Laws of the tests and list functions of `Base`, and of the equality tests of `Tree`: by cases and by recursion on a list.
 -- Assumes nothing.
-use Prim.Native.Nat.{ℕ, zero, suc}
-use mathlib.Core.Path.{_≡_, refl, sym, ap}
+use Prim.Native.Nat.{ℕ}
+use mathlib.Core.Path.{_≡_, refl, sym}
 use mathlib.Core.Logic.{_⊎_, inl, inr}
 use mathlib.Core.Bool.{Bool, true, false, not, _&&_, _||_}
 use mathlib.Core.List.{List, [], _∷_, _++_, append-assoc}
 use mathlib.Core.Option.{Option, none, some, Option·none-ne-some}
 use lib.Dec.{T, eqb, eqb→eq}
 use borrow.Author.Tests.{eq-eqb}
-use Rattle.script_spec.specs.Base.{Bytes, isYes, same, any, all, place, placeFrom, collect}
+use Rattle.script_spec.specs.Base.{Bytes, isYes, same, any, all, place, placeFrom, collect, isSome}
 use Rattle.script_spec.specs.Tree.{Ty, Fun, Tm, eqTy, eqFun, eqTm, tyDec, funDec, tmDec}
 
 -- ---- Booleans
@@ -95,15 +95,16 @@ unfolding place
 place-append p [] ys n h = absurd (Option·none-ne-some n h)
 place-append p (x ∷ xs) ys n h = placeFrom-some (p x) (place p xs) (place p (xs ++ ys)) (λ m e. place-append p xs ys m e) n h
 
--- a table has a place for each of its entries
-pub any-place : {A : Type 0} (p : A → Bool) (xs : List A) → T (any p xs) → (n : ℕ) × (place p xs ≡ some n)
-unfolding any place placeFrom
-any-place p [] h = absurd h
-any-place p (x ∷ xs) h = go (p x) h (λ k. any-place p xs k)
+-- some element passes exactly where there is a place
+pub any-place : {A : Type 0} (p : A → Bool) (xs : List A) → any p xs ≡ isSome (place p xs)
+unfolding any place placeFrom isSome
+any-place p [] = refl
+any-place p (x ∷ xs) = go (p x) (place p xs) (any-place p xs)
   where
-    go : (b : Bool) → T (b || any p xs) → (T (any p xs) → (n : ℕ) × (place p xs ≡ some n)) → (n : ℕ) × (placeFrom b (place p xs) ≡ some n)
-    go true k later = (zero, refl)
-    go false k later = let r = later k in (suc (r .0), ap (placeFrom false) (r .1))
+    go : (b : Bool) (o : Option ℕ) → any p xs ≡ isSome o → (b || any p xs) ≡ isSome (placeFrom b o)
+    go true o e = refl
+    go false none e = e
+    go false (some n) e = e
 
 -- ---- equality tests
 

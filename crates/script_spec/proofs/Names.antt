@@ -115,22 +115,26 @@ nameOf-injective e s a b ta tb na nb la lb p =
 
 -- ---- letters and digits
 
-lettered-numbered : (l : ℕ) (o : Option ℕ) → (n : ℕ) × (o ≡ some n) → T (lettered l (numbered (l ∷ []) o))
-unfolding lettered numbered
-lettered-numbered l o r = rw (r .1) (and-both (eqb l l) (digitsOnly (decimal (r .0))) (rw (eq-eqb l l refl) tt) (decimal-digitsOnly (r .0)))
+lettered-some : (l : ℕ) (o : Option ℕ) → T (isSome o) → T (lettered l (numbered (l ∷ []) o))
+unfolding lettered numbered isSome
+lettered-some l none h = absurd h
+lettered-some l (some n) h = and-both (eqb l l) (digitsOnly (decimal n)) (rw (eq-eqb l l refl) tt) (decimal-digitsOnly n)
+
+lettered-place : {A : Type 0} (l : ℕ) (p : A → Bool) (xs : List A) → T (any p xs) → T (lettered l (numbered (l ∷ []) (place p xs)))
+lettered-place l p xs h = lettered-some l (place p xs) (subst T (any-place p xs) h)
 
 pub nameOf-wellNamed : (e : Enums) (s : State) (th : Thing) → Tabled s th → T (nameable e th) → T (wellNamed (names s) th)
 unfolding wellNamed datatypeNamed names typeName letter bytes Tabled nameable sort sortFrom datatypeSort datatype datatypeMark isSome
-nameOf-wellNamed e s (term t) h n = lettered-numbered 116 (place (eqTm t) (s .terms)) (any-place (eqTm t) (s .terms) h)
-nameOf-wellNamed e s (func f) h n = lettered-numbered 102 (place (eqFun f) (s .funs)) (any-place (eqFun f) (s .funs) h)
+nameOf-wellNamed e s (term t) h n = lettered-place 116 (eqTm t) (s .terms) h
+nameOf-wellNamed e s (func f) h n = lettered-place 102 (eqFun f) (s .funs) h
 nameOf-wellNamed e s (type (node Bool· ts)) h n = absurd n
 nameOf-wellNamed e s (type (node String· ts)) h n = absurd n
 nameOf-wellNamed e s (type (node Option· ts)) h n = absurd n
 nameOf-wellNamed e s (type (node Set· ts)) h n = absurd n
 nameOf-wellNamed e s (type (node (BitVec· k) ts)) h n = absurd n
-nameOf-wellNamed e s (type (node (Declared (entity name)) ts)) h n = let t = node (Declared (entity name)) ts in lettered-numbered 69 (place (eqTy t) (s .types)) (any-place (eqTy t) (s .types) h)
+nameOf-wellNamed e s (type (node (Declared (entity name)) ts)) h n = let t = node (Declared (entity name)) ts in lettered-place 69 (eqTy t) (s .types) h
 nameOf-wellNamed e s (type (node (Declared (extension x)) ts)) h n = same-refl (extName x)
-nameOf-wellNamed e s (type (node (Declared (recordOf names)) ts)) h n = let t = node (Declared (recordOf names)) ts in lettered-numbered 82 (place (eqTy t) (s .types)) (any-place (eqTy t) (s .types) h)
+nameOf-wellNamed e s (type (node (Declared (recordOf names)) ts)) h n = let t = node (Declared (recordOf names)) ts in lettered-place 82 (eqTy t) (s .types) h
 
 -- ---- lists of names
 
