@@ -3,8 +3,8 @@
 -- Assumes nothing.
 use Prim.Native.Nat.{ℕ}
 use mathlib.Core.Path.{_≡_, refl, ap, _∙_}
-use mathlib.Core.Bool.{Bool, false, not, _&&_}
-use mathlib.Core.List.{List, [], _∷_, _++_, append-assoc}
+use mathlib.Core.Bool.{Bool, true, false, not, _&&_}
+use mathlib.Core.List.{List, [], _∷_, _++_, map, append-assoc}
 use mathlib.Core.Option.{Option, none, some}
 use lib.Dec.{T}
 use Rattle.script_spec.specs.Base.{Bytes, bytes, all, any, empty}
@@ -12,7 +12,7 @@ use Rattle.script_spec.specs.Tree.{Ty, Tm, typeOf, uuf, Enums, Datatype, entity
 use Rattle.script_spec.specs.Command.{spelled, listed}
 use Rattle.script_spec.specs.Spelling.{Names, sort, extName, typeDeclaration}
 use Rattle.script_spec.specs.Smtlib.{Token, word, mark, tokens}
-use Rattle.script_spec.specs.Faithful.{Thing, term, func, type, nameOf, wellNamed, datatypeNamed, lettered, declares, defines, asserts, command, namesIn, operands, uses}
+use Rattle.script_spec.specs.Faithful.{Thing, term, func, type, nameOf, wellNamed, datatypeNamed, lettered, Role, declares, defines, asserts, command, named, definitions, uses, own}
 use Rattle.script_spec.proofs.Computes
 use Rattle.script_spec.proofs.Laws.{and-parts, same-eq}
 use Rattle.script_spec.proofs.Reading.{space}
@@ -74,47 +74,51 @@ withoutLast-snoc [] t = refl
 withoutLast-snoc (u ∷ []) t = refl
 withoutLast-snoc (u ∷ v ∷ ts) t = ap (λ (l : List Token). u ∷ l) (withoutLast-snoc (v ∷ ts) t)
 
+-- the body that a command asserts
+unfoldable pub assertedBody : Role → List (List Token)
+assertedBody (declares th) = []
+assertedBody (defines t b) = []
+assertedBody (asserts t b) = b ∷ []
+
 -- the command of a definition of sort Bool
 defineBool : Bytes → List Token → List Token
 defineBool n b =
     mark 40 ∷ word (bytes "define-fun") ∷ mark 32 ∷ word n ∷ mark 32 ∷ mark 40 ∷ mark 41 ∷ mark 32 ∷ word (bytes "Bool") ∷ mark 32
     ∷ (b ++ (mark 41 ∷ []))
 
-defineBool-definition : (n : Bytes) (b : List Token) → definitionRead (defineBool n b) ≡ (n, b) ∷ []
-unfolding defineBool Readings.computes Computes.base
-defineBool-definition n b = rw (withoutLast-snoc b (mark 41)) refl
+-- a role whose things are well named
+abbrev pub WellNamed : Names → Role → Type 0
+WellNamed ν r = T (all (wellNamed ν) (named r))
 
-defineBool-uses : (n : Bytes) (b : List Token) → usesRead (defineBool n b) ≡ namesIn (operands b)
-unfolding defineBool Readings.computes Computes.base
-defineBool-uses n b = rw (withoutLast-snoc b (mark 41)) refl
+-- a role that defines, if it does, by the sort Bool
+unfoldable pub DefinesBool : Names → Role → Type 0
+DefinesBool ν (declares th) = Unit {0}
+DefinesBool ν (defines t b) = sort ν (typeOf t) ≡ bytes "Bool"
+DefinesBool ν (asserts t b) = Unit {0}
 
--- a command that is neither an assertion nor a definition
-pub record Declaration (c : List Token) : Type 0 where
-  pub assertion : assertionRead c ≡ []
-  pub definition : definitionRead c ≡ []
-  pub uses : usesRead c ≡ namesIn c
-  pub own : ownRead c ≡ nameRead c
-
-declaration-kind : (c : List Token) → isAssertion c ≡ false → isDefinition c ≡ false → Declaration c
-unfolding assertionRead definitionRead usesRead ownRead
-declaration-kind c a d = record { assertion = rw (a, assertionRead); definition = rw (d, definitionRead); uses = rw (a, d, usesRead); own = rw (d, ownRead) }
+wellNamed-one : (ν : Names) (th : Thing) → T (all (wellNamed ν) (th ∷ [])) → T (wellNamed ν th)
+unfolding all
+wellNamed-one ν th h = and-parts (wellNamed ν th) true h .0
 
 module _ (e : Enums) (ν : Names) where
+  -- ---- declarations
+
   -- the command that declares a type which is this datatype, if it is one
   declares-type : Ty → Option Datatype → List Token
   declares-type ty o = tokens (elim o [ none ↦ [] | some d ↦ spelled (typeDeclaration e ν d ty) ])
 
-  pub declares-kind : (th : Thing) → Declaration (command e ν (declares th))
+  -- a declaration is neither an assertion nor a definition
+  declares-kind : (th : Thing) → (isAssertion (command e ν (declares th)) ≡ false) × (isDefinition (command e ν (declares th)) ≡ false)
   unfolding Readings.computes Computes.base Computes.command Computes.spelling Computes.smtlib Computes.faithful declares-type
-  declares-kind (term t) = declaration-kind (command e ν (declares (term t))) refl refl
-  declares-kind (func (uuf id arg out)) = declaration-kind (command e ν (declares (func (uuf id arg out)))) refl refl
+  declares-kind (term t) = (refl, refl)
+  declares-kind (func (uuf id arg out)) = (refl, refl)
   declares-kind (type ty) = go (datatype ty)
     where
-      go : (o : Option Datatype) → Declaration (declares-type ty o)
-      go none = declaration-kind [] refl refl
-      go (some d) = declaration-kind (declares-type ty (some d)) refl refl
+      go : (o : Option Datatype) → (isAssertion (declares-type ty o) ≡ false) × (isDefinition (declares-type ty o) ≡ false)
+      go none = (refl, refl)
+      go (some d) = (refl, refl)
 
-  pub declares-name : (th : Thing) → T (wellNamed ν th) → nameRead (command e ν (declares th)) ≡ nameOf ν th ∷ []
+  declares-name : (th : Thing) → T (wellNamed ν th) → nameRead (command e ν (declares th)) ≡ nameOf ν th ∷ []
   unfolding Readings.computes Computes.base Computes.command Computes.spelling Computes.smtlib Computes.faithful declares-type
   declares-name (term t) h = ap (λ (w : Bytes). w ∷ []) (first-word (ν .term t) (sort ν (typeOf t)) (wellNamed-isWord ν (term t) h))
   declares-name (func (uuf id arg out)) h =
@@ -125,46 +129,44 @@ module _ (e : Enums) (ν : Names) where
       go none k = absurd k
       go (some d) k = ap (λ (w : Bytes). w ∷ []) (first-word (sort ν ty) _ (datatypeNamed-isWord (sort ν ty) (some d) k))
 
-  module _ (t : Tm) (b : List Token) where
-    pub defines-name : T (wellNamed ν (term t)) → nameRead (command e ν (defines t b)) ≡ nameOf ν (term t) ∷ []
-    unfolding Readings.computes Computes.base Computes.smtlib Computes.faithful
-    defines-name h = rw (word-tokens (ν .term t) (40 ∷ 41 ∷ 32 ∷ (sort ν (typeOf t) ++ (32 ∷ []))) (wellNamed-isWord ν (term t) h)) refl
+  -- ---- definitions
 
-    pub defines-own : ownRead (command e ν (defines t b)) ≡ []
-    unfolding Readings.computes Computes.base Computes.smtlib command
-    defines-own = refl
+  defines-name : (t : Tm) (b : List Token) → T (wellNamed ν (term t)) → nameRead (command e ν (defines t b)) ≡ nameOf ν (term t) ∷ []
+  unfolding Readings.computes Computes.base Computes.smtlib Computes.faithful
+  defines-name t b h = rw (word-tokens (ν .term t) (40 ∷ 41 ∷ 32 ∷ (sort ν (typeOf t) ++ (32 ∷ []))) (wellNamed-isWord ν (term t) h)) refl
 
-    pub defines-assertion : assertionRead (command e ν (defines t b)) ≡ []
-    unfolding Readings.computes Computes.base Computes.smtlib command
-    defines-assertion = refl
+  defines-Bool : (t : Tm) (b : List Token) → T (wellNamed ν (term t)) → sort ν (typeOf t) ≡ bytes "Bool" → command e ν (defines t b) ≡ defineBool (ν .term t) b
+  unfolding Computes.base Computes.smtlib Computes.faithful defineBool
+  defines-Bool t b h k = rw (k, word-tokens (ν .term t) (40 ∷ 41 ∷ 32 ∷ (bytes "Bool" ++ (32 ∷ []))) (wellNamed-isWord ν (term t) h)) refl
 
-    defines-Bool : T (wellNamed ν (term t)) → sort ν (typeOf t) ≡ bytes "Bool" → command e ν (defines t b) ≡ defineBool (ν .term t) b
-    unfolding Computes.base Computes.smtlib Computes.faithful defineBool
-    defines-Bool h k = rw (k, word-tokens (ν .term t) (40 ∷ 41 ∷ 32 ∷ (bytes "Bool" ++ (32 ∷ []))) (wellNamed-isWord ν (term t) h)) refl
+  -- ---- each role
 
-    pub defines-definition : T (wellNamed ν (term t)) → sort ν (typeOf t) ≡ bytes "Bool" → definitionRead (command e ν (defines t b)) ≡ (ν .term t, b) ∷ []
-    defines-definition h k = rw (defines-Bool h k) (defineBool-definition (ν .term t) b)
+  pub role-name : (r : Role) → WellNamed ν r → nameRead (command e ν r) ≡ map (nameOf ν) (named r)
+  unfolding Readings.computes Computes.base Computes.smtlib named command
+  role-name (declares th) h = declares-name th (wellNamed-one ν th h)
+  role-name (defines t b) h = defines-name t b (wellNamed-one ν (term t) h)
+  role-name (asserts t b) h = refl
 
-    pub defines-uses : T (wellNamed ν (term t)) → sort ν (typeOf t) ≡ bytes "Bool" → usesRead (command e ν (defines t b)) ≡ uses e ν (defines t b)
-    unfolding Computes.base Computes.smtlib Computes.faithful
-    defines-uses h k = rw (defines-Bool h k, k) (defineBool-uses (ν .term t) b)
+  pub role-own : (r : Role) → WellNamed ν r → ownRead (command e ν r) ≡ map (nameOf ν) (own r)
+  unfolding Readings.computes Computes.base Computes.smtlib named own command
+  role-own (declares th) h = rw (declares-kind th .1, ownRead) (declares-name th (wellNamed-one ν th h))
+  role-own (defines t b) h = refl
+  role-own (asserts t b) h = refl
 
-    pub asserts-name : nameRead (command e ν (asserts t b)) ≡ []
-    unfolding Readings.computes Computes.base Computes.smtlib command
-    asserts-name = refl
+  pub role-assertion : (r : Role) → assertionRead (command e ν r) ≡ assertedBody r
+  unfolding Readings.computes Computes.base Computes.smtlib assertedBody command
+  role-assertion (declares th) = rw (declares-kind th .0, assertionRead)
+  role-assertion (defines t b) = refl
+  role-assertion (asserts t b) = rw (withoutLast-snoc b (mark 41)) refl
 
-    pub asserts-own : ownRead (command e ν (asserts t b)) ≡ []
-    unfolding Readings.computes Computes.base Computes.smtlib command
-    asserts-own = refl
+  pub role-definition : (r : Role) → WellNamed ν r → DefinesBool ν r → definitionRead (command e ν r) ≡ definitions ν (r ∷ [])
+  unfolding Readings.computes Computes.base Computes.smtlib named definitions DefinesBool defineBool command
+  role-definition (declares th) h k = rw (declares-kind th .1, definitionRead)
+  role-definition (defines t b) h k = rw (defines-Bool t b (wellNamed-one ν (term t) h) k, withoutLast-snoc b (mark 41)) refl
+  role-definition (asserts t b) h k = refl
 
-    pub asserts-assertion : assertionRead (command e ν (asserts t b)) ≡ b ∷ []
-    unfolding Readings.computes Computes.base Computes.smtlib command
-    asserts-assertion = rw (withoutLast-snoc b (mark 41)) refl
-
-    pub asserts-definition : definitionRead (command e ν (asserts t b)) ≡ []
-    unfolding Readings.computes Computes.base Computes.smtlib command
-    asserts-definition = refl
-
-    pub asserts-uses : usesRead (command e ν (asserts t b)) ≡ namesIn b
-    unfolding Readings.computes Computes.base Computes.smtlib command
-    asserts-uses = rw (withoutLast-snoc b (mark 41)) refl
+  pub role-uses : (r : Role) → WellNamed ν r → DefinesBool ν r → usesRead (command e ν r) ≡ uses e ν r
+  unfolding Readings.computes Computes.base Computes.smtlib Computes.faithful DefinesBool defineBool
+  role-uses (declares th) h k = rw (declares-kind th .0, declares-kind th .1, usesRead)
+  role-uses (defines t b) h k = rw (defines-Bool t b (wellNamed-one ν (term t) h) k, k, withoutLast-snoc b (mark 41)) refl
+  role-uses (asserts t b) h k = rw (withoutLast-snoc b (mark 41)) refl

@@ -72,6 +72,14 @@ module _ {A : Type 0} (p : A → Bool) where
   all-append [] ys h k = k
   all-append (x ∷ xs) ys h k = let q = and-parts (p x) (all p xs) h in and-both (p x) (all p (xs ++ ys)) (q .0) (all-append xs ys (q .1) k)
 
+  pub all-parts : (xs ys : List A) → T (all p (xs ++ ys)) → T (all p xs) × T (all p ys)
+  unfolding all
+  all-parts [] ys h = (tt, h)
+  all-parts (x ∷ xs) ys h =
+      let q = and-parts (p x) (all p (xs ++ ys)) h in
+      let r = all-parts xs ys (q .1) in
+      (and-both (p x) (all p xs) (q .0) (r .0), r .1)
+
 -- a weaker test
 pub all-map : {A : Type 0} (p q : A → Bool) → ((x : A) → T (p x) → T (q x)) → (xs : List A) → T (all p xs) → T (all q xs)
 unfolding all
