@@ -1,5 +1,6 @@
 -- What the bytes of a faithful script give away, whatever naming and roles it is faithful by: the names of its things, that there
--- are enough of them, and the bodies of its assertions; and where all terms are Bool also its definitions and the order of uses.
+-- are enough of them, and the bodies of its assertions; and where all terms are Bool also its definitions and the order of uses. By
+-- recursion on the roles, since each role's command is read as what the role says (`Roles`).
 -- Assumes nothing.
 use Prim.Native.Nat.{ℕ, zero, suc, _≤_}
 use mathlib.Core.Path.{_≡_, refl, sym, ap, _∙_, subst}

@@ -35,6 +35,7 @@ var id = node (Var (bytes id) bool) nil
 abbrev pub apply : PlainOp → List Tm → Tm
 apply o ts = node (App bool (Plain o)) (forest ts)
 
+-- two variables, and terms of them
 abbrev pub a : Tm
 a = var "a"
 

@@ -1,4 +1,5 @@
--- What the walk keeps true of its tables and commands and of a log: the invariant, and that entering a thing keeps it.
+-- What the walk keeps true of its tables and commands and of a log: the invariant, and that entering a thing keeps it. Tables grow at
+-- their end only, so that names stay.
 -- Assumes nothing.
 use Prim.Native.Nat.{ℕ}
 use mathlib.Core.Path.{_≡_, refl, sym, ap, ap₂, _∙_, subst}

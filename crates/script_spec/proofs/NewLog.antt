@@ -31,7 +31,7 @@ pub record Refusal (ins : List Tm) (n : ℕ) (t : Tm) : Type 0 where
   pub most : n ≤ 19
   pub needed : NeededTerm ins t
 
--- the function of an operator, and that of a mark, is logged
+-- the function of an operator, if it has one, is logged
 unfoldable AppliedOp : List Thing → Op Fun → Type 0
 AppliedOp log (Plain o) = Unit {0}
 AppliedOp log (Ext o) = Unit {0}
@@ -40,6 +40,7 @@ AppliedOp log (StringLike p) = Unit {0}
 AppliedOp log (Uuf f) = List·Memᴰ (func f) log
 AppliedOp log (ZeroExtend n) = Unit {0}
 
+-- the function of a mark, if it has one, is logged
 unfoldable Applied : List Thing → Mark → Type 0
 Applied log (Var id ty) = Unit {0}
 Applied log (BoolLit b) = Unit {0}

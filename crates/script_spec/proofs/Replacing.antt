@@ -36,6 +36,7 @@ isSymbol n (word w) = same w n
 isSymbol n (string l) = false
 isSymbol n (mark b) = false
 
+-- a text has this symbol
 unfoldable pub mentions : Bytes → List Token → Bool
 mentions n ts = any (isSymbol n) ts
 
@@ -101,7 +102,7 @@ unfolded-finished (d ∷ ds) ts h =
     let q = and-parts (not (mentions (d .0) ts)) (finished ds ts) h in
     ap (unfolded ds) (replaced-unmentioned (d .0) (d .1) ts (q .0)) ∙ unfolded-finished ds ts (q .1)
 
--- ---- there is one result
+-- ---- every result is what `unfolded` gives
 
 module _ {ds : List Definition} (h : Layered ds) where
   unfolded-step : {ts us : List Token} → Step ds ts us → unfolded ds us ≡ unfolded ds ts
