@@ -1,9 +1,16 @@
 // Writes what the leaves of the encoder make of the literals of document 01 and of SMT-LIB's theories, one to a line. What is
 // expected, in the file `stdout`, was worked out from these papers.
+mod codes;
 mod lines;
+mod numerals;
 mod vectors;
 
 fn main() {
+    numerals::decimals();
+    numerals::hexadecimals();
+    codes::texts();
+    codes::other_bytes();
+    codes::last_code_point();
     vectors::published();
     vectors::addresses();
     vectors::signed();
