@@ -3,6 +3,7 @@
 mod codes;
 mod lines;
 mod numerals;
+mod texts;
 mod vectors;
 
 fn main() {
@@ -11,6 +12,11 @@ fn main() {
     codes::texts();
     codes::other_bytes();
     codes::last_code_point();
+    texts::quotes();
+    texts::escapes();
+    texts::code_points();
+    texts::ids();
+    texts::comments();
     vectors::published();
     vectors::addresses();
     vectors::signed();
