@@ -3,6 +3,7 @@
 mod codes;
 mod lines;
 mod numerals;
+mod patterns;
 mod texts;
 mod vectors;
 
@@ -17,6 +18,7 @@ fn main() {
     texts::code_points();
     texts::ids();
     texts::comments();
+    patterns::patterns();
     vectors::published();
     vectors::addresses();
     vectors::signed();
