@@ -18,7 +18,8 @@ pub enum Next {
     End,
 }
 
-fn wide(b: u8) -> u32
+// A byte as a number of 32 bits.
+pub fn wide(b: u8) -> u32
     ensures { λ r. ⌜ (r ≡ b) × (r < 256) ⌝ }
 {
     b as u32
