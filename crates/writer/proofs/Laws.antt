@@ -84,14 +84,14 @@ laid-rest (suc n) (suc p) q (x ∷ o) (b ∷ a) s h k = ap (λ (l : Bytes). b �
 -- ---- one write
 
 -- the part that a write goes into starts where the bytes before it end, or is empty
-part-start : (la lo m at p q : ℕ) → at ≡ min la (m + 1) → q ≡ min lo m → p ≡ min at q → p ≡ min la (min lo m)
+part-start : (la lo m at p q : ℕ) → min at (m + 1) ≡ min la (m + 1) → q ≡ min lo m → p ≡ min at q → p ≡ min la (min lo m)
 part-start la lo m at p q h k l = omega arith
 
 part-size : (at p q : ℕ) → p ≡ min at q → p + (q - p) ≡ q
 part-size at p q h = omega arith
 
 -- the place after a write: past the limit, or within it
-place-moved : (la ls m at r : ℕ) → at ≡ min la (m + 1) → r ≡ min (at + ls) (m + 1) → r ≡ min (la + ls) (m + 1)
+place-moved : (la ls m at r : ℕ) → min at (m + 1) ≡ min la (m + 1) → r ≡ min (at + ls) (m + 1) → min r (m + 1) ≡ min (la + ls) (m + 1)
 place-moved la ls m at r h k = omega arith
 
 -- a copy of s into the part of x from p to the limit
@@ -102,7 +102,7 @@ put-appends {limit} {at} {r} {p} {q} {m} {x} {ys} {s} hm hq hp hy hr = record {
   go = λ o a w.
       let e : x ≡ laid m o a = rw hm (w .holds) in
       let l : length x ≡ length o = ap length e ∙ length-laid m o a in
-      let hat : at ≡ min (length a) (m + 1) = rw hm (w .place) in
+      let hat : min at (m + 1) ≡ min (length a) (m + 1) = rw hm (w .place) in
       record {
         holds = rw (← hm) (rw (hy, e) (laid-rest m p (q - p) o a s (part-start (length a) (length o) m at p q hat (rw l at hq) hp) (part-size at p q hp ∙ (rw l at hq))));
         place = rw (← hm) (simp length-append (place-moved (length a) (length s) m at r hat hr));
