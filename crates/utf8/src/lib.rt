@@ -25,6 +25,7 @@ pub fn wide(b: u8) -> u32
     b as u32
 }
 
+// One of two numbers by a test.
 fn either(test: bool, x: u32, y: u32) -> u32
     ensures { λ r. ⌜ r ≡ choose test x y ⌝ }
 {
