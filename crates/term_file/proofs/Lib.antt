@@ -1,0 +1,6 @@
+pub mod Marked
+pub mod Bodies
+pub mod Values
+pub mod Verdicts
+pub mod Records
+pub mod Alike
