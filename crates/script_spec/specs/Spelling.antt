@@ -207,8 +207,8 @@ bodyAt e ν ty (node (App r op) ts) args = negated (negation (node (App r op) ts
 unfoldable pub body : Enums → Names → Tm → List Bytes → Bytes
 body e ν t args = bodyAt e ν (sort ν (typeOf t)) t args
 
--- a term that is spelled where it is used and has no name: a Bool, bit-vector or string literal, an enum member, the `false` of
--- a `Bvnego`
+-- a term that is spelled where it is used and has no name: a Bool, bit-vector or string literal, an entity of an enum (a member, or
+-- else the walk refuses it), the `false` of a `Bvnego`
 unfoldable pub inlined : Enums → Tm → Bool
 inlined e (node (Var id r) ts) = false
 inlined e (node (BoolLit b) ts) = true
