@@ -1,9 +1,12 @@
 -- A file with one record more: the old numbers keep what they name and their first equal numbers, and the new record has the old count
 -- as its number. By `collect-append`, and once for any elements.
 -- Assumes nothing.
-use Prim.Native.Nat.{ℕ, suc, _<_}
+use Prim.Native.Nat.{ℕ, suc, _+_, _≤_, _<_}
+use native.Mathlib.Nat.{eq-or-lt-of-le}
+use native.Mathlib.Omega.{arith}
 use native.Mathlib.Numerals.{add-one}
-use mathlib.Core.Path.{_≡_, refl, _∙_}
+use mathlib.Core.Path.{_≡_, refl, ap, _∙_}
+use mathlib.Core.Logic.{_⊎_, inl, inr, ⊎-elim}
 use mathlib.Core.Bool.{Bool, true, false}
 use mathlib.Core.List.{List, [], _∷_, _++_, append-nil}
 use mathlib.Core.Option.{Option, none, some}
@@ -134,3 +137,36 @@ module _ (f : TermFile) where
   pub term-added : (t : Tm) → Added eqTm (terms f) t (length (terms (f ++ (term t ∷ [])))) (termAt (f ++ (term t ∷ []))) (firstTerm (f ++ (term t ∷ [])))
   unfolding termAt firstTerm
   term-added t = added-append equal-terms _ (terms f) _ t (lists-term f t .terms-are)
+
+-- ---- all numbers
+
+-- a record is at most one type, one function, one term and one enum
+one-each : (r : Named) → (length (types (r ∷ [])) ≤ 1) × (length (funs (r ∷ [])) ≤ 1) × (length (terms (r ∷ [])) ≤ 1) × (length (enums (r ∷ [])) ≤ 1)
+unfolding types funs terms enums collect
+one-each (type t) = (omega arith, omega arith, omega arith, omega arith)
+one-each (enum n ms) = (omega arith, omega arith, omega arith, omega arith)
+one-each (func g) = (omega arith, omega arith, omega arith, omega arith)
+one-each (term t) = (omega arith, omega arith, omega arith, omega arith)
+one-each (input t) = (omega arith, omega arith, omega arith, omega arith)
+
+-- a place of the longer list is one of the shorter, or the next
+abbrev pub Grown : {A : Type 0} → List A → List A → Type 0
+Grown xs zs = (n : ℕ) → n < length zs → (n < length xs) ⊎ (n ≡ length xs)
+
+grown-append : {A : Type 0} (xs ys : List A) {zs : List A} → zs ≡ xs ++ ys → length ys ≤ 1 → Grown xs zs
+grown-append xs ys {zs} e one n l =
+    let z : length zs ≡ length xs + length ys = ap length e ∙ length-append xs ys in
+    ⊎-elim (λ q. inr q) (λ q. inl q) (eq-or-lt-of-le {n = n} {m = length xs} (omega arith))
+
+module _ (f : TermFile) (r : Named) where
+  pub types-grown : Grown (types f) (types (f ++ (r ∷ [])))
+  types-grown = grown-append (types f) (types (r ∷ [])) (lists-append f r .types-are) (one-each r .0)
+
+  pub funs-grown : Grown (funs f) (funs (f ++ (r ∷ [])))
+  funs-grown = grown-append (funs f) (funs (r ∷ [])) (lists-append f r .funs-are) (one-each r .1)
+
+  pub terms-grown : Grown (terms f) (terms (f ++ (r ∷ [])))
+  terms-grown = grown-append (terms f) (terms (r ∷ [])) (lists-append f r .terms-are) (one-each r .2)
+
+  pub enums-grown : Grown (enums f) (enums (f ++ (r ∷ [])))
+  enums-grown = grown-append (enums f) (enums (r ∷ [])) (lists-append f r .enums-are) (one-each r .3)

@@ -5,6 +5,7 @@ use native.Mathlib.Nat.{le-refl}
 use native.Mathlib.Omega.{arith}
 use mathlib.Core.Path.{_≡_, refl, ap}
 use mathlib.Core.List.{List, [], _∷_, _++_}
+use lib.Dec.{T}
 use lib.ListN.{length, length-append}
 use Rattle.script_spec.specs.Tree.{TermMark, Var, BoolLit, BitVecLit, StringLit, Entity, ExtLit, None, Some, Set, Record, App, Op, Plain, Ext, RecordGet, StringLike, Uuf, ZeroExtend}
 use Rattle.script_spec.specs.Fields.{Entry, Earlier, type, enum, func, term, input}
@@ -14,17 +15,17 @@ use Rattle.index.specs.First.{canonical, All, Below, OpInRange, MarkInRa
 use Rattle.index.proofs.Growth.{lists-append, types-kept, funs-kept, terms-kept}
 use Rattle.index.proofs.Renamed.{map-agree, renamed-agree, renumbered-agree, namedMark-renamed}
 
--- what may be referred to grows, and the old types are `TE` as they were
+-- what may be referred to grows, and a type that is a `TE` stays one
 pub record Extends (e e′ : Earlier) : Type 0 where
   pub types-more : e .types ≤ e′ .types
   pub funs-more : e .funs ≤ e′ .funs
   pub terms-more : e .terms ≤ e′ .terms
-  pub entities-kept : (n : ℕ) → n < e .types → e′ .isEntity n ≡ e .isEntity n
+  pub entities-kept : (n : ℕ) → n < e .types → T (e .isEntity n) → T (e′ .isEntity n)
 
 pub extends-refl : (e : Earlier) → Extends e e
-extends-refl e = record { types-more = le-refl _; funs-more = le-refl _; terms-more = le-refl _; entities-kept = λ n h. refl }
+extends-refl e = record { types-more = le-refl _; funs-more = le-refl _; terms-more = le-refl _; entities-kept = λ n h t. t }
 
-pub length-more : {A : Type 0} (xs ys : List A) {zs : List A} → zs ≡ xs ++ ys → length xs ≤ length zs
+length-more : {A : Type 0} (xs ys : List A) {zs : List A} → zs ≡ xs ++ ys → length xs ≤ length zs
 length-more xs ys e = rw (e, length-append) (omega arith)
 
 module _ (f : TermFile) (r : Named) where
@@ -36,7 +37,7 @@ module _ (f : TermFile) (r : Named) where
         types-more = length-more (types f) (types (r ∷ [])) (l .types-are);
         funs-more = length-more (funs f) (funs (r ∷ [])) (l .funs-are);
         terms-more = length-more (terms f) (terms (r ∷ [])) (l .terms-are);
-        entities-kept = λ n h. rw (types-kept f r .name-kept n h);
+        entities-kept = λ n h t. rw (types-kept f r .name-kept n h) t;
       }
 
 -- ---- references stay in range

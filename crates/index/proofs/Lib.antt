@@ -8,4 +8,3 @@ pub mod Search
 pub mod Readers
 pub mod Ranges
 pub mod Rules
-pub mod Columns

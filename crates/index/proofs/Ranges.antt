@@ -73,7 +73,7 @@ module _ {e e′ : Earlier} (E : Extends e e′) where
   gives-entityRef : Gives (λ n. n < e .types) (entityRef e) (entityRef e′)
   unfolding entityRef
   gives-entityRef =
-      gives-bind (gives-ref (E .types-more)) (λ n h. gives-ensure 8 (e .isEntity n) (e′ .isEntity n) n (λ t. (h, rw (E .entities-kept n h) t)))
+      gives-bind (gives-ref (E .types-more)) (λ n h. gives-ensure 8 (e .isEntity n) (e′ .isEntity n) n (λ t. (h, E .entities-kept n h t)))
 
   -- a mark of the table, with its readers
   mark : {s : Bytes} {r r′ : Reader Entry} → Gives (InRange e) r r′ → (s ≡ s) × Gives (InRange e) r r′

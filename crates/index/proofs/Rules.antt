@@ -16,10 +16,9 @@ use Rattle.script_spec.specs.Fields as fields
 use Rattle.script_spec.specs.File.{TermFile, type, types, terms, typeAt, termAt, namedMark, named, earlier, distinct, listRules, rules}
 use Rattle.script_spec.proofs.Laws.{eqTm-eq, eqTm-refl}
 use Rattle.index.specs.First.{firstType, firstTerm, All, Below, MarkInRange, InRange}
-use Rattle.index.specs.Columns.{Columns, Right}
 use Rattle.index.specs.Rules.{different, greatest, reference, listed, typeBy, typeNamed, parts, listRulesBy, limits, rulesBy}
 use Rattle.index.proofs.Firsts.{first-injective, first-terms, equal-types, place-first, any-place}
-use Rattle.index.proofs.Renamed.{map-agree}
+use Rattle.index.proofs.Renamed.{Agree, map-agree}
 
 -- ---- rule 9
 
@@ -133,8 +132,8 @@ unfolding empty
 empty-map g [] = refl
 empty-map g (x ∷ xs) = refl
 
-module _ (f : TermFile) (c : Columns) (R : Right f c) where
-  list-rules : (m : TermMark ℕ ℕ) (rs : List ℕ) → Below (length (terms f)) rs → listRules (node (namedMark f m) (forest (map (termAt f) rs))) ≡ listRulesBy f c m rs
+module _ (f : TermFile) {termFirst : ℕ → ℕ} (right : Agree (length (terms f)) termFirst (firstTerm f)) where
+  list-rules : (m : TermMark ℕ ℕ) (rs : List ℕ) → Below (length (terms f)) rs → listRules (node (namedMark f m) (forest (map (termAt f) rs))) ≡ listRulesBy f termFirst m rs
   unfolding listRules listRulesBy namedMark
   list-rules (Var id n) rs h = refl
   list-rules (BoolLit b) rs h = refl
@@ -144,20 +143,19 @@ module _ (f : TermFile) (c : Columns) (R : Right f c) where
   list-rules (ExtLit v) rs h = refl
   list-rules (None n) rs h = refl
   list-rules Some rs h = refl
-  list-rules (Set n) rs h = rw (trees-forest (map (termAt f) rs), distinct-numbers f rs h, map-agree (λ n l. R .at-term n l .first-is) rs h)
+  list-rules (Set n) rs h = rw (trees-forest (map (termAt f) rs), distinct-numbers f rs h, map-agree right rs h)
   list-rules (Record names) rs h = refl
   list-rules (App n op) rs h = rw (trees-forest (map (termAt f) rs), empty-map (termAt f) rs)
 
+module _ (f : TermFile) (typeDepth termFirst termType termDepth : ℕ → ℕ) where
   -- what a record names keeps the rules where its numbers do
-  pub rules-numbers : (x : Entry) → InRange (earlier f) x → rules f (named f x) ≡ rulesBy f c x
+  pub rules-numbers : Agree (length (types f)) typeDepth (λ n. depth (typeAt f n)) → Agree (length (terms f)) termFirst (firstTerm f)
+      → ((n : ℕ) → n < length (terms f) → typeAt f (termType n) ≡ typeOf (termAt f n)) → Agree (length (terms f)) termDepth (λ n. depth (termAt f n))
+      → (x : Entry) → InRange (earlier f) x → rules f (named f x) ≡ rulesBy f typeDepth termFirst termType termDepth x
   unfolding rules rulesBy limits named InRange earlier attributes datatype
-  rules-numbers (fields.type m rs) h = rw (depth-numbers (typeAt f) (length (types f)) (c .typeDepth) (λ n l. R .at-type n l .depth-is) m rs h)
-  rules-numbers (fields.enum n ms) h = refl
-  rules-numbers (fields.func id a r) h = refl
-  rules-numbers (fields.term m rs) h =
-      rw (
-        list-rules m rs (h .1),
-        listed-numbers f (c .termType) (λ n l. R .at-term n l .type-is) m rs (h .1),
-        depth-numbers (termAt f) (length (terms f)) (c .termDepth) (λ n l. R .at-term n l .depth-is) (namedMark f m) rs (h .1),
-      )
-  rules-numbers (fields.input n) h = refl
+  rules-numbers d φ τ δ (fields.type m rs) h = rw (depth-numbers (typeAt f) (length (types f)) typeDepth d m rs h)
+  rules-numbers d φ τ δ (fields.enum n ms) h = refl
+  rules-numbers d φ τ δ (fields.func id a r) h = refl
+  rules-numbers d φ τ δ (fields.term m rs) h =
+      rw (list-rules f φ m rs (h .1), listed-numbers f termType τ m rs (h .1), depth-numbers (termAt f) (length (terms f)) termDepth δ (namedMark f m) rs (h .1))
+  rules-numbers d φ τ δ (fields.input n) h = refl

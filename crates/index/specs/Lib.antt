@@ -1,6 +1,5 @@
 pub mod Cells
 pub mod First
-pub mod Columns
 pub mod Rules
 pub mod Standing
 pub mod Meaning
