@@ -3,3 +3,4 @@ pub mod Standing
 pub mod Tells
 pub mod Told
 pub mod Agreement
+pub mod Steps

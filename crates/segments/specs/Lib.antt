@@ -1,2 +1,3 @@
 pub mod Segment
 pub mod Machine
+pub mod Step
