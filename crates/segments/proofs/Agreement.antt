@@ -31,11 +31,11 @@ use Rattle.segments.proofs.Told.{plainly-number, plainly-elements, plai
 -- ---- tables by codes
 
 -- each item of a table with its code, from n on
-unfoldable Each : {A : Type 0} → (ℕ → A → Type 0) → ℕ → List A → Type 0
+unfoldable pub Each : {A : Type 0} → (ℕ → A → Type 0) → ℕ → List A → Type 0
 Each P n [] = Unit {0}
 Each P n (x ∷ xs) = P n x × Each P (suc n) xs
 
-each-at : {A : Type 0} (P : ℕ → A → Type 0) (b n : ℕ) (xs : List A) {x : A} → Each P n xs → at b xs ≡ some x → P (b + n) x
+pub each-at : {A : Type 0} (P : ℕ → A → Type 0) (b n : ℕ) (xs : List A) {x : A} → Each P n xs → at b xs ≡ some x → P (b + n) x
 unfolding Each at
 each-at P b n [] {x} h e = absurd (Option·none-ne-some x e)
 each-at P zero n (y ∷ ys) {x} h e =

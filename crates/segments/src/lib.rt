@@ -68,7 +68,7 @@ enum Kind {
 }
 
 // Four bytes, low byte first, if they are there.
-enum Word {
+pub enum Word {
     Value(u32),
     Short,
 }
@@ -80,7 +80,7 @@ fn wide(b: u8) -> u32
 }
 
 // The four bytes at a place as a number.
-fn read_word(body: &[u8], at: usize) -> Word
+pub fn read_word(body: &[u8], at: usize) -> Word
     ensures { λ r. ⌜ Reads (drop at (now (body .entry))) r ⌝ }
 {
     if body.len() < at {
