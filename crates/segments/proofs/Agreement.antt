@@ -22,7 +22,7 @@ use Rattle.index.proofs.Readers.{_&_}
 use Rattle.segments.proofs.Standing.{entryOf-inverse}
 use Rattle.segments.specs.Segment as segment
 use Rattle.segments.specs.Segment.{mapped}
-use Rattle.segments.specs.Machine.{Then, operandThen, operandOf, codedThen, codeThen, operator, fieldThen, itemThen, counted, last, remaining, startType, startList, startTerm, start, segments, reference, named}
+use Rattle.segments.specs.Machine.{Then, operandThen, operandOf, codedThen, codeThen, operator, fieldThen, itemThen, counted, last, remaining, ahead, startType, startList, startTerm, start, segments, reference, named}
 use Rattle.segments.specs.declared.Item.the-variants as item
 use Rattle.segments.proofs.Inverse.{Took, coded-inverse}
 use Rattle.segments.proofs.Tells.{cut-took, cons-parts, Tells, FieldTells, tells-bind, field-pure, tells-pure, tells-then, field-then}
@@ -140,7 +140,7 @@ module _ (types funs terms : ℕ → ℕ) where
 
     -- each mark's reader, in the order of `marks`
     marks-tell : All (λ p. Tells g Same (p .1) (p .1) (segments (p .0))) (marks e)
-    unfolding All marks leaf bytes segments start startType startTerm startList remaining fieldThen last counted itemThen renumbered renamed renamedOp entityRef
+    unfolding All marks leaf bytes segments start startType startTerm startList ahead remaining fieldThen last counted itemThen renumbered renamed renamedOp entityRef
     marks-tell =
         plainly
         & plainly

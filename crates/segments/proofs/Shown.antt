@@ -20,7 +20,7 @@ use Rattle.index.specs.Standing.{loose, entryOf}
 use Rattle.index.proofs.Readers.{_&_}
 use Rattle.segments.specs.Segment.{Segment, plain, typeRef, funRef, termRef}
 use Rattle.segments.specs.Machine as machine
-use Rattle.segments.specs.Machine.{Then, operandThen, operandOf, codedThen, codeThen, operator, fieldThen, itemThen, items, last, remaining, startType, startList, startTerm, start, segments, reference}
+use Rattle.segments.specs.Machine.{Then, operandThen, operandOf, codedThen, codeThen, operator, fieldThen, itemThen, items, last, remaining, ahead, startType, startList, startTerm, start, segments, reference}
 use Rattle.segments.specs.Printed.{lowBytes, textBytes, boolCode, extTypeCode, extOpCode, plainCode, valueBytes, opSegments, named, counted, typeSegments, termSegments, segmentsOf}
 use Rattle.segments.specs.declared.Item.the-variants as item
 use Rattle.segments.proofs.Inverse.{coded-inverse, bind-inverse, pure-inverse}
@@ -169,7 +169,7 @@ module _ (e : Earlier) where
 
   -- each mark's reader, in the order of `marks`
   marks-shown : All (λ p. Shows [] segmentsOf (p .1) (segments (p .0))) (marks e)
-  unfolding All marks leaf bytes segments start startType startTerm startList remaining fieldThen last items machine.counted itemThen entityRef segmentsOf typeSegments termSegments
+  unfolding All marks leaf bytes segments start startType startTerm startList ahead remaining fieldThen last items machine.counted itemThen entityRef segmentsOf typeSegments termSegments
   marks-shown =
       shows-rest (rest-pure _ refl)
       & shows-rest (rest-pure _ refl)

@@ -188,4 +188,4 @@ start a b =
 
 -- the segments of a body under a mark
 unfoldable pub segments : Bytes → Bytes → List Segment
-segments mark body = remaining (start (getD mark 0 0) (getD mark 1 0)) body
+segments mark body = ahead body (start (getD mark 0 0) (getD mark 1 0))
