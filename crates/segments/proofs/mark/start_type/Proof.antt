@@ -1,10 +1,10 @@
--- `segments::start_type` meets its contract: the tests are those of the definition.
+-- `segments::mark::start_type` meets its contract: the tests are those of the definition.
 -- Assumes nothing.
 use borrow.Author.Needs.{needs}
 use Rattle.segments.specs.Machine.{startType}
 use borrow.Author.Tests.{eq-eqb, ne-eqb}
-use Rattle.segments.proofs.start_type.Statement.{statement}
-use Rattle.segments.proofs.start_type.Tie as tie
+use Rattle.segments.proofs.mark.start_type.Statement.{statement}
+use Rattle.segments.proofs.mark.start_type.Tie as tie
 
 returns : tie.Need-returns
 unfolding startType

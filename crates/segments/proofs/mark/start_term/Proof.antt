@@ -1,10 +1,10 @@
--- `segments::start_term` meets its contract: the tests are those of the definition.
+-- `segments::mark::start_term` meets its contract: the tests are those of the definition.
 -- Assumes nothing.
 use borrow.Author.Needs.{needs}
 use Rattle.segments.specs.Machine.{startTerm}
 use borrow.Author.Tests.{eq-eqb, ne-eqb}
-use Rattle.segments.proofs.start_term.Statement.{statement}
-use Rattle.segments.proofs.start_term.Tie as tie
+use Rattle.segments.proofs.mark.start_term.Statement.{statement}
+use Rattle.segments.proofs.mark.start_term.Tie as tie
 
 returns : tie.Need-returns
 unfolding startTerm

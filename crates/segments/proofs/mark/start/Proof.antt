@@ -1,10 +1,10 @@
--- `segments::start` meets its contract: the tests are those of the definition.
+-- `segments::mark::start` meets its contract: the tests are those of the definition.
 -- Assumes nothing.
 use borrow.Author.Needs.{needs}
 use Rattle.segments.specs.Machine.{start}
 use borrow.Author.Tests.{eq-eqb, ne-eqb}
-use Rattle.segments.proofs.start.Statement.{statement}
-use Rattle.segments.proofs.start.Tie as tie
+use Rattle.segments.proofs.mark.start.Statement.{statement}
+use Rattle.segments.proofs.mark.start.Tie as tie
 
 returns : tie.Need-returns
 unfolding start
