@@ -9,7 +9,7 @@ use mathlib.Core.List.{List, [], _∷_, _++_, cons≢nil, head-eq-of-cons-eq, ta
 use mathlib.Core.Option.{Option, none, some}
 use lib.Dec.{eqb, leb, ltb}
 
--- a byte string; every element is below 256
+-- a byte string, as the numbers of its bytes
 abbrev pub Bytes : Type 0
 Bytes = List ℕ
 

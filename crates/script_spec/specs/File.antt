@@ -8,7 +8,7 @@ use mathlib.Core.Option.{Option, none, some}
 use lib.Dec.{leb, ltb}
 use lib.ListN.{length, take, drop, getD}
 use Rattle.script_spec.specs.Base.{Bytes, Answer, accepted, refused, isSome, ifSome, ascending, empty, any, collect, lookup}
-use Rattle.script_spec.specs.Tree.{Ty, Fun, Tm, Mark, Forest, node, nil, forest, trees, depth, typeOf, eqTy, eqTm, uuf, Bool·, attributes, entityName, Enums}
+use Rattle.script_spec.specs.Tree.{Ty, Fun, Tm, Mark, node, nil, forest, trees, depth, typeOf, eqTy, eqTm, uuf, Bool·, attributes, entityName, Enums}
 use Rattle.script_spec.specs.Tree.{TermMark, Var, BoolLit, BitVecLit, StringLit, Entity, ExtLit, None, Some, Set, Record, App, Op, Plain, Ext, RecordGet, StringLike, Uuf, ZeroExtend}
 use Rattle.script_spec.specs.Fields.{Entry, Earlier, Read, got, bad, low, marks, whole}
 use Rattle.script_spec.specs.Fields as fields

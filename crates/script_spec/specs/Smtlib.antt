@@ -1,5 +1,6 @@
--- Reading a script by its bytes: comments, tokens and commands, and the text that a string literal stands for (SMT-LIB 2.6,
--- section 3.1, and the theory of Unicode strings). Nothing here knows of the encoder.
+-- Reading a script by its bytes: lines that begin with `;` are comments, then tokens and commands (document 01, "What demand 3
+-- compares"), and the text that a string literal stands for (SMT-LIB 2.6, section 3.1, and the theory of Unicode strings). Nothing
+-- here knows of the encoder.
 -- Assumes nothing.
 use Prim.Native.Nat.{ℕ, zero, suc, _+_, _-_, _*_}
 use mathlib.Core.Bool.{Bool, true, false, not, _&&_}

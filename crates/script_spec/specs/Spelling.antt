@@ -2,14 +2,14 @@
 -- cvc5's finite sets). Names are given from outside, so that the encoder's walk and the full spelling of demand 3 spell by the
 -- same definitions.
 -- Assumes nothing.
-use Prim.Native.Nat.{ℕ, zero, suc, _-_, _^_}
+use Prim.Native.Nat.{ℕ, suc, _-_, _^_}
 use mathlib.Core.Bool.{Bool, true, false}
 use mathlib.Core.List.{List, [], _∷_, _++_, map}
 use mathlib.Core.Option.{Option, none, some}
 use lib.Dec.{eqb}
 use Rattle.script_spec.specs.Base.{Bytes, bytes, same, joined, place, isSome}
 use Rattle.script_spec.specs.Utf8.{codePoints}
-use Rattle.script_spec.specs.Tree.{Ty, Fun, Tm, TypeMark, Mark, Forest, node, nil, cons, children, typeOf, typesOf, Enums, enumOf, attribute, wildcard, Datatype, entity, extension, recordOf, ExtType, IPAddr, Decimal, Datetime, Duration}
+use Rattle.script_spec.specs.Tree.{Ty, Fun, Tm, TypeMark, Forest, node, nil, cons, children, typeOf, typesOf, Enums, enumOf, attribute, wildcard, Datatype, entity, extension, recordOf, ExtType, IPAddr, Decimal, Datetime, Duration}
 use Rattle.script_spec.specs.Tree.{uuf, Bool·, String·, Option·, Set·, BitVec·, Declared, Value, V4, V6, DecimalV, DatetimeV, DurationV, Negation, ordinary, falsehood, comparison, negation, isFalsehood}
 use Rattle.script_spec.specs.Tree.{Var, BoolLit, BitVecLit, StringLit, Entity, ExtLit, None, Some, Set, Record, App, Op, Plain, Ext, RecordGet, StringLike, Uuf, ZeroExtend}
 use Rattle.script_spec.specs.Tree.{ExtOp, DatetimeOfBitVec, DatetimeVal, DecimalVal, DurationOfBitVec, DurationVal, IpaddrAddrV4, IpaddrAddrV6, IpaddrIsV4, IpaddrPrefixV4, IpaddrPrefixV6}
@@ -207,8 +207,8 @@ bodyAt e ν ty (node (App r op) ts) args = negated (negation (node (App r op) ts
 unfoldable pub body : Enums → Names → Tm → List Bytes → Bytes
 body e ν t args = bodyAt e ν (sort ν (typeOf t)) t args
 
--- a term that is spelled where it is used and has no name: a Bool, bit-vector or string literal, an enum member, the `false` of
--- a `Bvnego`
+-- a term that is spelled where it is used and has no name: a Bool, bit-vector or string literal, an entity of an enum (a member, or
+-- else the walk refuses it), the `false` of a `Bvnego`
 unfoldable pub inlined : Enums → Tm → Bool
 inlined e (node (Var id r) ts) = false
 inlined e (node (BoolLit b) ts) = true
