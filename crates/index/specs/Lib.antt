@@ -1,3 +1,5 @@
 pub mod Cells
 pub mod First
 pub mod Rules
+pub mod Standing
+pub mod Meaning

@@ -1,0 +1,67 @@
+-- What the index in working memory means, over the trees of the records that it was made from. Check fills it; the encoder and
+-- whatever else walks a file build on this and not on the layout.
+-- Assumes nothing.
+use mathlib.Core.Path.{_≡_}
+use Prim.Native.Nat.{ℕ, _<_, _≤_, _*_}
+use mathlib.Core.Bool.{true}
+use mathlib.Core.List.{List, []}
+use mathlib.Core.Option.{Option, some}
+use lib.ListN.{length, getD}
+use Rattle.script_spec.specs.Base.{Bytes}
+use Rattle.script_spec.specs.Tree.{typeOf, depth}
+use Rattle.script_spec.specs.Fields.{Entry, Earlier, enum}
+use Rattle.script_spec.specs.File.{TermFile, Named, type, func, term, types, funs, terms, enums, typeAt, funAt, termAt, named, earlier}
+use Rattle.index.specs.Cells.{cell, typeOffset, typeFirst, typeDepth, funOffset, funFirst, termOffset, termFirst, termType, termDepth, enumOffset}
+use Rattle.index.specs.First.{firstType, firstFun, firstTerm, InRange}
+use Rattle.index.specs.Standing.{entryAt}
+
+-- the record at an offset of the file names r among the records f, and refers only to records that e counts
+pub record Stands (file : Bytes) (f : TermFile) (e : Earlier) (offset : ℕ) (r : Named) : Type 0 where
+  pub entry : Entry
+  pub reads : entryAt file offset ≡ some entry
+  pub in-range : InRange e entry
+  pub names : named f entry ≡ r
+
+-- what a record of these numbers of types, functions and terms may refer to
+unfoldable pub counted : ℕ → ℕ → ℕ → Earlier
+counted ty fn tm = record { types = ty; funs = fn; terms = tm; isEntity = λ n. true }
+
+module _ (file : Bytes) (f : TermFile) (work : List ℕ) (k : ℕ) where
+  -- the row of a type, which refers to types of lower numbers
+  pub record TypeRow (n : ℕ) : Type 0 where
+    pub stands : Stands file f (counted n 0 0) (cell work k typeOffset n) (type (typeAt f n))
+    pub first : cell work k typeFirst n ≡ firstType f n
+
+  -- the row of a function, which refers to types
+  pub record FunRow (n : ℕ) : Type 0 where
+    pub stands : Stands file f (counted (length (types f)) 0 0) (cell work k funOffset n) (func (funAt f n))
+    pub first : cell work k funFirst n ≡ firstFun f n
+
+  -- the row of a term, which refers to types, functions and terms of lower numbers; its type by the first equal record
+  pub record TermRow (n : ℕ) : Type 0 where
+    pub stands : Stands file f (counted (length (types f)) (length (funs f)) n) (cell work k termOffset n) (term (termAt f n))
+    pub first : cell work k termFirst n ≡ firstTerm f n
+    pub type-below : cell work k termType n < length (types f)
+    pub type-is : typeAt f (cell work k termType n) ≡ typeOf (termAt f n)
+    pub type-first : firstType f (cell work k termType n) ≡ cell work k termType n
+
+  -- the row of an enum
+  pub record EnumRow (n : ℕ) (name : Bytes) (members : List Bytes) : Type 0 where
+    pub stands : entryAt file (cell work k enumOffset n) ≡ some (enum name members)
+
+  -- every type, function, term and enum of the file has its row
+  pub record Index : Type 0 where
+    pub fits : 12 * k ≤ length work
+    pub type-row : (n : ℕ) → n < length (types f) → TypeRow n
+    pub fun-row : (n : ℕ) → n < length (funs f) → FunRow n
+    pub term-row : (n : ℕ) → n < length (terms f) → TermRow n
+    pub enum-row : (n : ℕ) → n < length (enums f) → EnumRow n (getD (enums f) n ([], []) .0) (getD (enums f) n ([], []) .1)
+    pub types-fit : length (types f) ≤ k
+    pub funs-fit : length (funs f) ≤ k
+    pub terms-fit : length (terms f) ≤ k
+    pub enums-fit : length (enums f) ≤ k
+
+  -- the depths, which check needs
+  pub record Depths : Type 0 where
+    pub type-depth : (n : ℕ) → n < length (types f) → cell work k typeDepth n ≡ depth (typeAt f n)
+    pub term-depth : (n : ℕ) → n < length (terms f) → cell work k termDepth n ≡ depth (termAt f n)
