@@ -8,3 +8,4 @@ pub mod Search
 pub mod Readers
 pub mod Ranges
 pub mod Rules
+pub mod Standing
