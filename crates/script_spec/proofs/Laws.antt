@@ -33,7 +33,7 @@ pub or-cases : (x y : Bool) → T (x || y) → T x ⊎ T y
 or-cases true y h = inl tt
 or-cases false y h = inr h
 
-or-map : (x y z : Bool) → (T y → T z) → T (x || y) → T (x || z)
+pub or-map : (x y z : Bool) → (T y → T z) → T (x || y) → T (x || z)
 or-map true y z f h = tt
 or-map false y z f h = f h
 

@@ -7,6 +7,7 @@ pub mod Computes
 pub mod Declarations
 pub mod Defined
 pub mod Demand
+pub mod EncodedResult
 pub mod Encoding
 pub mod Entered
 pub mod Grow
@@ -20,9 +21,12 @@ pub mod Means
 pub mod Names
 pub mod NewLog
 pub mod Numerals
+pub mod OneResult
 pub mod Order
 pub mod Pieces
+pub mod ReadBack
 pub mod Reading
+pub mod Replacing
 pub mod Roles
 pub mod Says
 pub mod Sorts
@@ -32,5 +36,6 @@ pub mod TermLog
 pub mod Terms
 pub mod TypeLog
 pub mod Unfolding
+pub mod Utf8Range
 pub mod Values
 pub mod LastDigit

@@ -1,0 +1,9 @@
+pub mod Examples
+pub mod Inversion
+pub mod Lines
+pub mod Pigeonhole
+pub mod Readings
+pub mod Records
+pub mod Right
+pub mod Roles
+pub mod Wrong
