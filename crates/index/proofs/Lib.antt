@@ -1,4 +1,7 @@
 pub mod Cells
+pub mod Stores
+pub mod Rows
+pub mod Entered
 pub mod Firsts
 pub mod Growth
 pub mod Renamed
