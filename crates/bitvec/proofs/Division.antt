@@ -1,11 +1,9 @@
 -- Long division of a number in two halves by ten, at digits of 32 bits, and its numeral. Assumes nothing.
-use mathlib.Core.Path.{_≡_, sym, _∙_}
-use mathlib.Core.List.{[], _∷_, _++_}
+use mathlib.Core.Path.{_≡_, ap}
+use mathlib.Core.List.{_++_}
 use Prim.Native.Nat.{ℕ, _+_, _*_, _/_, _%_, _^_, _<_, _≤_}
 use native.Mathlib.Omega.{arith}
-use lib.Dec.{ltb, eqb}
-use borrow.Author.Tests.{ne-eqb, le-ltb}
-use Rattle.script_spec.specs.Text.{digit, decimal}
+use Rattle.script_spec.specs.Text.{decimal}
 use Rattle.script_spec.proofs.LastDigit.{decimal-one, decimal-more}
 use Rattle.bitvec.specs.Value.{whole}
 
@@ -33,26 +31,22 @@ tenth h l r d x y a b k = let e = halves h l r d x y a b in (quotient (whole h l
 
 -- ---- the numeral
 
-pub one-digit : (high low : ℕ) → high ≡ 0 → ltb low 10 ≡ ltb (whole high low) 10
-one-digit high low z = let e : whole high low ≡ low = omega arith in rw e
+-- a number of one half
+pub decimal-low : (high low : ℕ) → high ≡ 0 → decimal low ≡ decimal (whole high low)
+decimal-low high low z = ap decimal (let e : low ≡ whole high low = omega arith in e)
 
-pub more-digits : (high low : ℕ) → (high ≡ 0 → ⊥) → eqb high 0 ≡ ltb (whole high low) 10
-more-digits high low n = ne-eqb high 0 n ∙ sym (le-ltb (whole high low) 10 (omega arith))
+-- a number of both halves has more than one digit
+pub two-digits : (high low : ℕ) → (high ≡ 0 → ⊥) → 10 ≤ whole high low
+two-digits high low n = omega arith
 
-pub low-lt : (high low : ℕ) → whole high low < 10 → low < 10
-low-lt high low h = omega arith
+-- its last digit follows the numeral of its tenth
+pub decimal-next : (high low h l d : ℕ) → (high ≡ 0 → ⊥) → whole h l ≡ whole high low / 10 → d ≡ whole high low % 10 → d < 10
+    → decimal (whole h l) ++ decimal d ≡ decimal (whole high low)
+decimal-next high low h l d n q r b = rw (decimal-more (whole high low) (two-digits high low n), decimal-one d b, q, r)
 
--- a number of one digit
-pub decimal-last : (high low b : ℕ) → whole high low < 10 → b ≡ digit low → b ∷ [] ≡ decimal (whole high low)
-decimal-last high low b h e =
-    let z : whole high low ≡ low = omega arith in
-    rw (z, decimal-one low (low-lt high low h), e)
+-- and its tenth is smaller
+tenth-smaller : (n q t : ℕ) → 10 ≤ n → q ≡ n / 10 → n ≡ t → q < t
+tenth-smaller n q t h e f = omega arith
 
--- a number of more digits
-pub decimal-next : (high low h l d b : ℕ) → 10 ≤ whole high low → whole h l ≡ whole high low / 10 → d ≡ whole high low % 10 → b ≡ digit d
-    → decimal (whole h l) ++ (b ∷ []) ≡ decimal (whole high low)
-decimal-next high low h l d b g q r e = rw (decimal-more (whole high low) g, q, e, r)
-
--- the rest of a number of more digits is smaller
-pub tenth-lt : (n q t : ℕ) → 10 ≤ n → q ≡ n / 10 → n ≡ t → q < t
-tenth-lt n q t h e f = omega arith
+pub tenth-lt : (high low q t : ℕ) → (high ≡ 0 → ⊥) → q ≡ whole high low / 10 → whole high low ≡ t → q < t
+tenth-lt high low q t n e f = tenth-smaller (whole high low) q t (two-digits high low n) e f

@@ -1,6 +1,6 @@
 // Bit vectors of 1 to 128 bits (bitvec.rs), over numbers in two halves of 64 bits.
+pub mod decimal;
 pub mod halves;
-pub mod numeral;
 pub mod reading;
 pub mod spelling;
 

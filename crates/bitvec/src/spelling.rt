@@ -1,6 +1,6 @@
 // How bit vectors and their sorts are spelled (SMT-LIB's theory of bit vectors).
+use crate::decimal::put_decimal128;
 use crate::halves::power;
-use crate::numeral::put_decimal128;
 ghost use mathlib.Core.Path.{_≡_};
 ghost use Prim.Native.Nat.{_-_, _%_, _^_};
 ghost use Rattle.script_spec.specs.Spelling.{bitVec, bitVecSort};
@@ -14,7 +14,7 @@ pub fn put_bitvec(out: &mut [u8], at: usize, limit: usize, width: u32, high: u64
     let a = writer::put_at(out, at, limit, b"(_ bv");
     let b = put_decimal128(out, a, limit, high, low);
     let c = writer::put_byte(out, b, limit, b' ');
-    let d = put_decimal128(out, c, limit, 0, width as u64);
+    let d = numeral::put_decimal(out, c, limit, width as u64);
     writer::put_byte(out, d, limit, b')')
 }
 
@@ -23,7 +23,7 @@ pub fn put_bitvec_sort(out: &mut [u8], at: usize, limit: usize, width: u32) -> u
     ensures { λ r. ⌜ Appends limit (now (out .entry)) at (now (out .exit)) r (bitVecSort width) ⌝ }
 {
     let a = writer::put_at(out, at, limit, b"(_ BitVec ");
-    let b = put_decimal128(out, a, limit, 0, width as u64);
+    let b = numeral::put_decimal(out, a, limit, width as u64);
     writer::put_byte(out, b, limit, b')')
 }
 

@@ -1,67 +1,27 @@
--- Laws of numerals: fuel, one digit and more, and the loop that lays digits from the end.
+-- Laws of the loop that lays a numeral's digits from the end.
 -- Assumes nothing.
 use mathlib.Core.Path.{_≡_, refl, sym, _∙_}
-use mathlib.Core.Bool.{Bool, true, false}
 use mathlib.Core.List.{[], _∷_}
-use Prim.Native.Nat.{ℕ, zero, suc, _-_, _*_, _/_, _%_, _^_, _≤_, _<_}
-use native.Mathlib.Nat.{div-lt-iff-lt-mul, mul-le-mul-left, pow-suc, mod-eq-of-lt, lt-of-lt-of-le, not-suc-le-zero, mod-lt}
+use Prim.Native.Nat.{ℕ, zero, suc, _-_, _/_, _%_, _^_, _≤_, _<_}
+use native.Mathlib.Nat.{div-lt-iff-lt-mul, div-lt-self, mul-le-mul-left, pow-suc, mod-eq-of-lt, lt-of-lt-of-le, not-suc-le-zero, mod-lt}
 use native.Mathlib.Numerals.{sub-one}
 use native.Mathlib.Omega.{arith}
-use borrow.Author.Tests.{lt-ltb, le-ltb, ltb-false}
-use lib.Dec.{ltb}
 use lib.ListN.{length, drop, set, take, length-set, length-drop, drop-of-length-le}
 use lib.Seq.{take-all}
 use Rattle.script_spec.specs.Base.{Bytes}
 use Rattle.script_spec.specs.Text.{digit, digits}
+use Rattle.script_spec.proofs.LastDigit.{digits-one, digits-more}
 use Rattle.numeral.specs.Base.{IsBase}
-
-grows : (n m : ℕ) → 1 ≤ n → n * 2 ≤ m → n < m
-grows n m h k = omega arith
-
--- a quotient is smaller
-div-less : (n base : ℕ) → 2 ≤ base → 1 ≤ n → n / base < n
-div-less n base h k =
-    let pos : 0 < base = omega arith in
-    div-lt-iff-lt-mul pos .1 (grows n (n * base) k (mul-le-mul-left n h))
 
 -- a turn of the loop makes the rest smaller
 pub div-smaller : (n base : ℕ) → IsBase base → base ≤ n → n / base < n
-div-smaller n base b h = div-less n base (omega (arith, b .least)) (omega (arith, b .least))
+div-smaller n base b h = div-lt-self (omega (arith, b .least)) (omega (arith, b .least))
 
 -- a digit is below sixteen
 pub mod-small : (n base : ℕ) → IsBase base → n % base < 16
 mod-small n base b =
     let pos : 0 < base = omega (arith, b .least) in
     omega (arith, mod-lt n pos, b .most)
-
--- more fuel than the number changes nothing
-digits-step : (f g base n : ℕ) (rest : Bytes) → 2 ≤ base → n ≤ suc f → n ≤ suc g
-    → ((m : ℕ) (r : Bytes) → m ≤ f → m ≤ g → digits f base m r ≡ digits g base m r)
-    → (t : Bool) → ltb n base ≡ t → digits (suc f) base n rest ≡ digits (suc g) base n rest
-unfolding digits
-digits-step f g base n rest b h k ih true e = rw (e, digits)
-digits-step f g base n rest b h k ih false e =
-    let l : n / base < n = div-less n base b (omega (arith, ltb-false n base e)) in
-    rw (e, digits) (ih (n / base) (digit (n % base) ∷ rest) (omega arith) (omega arith))
-
-digits-fuel : (f g base n : ℕ) (rest : Bytes) → 2 ≤ base → n ≤ f → n ≤ g → digits f base n rest ≡ digits g base n rest
-unfolding digits
-digits-fuel zero zero base n rest b h k = refl
-digits-fuel zero (suc g) base n rest b h k = rw (lt-ltb n base (omega arith), digits)
-digits-fuel (suc f) zero base n rest b h k = rw (lt-ltb n base (omega arith), digits)
-digits-fuel (suc f) (suc g) base n rest b h k = digits-step f g base n rest b h k (λ m r i j. digits-fuel f g base m r b i j) (ltb n base) refl
-
-digits-more : (base n : ℕ) (rest : Bytes) → 2 ≤ base → base ≤ n → digits (n / base) base (n / base) (digit (n % base) ∷ rest) ≡ digits n base n rest
-unfolding digits
-digits-more base zero rest b h = absurd (omega arith)
-digits-more base (suc n) rest b h =
-    let l : suc n / base < suc n = div-less (suc n) base b (omega arith) in
-    rw (le-ltb (suc n) base h, digits) (digits-fuel (suc n / base) n base (suc n / base) (digit (suc n % base) ∷ rest) b (omega arith) (omega arith))
-
-digits-one : (base n : ℕ) (rest : Bytes) → n < base → digits n base n rest ≡ digit (n % base) ∷ rest
-unfolding digits
-digits-one base zero rest h = rw (mod-eq-of-lt h)
-digits-one base (suc n) rest h = rw (lt-ltb (suc n) base h, digits, mod-eq-of-lt h)
 
 -- ---- the loop that lays the digits
 
@@ -106,7 +66,7 @@ laid-next n base left zero d text b h e l = absurd (omega (arith, b .least, l .r
 laid-next n base left (suc i) d text b h e l = rw sub-one (record {
   rest = digit (left % base) ∷ l .rest;
   holds = drop-set text i d (omega (arith, l .size, l .inside)) ∙ (rw (e, l .holds));
-  same = digits-more base left (l .rest) (omega (arith, b .least)) h ∙ l .same;
+  same = sym (digits-more base (omega (arith, b .least)) left (l .rest) h) ∙ l .same;
   size = length-set text i d ∙ l .size;
   room = room-less base left (suc i) (b .least) (l .room);
   inside = omega (arith, l .inside);
@@ -115,4 +75,4 @@ laid-next n base left (suc i) d text b h e l = rw sub-one (record {
 pub laid-end : (n base left i : ℕ) (text : Bytes) → left < base → Laid n base left i text → take (20 - i) (drop i text) ≡ digits n base n []
 laid-end n base left i text h l =
     let k : length (drop i text) ≤ 20 - i = rw length-drop (omega (arith, l .size)) in
-    take-all (20 - i) (drop i text) k ∙ l .holds ∙ sym (digits-one base left (l .rest) h) ∙ l .same
+    take-all (20 - i) (drop i text) k ∙ l .holds ∙ (rw (mod-eq-of-lt h) (sym (digits-one base left left (l .rest) h))) ∙ l .same

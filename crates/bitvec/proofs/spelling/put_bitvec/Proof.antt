@@ -9,7 +9,7 @@ use Rattle.bitvec.proofs.spelling.put_bitvec.Tie as tie
 
 returns : tie.Need-returns
 unfolding bytes
-returns c = says (bitVec-pieces _ _) (c.before.before.before.before.before.before.before.before.before.before.before.before.before.before.before.before.before.before.put-at.ensures then c.before.before.before.before.before.before.before.before.before.before.before.before.before.before.put-decimal128.ensures then c.before.before.before.before.before.before.before.before.before.before.put-byte.ensures then c.before.before.before.before.before.before.put-decimal1282.ensures then c.before.before.put-byte2.ensures)
+returns c = says (bitVec-pieces _ _) (c.before.before.before.before.before.before.before.before.before.before.before.before.before.before.before.before.before.before.put-at.ensures then c.before.before.before.before.before.before.before.before.before.before.before.before.before.before.put-decimal128.ensures then c.before.before.before.before.before.before.before.before.before.before.put-byte.ensures then c.before.before.before.before.before.before.put-decimal.ensures then c.before.before.put-byte2.ensures)
 
 pub put-bitvec-spec : {M : Type 1} → statement M
 put-bitvec-spec =

@@ -9,7 +9,7 @@ use Rattle.bitvec.proofs.spelling.put_bitvec_sort.Tie as tie
 
 returns : tie.Need-returns
 unfolding bytes
-returns c = says (bitVecSort-pieces _) (c.before.before.before.before.before.before.before.before.before.before.put-at.ensures then c.before.before.before.before.before.before.put-decimal128.ensures then c.before.before.put-byte.ensures)
+returns c = says (bitVecSort-pieces _) (c.before.before.before.before.before.before.before.before.before.before.put-at.ensures then c.before.before.before.before.before.before.put-decimal.ensures then c.before.before.put-byte.ensures)
 
 pub put-bitvec-sort-spec : {M : Type 1} → statement M
 put-bitvec-sort-spec =

@@ -2,28 +2,20 @@
 use crate::halves::Halves;
 ghost use mathlib.Core.Path.{_≡_};
 ghost use Prim.Native.Nat.{_+_, _*_, _/_, _%_, _<_};
-ghost use lib.Dec.{ltb};
-ghost use Rattle.script_spec.specs.Text.{digit, decimal};
+ghost use Rattle.script_spec.specs.Text.{decimal};
 ghost use Rattle.writer.specs.Writing.{Appends};
 ghost use Rattle.bitvec.specs.Value.{whole};
 
+// What a step of a division gives.
 struct Division {
     quotient: u64,
     remainder: u64,
 }
 
+// A number without its last digit, and that digit.
 struct Tenth {
     rest: Halves,
     last: u64,
-}
-
-const DIGITS: [u8; 10] = [48, 49, 50, 51, 52, 53, 54, 55, 56, 57];
-
-fn digit(n: u64) -> u8
-    requires { ⌜ n < 10 ⌝ }
-    ensures { λ r. ⌜ r ≡ digit n ⌝ }
-{
-    DIGITS[n as usize]
 }
 
 // One step of long division by ten, at digits of 32 bits.
@@ -55,20 +47,14 @@ fn by_ten(high: u64, low: u64) -> Tenth
     }
 }
 
-fn one_digit(high: u64, low: u64) -> bool
-    ensures { λ r. ⌜ r ≡ ltb (whole high low) 10 ⌝ }
-{
-    high == 0 && low < 10
-}
-
 // Writes the number without leading zeros.
 pub fn put_decimal128(out: &mut [u8], at: usize, limit: usize, high: u64, low: u64) -> usize
     ensures { λ r. ⌜ Appends limit (now (out .entry)) at (now (out .exit)) r (decimal (whole high low)) ⌝ }
 {
-    if one_digit(high, low) {
-        return writer::put_byte(out, at, limit, digit(low));
+    if high == 0 {
+        return numeral::put_decimal(out, at, limit, low);
     }
     let t = by_ten(high, low);
     let next = put_decimal128(out, at, limit, t.rest.high, t.rest.low);
-    writer::put_byte(out, next, limit, digit(t.last))
+    numeral::put_decimal(out, next, limit, t.last)
 }

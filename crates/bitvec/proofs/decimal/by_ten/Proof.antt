@@ -1,9 +1,9 @@
--- `bitvec::numeral::by_ten` meets its contract: the two digits of each half, put together.
+-- `bitvec::decimal::by_ten` meets its contract: the two digits of each half, put together.
 -- Assumes nothing.
 use borrow.Author.Needs.{needs}
 use Rattle.bitvec.proofs.Division.{joined-lt, half, tenth}
-use Rattle.bitvec.proofs.numeral.by_ten.Statement.{statement}
-use Rattle.bitvec.proofs.numeral.by_ten.Tie as tie
+use Rattle.bitvec.proofs.decimal.by_ten.Statement.{statement}
+use Rattle.bitvec.proofs.decimal.by_ten.Tie as tie
 
 pub by-ten-spec : {M : Type 1} → statement M
 by-ten-spec =

@@ -1,0 +1,3 @@
+pub mod Reads
+pub mod Answers
+pub mod Items

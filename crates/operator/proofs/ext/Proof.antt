@@ -1,0 +1,31 @@
+-- The code of an extension operator, below ten.
+use mathlib.Core.Path.{refl, ap}
+use borrow.Author.Needs.{needs}
+use Rattle.script_spec.specs.Fields.{pure, extOp, coded}
+use Rattle.field.proofs.Coded.{reads-chosen, chosen-refused, at-map}
+use Rattle.field.proofs.Laws.{reads-stop, reads-next, reads-pure, tells}
+use Rattle.field.specs.Answers.{numberTold}
+use Rattle.field.specs.Reads.{chosen}
+use Rattle.operator.specs.Operators.{opOf, extOps, opTold, extOperator}
+use Rattle.operator.proofs.ext.Statement.{statement}
+use Rattle.operator.proofs.ext.Tie as tie
+
+returns : tie.Need-returns
+unfolding extOperator extOp coded opTold numberTold
+returns c = reads-stop _ (reads-stop _ (tells (ap numberTold (c.before.n.given.1)) c.before.before.before.byte.ensures))
+
+returns-2 : tie.Need-returns-2
+unfolding extOperator extOp coded chosen opTold opOf numberTold extOps
+returns-2 c = reads-next _ (reads-next _ (tells (ap numberTold (c.before.before.before.code.given.1)) c.before.before.before.before.before.byte.ensures) (reads-chosen _ _ refl (at-map pure extOps _ _ (c.ext-of.ensures.is)) (reads-pure _))) (reads-pure _)
+
+returns-3 : tie.Need-returns-3
+unfolding extOperator extOp coded chosen opTold numberTold
+returns-3 c = reads-stop _ (reads-next _ (tells (ap numberTold (c.before.before.code.given.1)) c.before.before.before.before.byte.ensures) (chosen-refused _ _ c.if1.left))
+
+pub ext-spec : {M : Type 1} → statement M
+ext-spec =
+    tie.close
+    (tie.spec (λ c κs. search needs) (λ c. search needs) (λ c. search needs) (λ c κs. search needs)
+    returns
+    returns-2
+    returns-3)
