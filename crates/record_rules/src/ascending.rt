@@ -5,7 +5,9 @@ use field::ReadText;
 ghost use lib.ListN.{take, drop};
 ghost use Rattle.field.specs.Reads.{Reads};
 ghost use Rattle.field.specs.Answers.{textTold};
-ghost use Rattle.record_rules.specs.Ascending.{namedText, itemText, Ascends, AscendsAfter};
+ghost use Rattle.script_spec.specs.Base.{ascending};
+ghost use Rattle.record_rules.specs.Decided.{Decides};
+ghost use Rattle.record_rules.specs.Tests.{namedText, itemText, ascendingAfter};
 
 // The text of an item with a reference after it.
 fn named_text(c: Cursor, body: &[u8]) -> ReadText
@@ -31,7 +33,7 @@ fn item_text(c: Cursor, body: &[u8], named: bool) -> ReadText
 
 // Whether so many texts ascend after the one at a start with a length.
 fn ascend_after(body: &[u8], named: bool, first: usize, size: usize, from: usize, count: u32) -> bool
-    ensures { λ r. ⌜ AscendsAfter named (now (body .entry)) (take size (drop first (now (body .entry)))) from count r ⌝ }
+    ensures { λ r. ⌜ Decides (itemText named) (ascendingAfter (take size (drop first (now (body .entry))))) (now (body .entry)) from count r ⌝ }
 {
     let mut start = first;
     let mut len = size;
@@ -61,7 +63,7 @@ fn ascend_after(body: &[u8], named: bool, first: usize, size: usize, from: usize
 
 // Whether so many texts from a place of the body on ascend.
 pub fn ascend(body: &[u8], named: bool, at: usize, count: u32) -> bool
-    ensures { λ r. ⌜ Ascends named (now (body .entry)) at count r ⌝ }
+    ensures { λ r. ⌜ Decides (itemText named) ascending (now (body .entry)) at count r ⌝ }
 {
     if count == 0 {
         return true;

@@ -3,7 +3,9 @@
 use mathlib.Core.Path.{ap}
 use Rattle.field.specs.Answers.{textTold, spanned}
 use Rattle.field.proofs.Laws.{tells}
-use Rattle.record_rules.proofs.Ordered.{ascends-none, ascends-first, ascends-bad}
+use native.Mathlib.Omega.{arith}
+use Rattle.record_rules.proofs.Decided.{decides-none, decides-next, decides-bad}
+use Rattle.record_rules.proofs.Ordered.{ascending-none, ascending-first}
 use native.Mathlib.Omega.{arith}
 use borrow.Author.Needs.{needs}
 use Rattle.record_rules.proofs.ascending.ascend.Statement.{statement}
@@ -15,7 +17,7 @@ use Rattle.record_rules.proofs.ascending.item_text.Reads as item-text-r
 
 -- src/ascending.rt:67:9
 returns : tie.Need-returns
-returns c = ascends-none _ c.if1.taken
+returns c = decides-none _ (omega arith) ascending-none
 
 -- src/ascending.rt:69:11
 item-text-requires : tie.Need-item-text-requires
@@ -40,12 +42,12 @@ ascend-after-requires c κs = search needs
 -- src/ascending.rt:63:1
 returns-2 : tie.Need-returns-2
 unfolding textTold
-returns-2 c = ascends-bad _ _ c.before.before.before.if1.left (tells (ap (textTold _) (c.enum-told.given.1)) c.before.before.item-text.ensures)
+returns-2 c = decides-bad _ _ (omega arith) (tells (ap (textTold _) (c.enum-told.given.1)) c.before.before.item-text.ensures)
 
 -- src/ascending.rt:63:1
 returns-3 : tie.Need-returns-3
 unfolding textTold spanned
-returns-3 c = ascends-first _ c.before.before.before.before.before.if1.left (tells (ap (textTold _) (c.before.before.span.given.1)) c.before.before.before.before.item-text.ensures) c.ascend-after.ensures
+returns-3 c = decides-next _ (omega arith) (tells (ap (textTold _) (c.before.before.span.given.1)) c.before.before.before.before.item-text.ensures) (record { go = λ ts rest e. ascending-first _ ts }) c.ascend-after.ensures
 
 pub ascend-spec : {M : Type 1} → statement M
 ascend-spec =
