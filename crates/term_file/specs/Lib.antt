@@ -1,0 +1,4 @@
+pub mod Marks
+pub mod Fields
+pub mod Bodies
+pub mod Records
