@@ -7,9 +7,10 @@ use mathlib.Core.Bool.{Bool}
 use mathlib.Core.List.{List, [], _∷_}
 use lib.ListN.{drop}
 use Rattle.script_spec.specs.Base.{Bytes}
-use Rattle.script_spec.specs.Fields.{Reader, got, pure, times}
+use Rattle.script_spec.specs.Fields.{Reader, got, pure, times, u32, list}
 use Rattle.field.specs.Reads.{value, refusal, asRead, Reads}
-use Rattle.record_rules.specs.Decided.{Decides}
+use Rattle.segments.proofs.Inverse.{bind-inverse}
+use Rattle.record_rules.specs.Decided.{Decides, DecidesList}
 use Rattle.record_rules.proofs.Lists.{times-next, times-bad}
 
 -- something holds of the next `count` items, where there are so many
@@ -56,3 +57,22 @@ module _ {A : Type 0} {item : Reader A} {test : List A → Bool} {body : Bytes} 
   pub going-on : {these : List A → Bool} (left : ℕ) {at : ℕ} {x : A} {to : ℕ} {others : List A → Bool} → 0 < left → Going item test body from count these at left → Reads item body at (value x to)
       → Follows item body to (left - 1) (λ xs. these (x ∷ xs) ≡ others xs) → Going item test body from count others to (left - 1)
   going-on left z G h l = record { go = λ b D. G .go b (decides-next left z h l D) }
+
+-- ---- lists
+
+module _ {A : Type 0} {item : Reader A} {test : List A → Bool} {body : Bytes} {at : ℕ} where
+  pub decides-list : {n to : ℕ} {b : Bool} → Reads u32 body at (value n to) → Decides item test body to n b → DecidesList item test body at b
+  unfolding asRead list
+  decides-list {n} {to} h D =
+      record {
+        go = λ xs rest e.
+            let x = bind-inverse u32 _ (drop at body) e in
+            let count : x .value ≡ n = cc (x .first, h .is) in
+            let left : x .mid ≡ drop to body = cc (x .first, h .is) in
+            D .go xs rest (rw (← count, ← left) (x .after));
+      }
+
+  -- a count that is not there
+  pub list-bad : {n : ℕ} (b : Bool) → Reads u32 body at (refusal n) → DecidesList item test body at b
+  unfolding asRead list
+  list-bad b h = record { go = λ xs rest e. let x = bind-inverse u32 _ (drop at body) e in let z : _≡_ {A = ℕ} 0 1 = cc (x .first, h .is) in absurd (omega arith) }

@@ -1,2 +1,4 @@
 pub mod Decided
 pub mod Tests
+pub mod Marks
+pub mod Records

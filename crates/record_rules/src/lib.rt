@@ -2,3 +2,4 @@
 pub mod text;
 pub mod ascending;
 pub mod distinct;
+pub mod record;
