@@ -7,3 +7,4 @@ pub mod Marks
 pub mod Shapes
 pub mod RecordLaws
 pub mod Places
+pub mod EnumLaws

@@ -2,3 +2,4 @@ pub mod Decided
 pub mod Tests
 pub mod Marks
 pub mod Records
+pub mod Enums

@@ -1,10 +1,10 @@
 -- The tests of a list's items that rule 9 asks for, and the items.
 -- Assumes nothing.
 use Prim.Native.Nat.{ℕ}
-use mathlib.Core.Bool.{Bool, true, false}
+use mathlib.Core.Bool.{Bool, true, false, not}
 use mathlib.Core.List.{List, _∷_, map}
 use lib.Dec.{eqb}
-use Rattle.script_spec.specs.Base.{Bytes, ascending, any}
+use Rattle.script_spec.specs.Base.{Bytes, ascending, any, empty}
 use Rattle.script_spec.specs.Fields.{Reader, _>>=_, pure, text, u32}
 use Rattle.index.specs.Cells.{cell, termFirst}
 use Rattle.index.specs.Rules.{different}
@@ -29,3 +29,7 @@ anyFirst work k n rs = any (eqb n) (map (cell work k termFirst) rs)
 -- no two of these terms have the same first equal number
 unfoldable pub differentTerms : List ℕ → ℕ → List ℕ → Bool
 differentTerms work k rs = different (map (cell work k termFirst) rs)
+
+-- there are any
+unfoldable pub given : List Bytes → Bool
+given ts = not (empty ts)

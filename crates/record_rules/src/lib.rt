@@ -3,3 +3,4 @@ pub mod text;
 pub mod ascending;
 pub mod distinct;
 pub mod record;
+pub mod members;

@@ -35,7 +35,7 @@ pub fn letter(file: &[u8], o: usize) -> u8
 }
 
 // Whether the texts of a list at a place of the body ascend.
-fn list_ascends(body: &[u8], named: bool, at: usize) -> bool
+pub fn list_ascends(body: &[u8], named: bool, at: usize) -> bool
     ensures { λ r. ⌜ DecidesList (itemText named) ascending (now (body .entry)) at r ⌝ }
 {
     match (Cursor { at }).u32_le(body) {
