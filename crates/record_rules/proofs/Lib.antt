@@ -8,3 +8,5 @@ pub mod Shapes
 pub mod RecordLaws
 pub mod Places
 pub mod EnumLaws
+pub mod Operators
+pub mod TermLaws

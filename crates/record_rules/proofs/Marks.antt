@@ -15,14 +15,14 @@ use Rattle.segments.proofs.Agreement.{lookup-all}
 use Rattle.record_rules.specs.Marks.{datatypeBytes, typeBytes, termBytes, markOf}
 
 -- every value that a reader gives is in P
-record Yields {A : Type 0} (P : A → Type 0) (r : Reader A) : Type 0 where
-  go : (s rest : Bytes) (a : A) → r s ≡ got a rest → P a
+pub record Yields {A : Type 0} (P : A → Type 0) (r : Reader A) : Type 0 where
+  pub go : (s rest : Bytes) (a : A) → r s ≡ got a rest → P a
 
 module _ {A : Type 0} {P : A → Type 0} where
-  yields-pure : (a : A) → P a → Yields P (pure a)
+  pub yields-pure : (a : A) → P a → Yields P (pure a)
   yields-pure a h = record { go = λ s rest b e. subst P (pure-inverse a s e .0) h }
 
-  yields-after : {B : Type 0} (r : Reader B) {k : B → Reader A} → ((b : B) → Yields P (k b)) → Yields P (_>>=_ r k)
+  pub yields-after : {B : Type 0} (r : Reader B) {k : B → Reader A} → ((b : B) → Yields P (k b)) → Yields P (_>>=_ r k)
   yields-after r {k} H = record { go = λ s rest b e. let x = bind-inverse r k s e in H (x .value) .go (x .mid) rest b (x .after) }
 
 -- a mark's reader gives entries of that mark

@@ -18,7 +18,7 @@ use Rattle.record_rules.proofs.Lists.{names-read, references-read}
 use Rattle.record_rules.proofs.Marks.{entry-mark}
 
 -- the reader that the table has for an entry's mark gave the entry
-read-by : (mark body : Bytes) {x : Entry} {r : Reader Entry} → entryOf mark body ≡ some x → lookup (markOf x) (marks loose) ≡ some r → r body ≡ got x []
+pub read-by : (mark body : Bytes) {x : Entry} {r : Reader Entry} → entryOf mark body ≡ some x → lookup (markOf x) (marks loose) ≡ some r → r body ≡ got x []
 read-by mark body {x} {r} e l =
     let h = entryOf-inverse mark body e in
     let same : some (h .reader) ≡ some r = sym (h .found) ∙ ap (λ (m : Bytes). lookup m (marks loose)) (entry-mark mark body e) ∙ l in

@@ -3,3 +3,4 @@ pub mod Tests
 pub mod Marks
 pub mod Records
 pub mod Enums
+pub mod Terms

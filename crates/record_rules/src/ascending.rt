@@ -32,7 +32,14 @@ fn item_text(c: Cursor, body: &[u8], named: bool) -> ReadText
 }
 
 // Whether so many texts ascend after the one at a start with a length.
-fn ascend_after(body: &[u8], named: bool, first: usize, size: usize, from: usize, count: u32) -> bool
+fn ascend_after(
+    body: &[u8],
+    named: bool,
+    first: usize,
+    size: usize,
+    from: usize,
+    count: u32,
+) -> bool
     ensures { λ r. ⌜ Decides (itemText named) (ascendingAfter (take size (drop first (now (body .entry))))) (now (body .entry)) from count r ⌝ }
 {
     let mut start = first;
@@ -70,6 +77,13 @@ pub fn ascend(body: &[u8], named: bool, at: usize, count: u32) -> bool
     }
     match item_text(Cursor { at }, body, named) {
         ReadText::Bad(_) => true,
-        ReadText::Bytes(span, d) => ascend_after(body, named, span.start, span.len, d.at, count - 1),
+        ReadText::Bytes(span, d) => ascend_after(
+            body,
+            named,
+            span.start,
+            span.len,
+            d.at,
+            count - 1,
+        ),
     }
 }

@@ -45,7 +45,7 @@ pub fn list_ascends(body: &[u8], named: bool, at: usize) -> bool
 }
 
 // Whether the terms of a list at a place of the body differ.
-fn list_differs(body: &[u8], work: &[u32], k: usize, at: usize) -> bool
+pub fn list_differs(body: &[u8], work: &[u32], k: usize, at: usize) -> bool
     ensures { λ r. ⌜ DecidesList u32 (differentTerms (now (work .entry)) k) (now (body .entry)) at r ⌝ }
 {
     match (Cursor { at }).u32_le(body) {
