@@ -14,16 +14,11 @@ use Rattle.script_spec.specs.Fields.{Entry}
 use Rattle.script_spec.specs.Fields as fields
 use Rattle.script_spec.specs.File.{TermFile, Named, type, enum, func, term, input, types, funs, terms, enums, typeAt, named, earlier}
 use Rattle.index.specs.First.{orElse, firstType, InRange}
-use Rattle.index.specs.Meaning.{Stands, counted, Index, Depths}
+use Rattle.index.specs.Meaning.{Stands, counted, Indexed}
 use Rattle.index.proofs.Growth.{lists-type, lists-func, lists-term, lists-enum, lists-input, type-added, fun-added, term-added, types-kept}
 use Rattle.index.proofs.Later.{more-append, in-range-more, named-kept}
 use Rattle.index.proofs.Stores.{changed-refl, TypeStored, FunStored, TermStored, EnumStored}
 use Rattle.index.proofs.Rows.{untouched, index-grown, depths-grown}
-
--- the index of the records f, with the depths
-pub record Indexed (file : Bytes) (f : TermFile) (work : List ℕ) (k : ℕ) : Type 0 where
-  pub index : Index file f work k
-  pub depths : Depths file f work k
 
 -- any memory is the index of no records
 pub indexed-none : (file : Bytes) (work : List ℕ) (k : ℕ) → 12 * k ≤ length work → Indexed file [] work k
