@@ -22,8 +22,7 @@ use Rattle.index.proofs.Readers.{_&_}
 use Rattle.segments.proofs.Standing.{entryOf-inverse}
 use Rattle.segments.specs.Segment as segment
 use Rattle.segments.specs.Segment.{mapped}
-use Rattle.segments.specs.Machine.{Then, operandThen, codeThen, operator, fieldThen, itemThen, counted, last, remaining, startType, startList, startTerm, start, segments, reference, named}
-use Rattle.segments.specs.Machine as machine
+use Rattle.segments.specs.Machine.{Then, operandThen, operandOf, codedThen, codeThen, operator, fieldThen, itemThen, counted, last, remaining, ahead, startType, startList, startTerm, start, segments, reference, named}
 use Rattle.segments.specs.declared.Item.the-variants as item
 use Rattle.segments.proofs.Inverse.{Took, coded-inverse}
 use Rattle.segments.proofs.Tells.{cut-took, cons-parts, Tells, FieldTells, tells-bind, field-pure, tells-pure, tells-then, field-then}
@@ -32,11 +31,11 @@ use Rattle.segments.proofs.Told.{plainly-number, plainly-elements, plai
 -- ---- tables by codes
 
 -- each item of a table with its code, from n on
-unfoldable Each : {A : Type 0} → (ℕ → A → Type 0) → ℕ → List A → Type 0
+unfoldable pub Each : {A : Type 0} → (ℕ → A → Type 0) → ℕ → List A → Type 0
 Each P n [] = Unit {0}
 Each P n (x ∷ xs) = P n x × Each P (suc n) xs
 
-each-at : {A : Type 0} (P : ℕ → A → Type 0) (b n : ℕ) (xs : List A) {x : A} → Each P n xs → at b xs ≡ some x → P (b + n) x
+pub each-at : {A : Type 0} (P : ℕ → A → Type 0) (b n : ℕ) (xs : List A) {x : A} → Each P n xs → at b xs ≡ some x → P (b + n) x
 unfolding Each at
 each-at P b n [] {x} h e = absurd (Option·none-ne-some x e)
 each-at P zero n (y ∷ ys) {x} h e =
@@ -69,7 +68,7 @@ module _ (types funs terms : ℕ → ℕ) where
   plain-tells o = field-pure g (Plain o) (Plain o) refl
 
   operators-tell : (count : ℕ) → Each OperatorTells 0 (operators count)
-  unfolding Each operators codeThen operandThen renamedOp extOp
+  unfolding Each operators codeThen operandOf codedThen operandThen renamedOp extOp
   operators-tell count =
       plain-tells And & plain-tells Bvadd & plain-tells Bvlshr & plain-tells Bvmul & plain-tells Bvneg
       & plain-tells Bvnego & plain-tells Bvsaddo & plain-tells Bvsdiv & plain-tells Bvshl & plain-tells Bvsle
@@ -141,7 +140,7 @@ module _ (types funs terms : ℕ → ℕ) where
 
     -- each mark's reader, in the order of `marks`
     marks-tell : All (λ p. Tells g Same (p .1) (p .1) (segments (p .0))) (marks e)
-    unfolding All marks leaf bytes segments start startType startTerm startList remaining machine.fields machine.listing fieldThen last counted itemThen renumbered renamed renamedOp entityRef
+    unfolding All marks leaf bytes segments start startType startTerm startList ahead remaining fieldThen last counted itemThen renumbered renamed renamedOp entityRef
     marks-tell =
         plainly
         & plainly

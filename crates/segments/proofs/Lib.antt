@@ -3,3 +3,8 @@ pub mod Standing
 pub mod Tells
 pub mod Told
 pub mod Agreement
+pub mod Prints
+pub mod Shows
+pub mod Shown
+pub mod Equal
+pub mod Steps

@@ -23,7 +23,7 @@ pub record Plainly {A : Type 0} (r : Reader A) (size : Bytes → ℕ) : Type 0 w
   pub took : (s rest : Bytes) (a : A) → r s ≡ got a rest → Took (size s) s (take (size s) s) rest
   pub only : (s s′ rest rest′ : Bytes) (a a′ : A) → r s ≡ got a rest → r s′ ≡ got a′ rest′ → take (size s) s ≡ take (size s′) s′ → a ≡ a′
 
-plainly-text : Plainly text textSize
+pub plainly-text : Plainly text textSize
 plainly-text =
     record {
       took = λ s rest a e. let t = text-inverse s e .took in record { fits = t .fits; is = refl; left = t .left };

@@ -1,2 +1,4 @@
 pub mod Segment
 pub mod Machine
+pub mod Step
+pub mod Printed

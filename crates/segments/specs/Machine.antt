@@ -11,6 +11,8 @@ use Rattle.script_spec.specs.Fields.{low}
 use Rattle.segments.specs.Segment.{Segment, plain, typeRef, funRef, termRef}
 use Rattle.segments.specs.declared.Operand.{Operand}
 use Rattle.segments.specs.declared.Operand.the-variants as operand
+use Rattle.segments.specs.declared.Coded.{Coded}
+use Rattle.segments.specs.declared.Coded.the-variants.{With, Absent}
 use Rattle.segments.specs.declared.Field.{Field}
 use Rattle.segments.specs.declared.Field.the-variants as field
 use Rattle.segments.specs.declared.Item.{Item}
@@ -47,22 +49,27 @@ operandThen operand.Text next s = named next s
 operandThen operand.Elements next s = cut (4 + 4 * low (take 4 s)) plain next s
 operandThen operand.Function next s = reference funRef next s
 
--- the operand of the operator with code b, if it has one: `Ext`, `RecordGet`, `StringLike`, `Uuf` and `ZeroExtend`
-unfoldable pub codeThen : ℕ → Then → Then
-codeThen b next s =
+-- what the operator with code b has after its code: `Ext`, `RecordGet`, `StringLike`, `Uuf` and `ZeroExtend` have an operand
+unfoldable pub operandOf : ℕ → Coded
+operandOf b =
     elim (eqb b 21) [
-      | true ↦ operandThen operand.Byte next s
+      | true ↦ With operand.Byte
       | false ↦ elim (eqb b 26) [
-        | true ↦ operandThen operand.Text next s
+        | true ↦ With operand.Text
         | false ↦ elim (eqb b 30) [
-          | true ↦ operandThen operand.Elements next s
-          | false ↦ elim (eqb b 31) [
-            | true ↦ operandThen operand.Function next s
-            | false ↦ elim (eqb b 32) [ true ↦ operandThen operand.Word next s | false ↦ next s ]
-          ]
+          | true ↦ With operand.Elements
+          | false ↦ elim (eqb b 31) [ true ↦ With operand.Function | false ↦ elim (eqb b 32) [ true ↦ With operand.Word | false ↦ Absent ] ]
         ]
       ]
     ]
+
+unfoldable pub codedThen : Coded → Then → Then
+codedThen (With o) next = operandThen o next
+codedThen Absent next = next
+
+-- what comes after the code b
+unfoldable pub codeThen : ℕ → Then → Then
+codeThen b next = codedThen (operandOf b) next
 
 -- an operator's code and its operand
 unfoldable pub operator : Then → Then
@@ -119,11 +126,11 @@ Meets body l End = l ≡ []
 -- ---- the start
 
 -- a walk from the start of a body with these fields, and no list after them
-unfoldable pub fields : Field → Field → Walk
+abbrev pub fields : Field → Field → Walk
 fields f g = record { first = f; second = g; counts = false; item = item.Term; left = 0; at = 0 }
 
 -- with a list after them
-unfoldable pub listing : Field → Field → Item → Walk
+abbrev pub listing : Field → Field → Item → Walk
 listing f g i = record { first = f; second = g; counts = true; item = i; left = 0; at = 0 }
 
 -- the start in the body of a type, by the second byte of its mark: O, C, R
@@ -181,4 +188,4 @@ start a b =
 
 -- the segments of a body under a mark
 unfoldable pub segments : Bytes → Bytes → List Segment
-segments mark body = remaining (start (getD mark 0 0) (getD mark 1 0)) body
+segments mark body = ahead body (start (getD mark 0 0) (getD mark 1 0))

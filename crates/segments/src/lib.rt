@@ -1,4 +1,11 @@
 // A record's body as plain bytes and references, in order: a walk that meets one segment after the other.
+ghost use mathlib.Core.Path.{_≡_};
+ghost use Prim.Native.Nat.{_<_};
+ghost use lib.ListN.{drop};
+ghost use mathlib.Core.List.{[], _∷_};
+ghost use Rattle.segments.specs.Segment.{plain};
+ghost use Rattle.segments.specs.Machine.{cut, reference, named, operandOf, operator, operandThen, counted, remaining, ahead, Meets, fields, listing, startType, startList, startTerm, start};
+ghost use Rattle.segments.specs.Step.{refer, Reads, ending, after, popped, put, itemsFrom};
 
 // What an operator has after its code.
 pub enum Operand {
@@ -45,4 +52,356 @@ pub enum Met {
     FunRef(u32, Walk),
     TermRef(u32, Walk),
     End,
+}
+
+// Whether an operator has an operand.
+pub enum Coded {
+    With(Operand),
+    Absent,
+}
+
+// What a reference is to.
+enum Kind {
+    TypeKind,
+    FunKind,
+    TermKind,
+}
+
+// Four bytes, low byte first, if they are there.
+pub enum Word {
+    Value(u32),
+    Short,
+}
+
+fn wide(b: u8) -> u32
+    ensures { λ r. ⌜ (r ≡ b) × (r < 256) ⌝ }
+{
+    b as u32
+}
+
+// The four bytes at a place as a number.
+pub fn read_word(body: &[u8], at: usize) -> Word
+    ensures { λ r. ⌜ Reads (drop at (now (body .entry))) r ⌝ }
+{
+    if body.len() < at {
+        return Word::Short;
+    }
+    if body.len() - at < 4 {
+        return Word::Short;
+    }
+    let b0 = wide(body[at]);
+    let b1 = wide(body[at + 1]);
+    let b2 = wide(body[at + 2]);
+    let b3 = wide(body[at + 3]);
+    Word::Value(b0 + 256 * (b1 + 256 * (b2 + 256 * b3)))
+}
+
+impl Walk {
+    // The walk after the first field.
+    fn popped(self) -> Walk
+        ensures { λ r. ⌜ r ≡ popped self ⌝ }
+    {
+        let second = self.second;
+        let item = self.item;
+        Walk {
+            first: second,
+            second: Field::Nothing,
+            counts: self.counts,
+            item,
+            left: self.left,
+            at: self.at,
+        }
+    }
+
+    // The walk with another first field.
+    fn put(self, f: Field) -> Walk
+        ensures { λ r. ⌜ r ≡ put self f ⌝ }
+    {
+        let second = self.second;
+        let item = self.item;
+        Walk {
+            first: f,
+            second,
+            counts: self.counts,
+            item,
+            left: self.left,
+            at: self.at,
+        }
+    }
+
+    // The walk at n items, of which the first has the field f left.
+    fn items_from(self, f: Field, n: u32) -> Walk
+        ensures { λ r. ⌜ r ≡ itemsFrom self f n ⌝ }
+    {
+        let item = self.item;
+        Walk {
+            first: f,
+            second: Field::Nothing,
+            counts: false,
+            item,
+            left: n,
+            at: self.at,
+        }
+    }
+
+    // n bytes, after which this walk goes on.
+    fn plain(mut self, body: &[u8], n: usize) -> Met
+        requires { ⌜ 0 < n ⌝ }
+        ensures { λ r. ⌜ Meets (now (body .entry)) (cut n plain (remaining self) (drop (self .at) (now (body .entry)))) r ⌝ }
+    {
+        let at = self.at;
+        if body.len() < at {
+            return Met::End;
+        }
+        if body.len() - at < n {
+            return Met::End;
+        }
+        self.at = at + n;
+        Met::Plain(at, n, self)
+    }
+
+    // A reference, after which this walk goes on.
+    fn reference(mut self, body: &[u8], kind: Kind) -> Met
+        ensures { λ r. ⌜ Meets (now (body .entry)) (reference (refer kind) (remaining self) (drop (self .at) (now (body .entry)))) r ⌝ }
+    {
+        let at = self.at;
+        let Word::Value(n) = read_word(body, at) else {
+            return Met::End;
+        };
+        self.at = at + 4;
+        match kind {
+            Kind::TypeKind => Met::TypeRef(n, self),
+            Kind::FunKind => Met::FunRef(n, self),
+            Kind::TermKind => Met::TermRef(n, self),
+        }
+    }
+
+    // A text with its count.
+    fn text(self, body: &[u8]) -> Met
+        ensures { λ r. ⌜ Meets (now (body .entry)) (named (remaining self) (drop (self .at) (now (body .entry)))) r ⌝ }
+    {
+        let Word::Value(n) = read_word(body, self.at) else {
+            return Met::End;
+        };
+        let size = n as usize;
+        self.plain(body, 4 + size)
+    }
+
+    // The elements of a pattern with their count.
+    fn elements(self, body: &[u8]) -> Met
+        ensures { λ r. ⌜ Meets (now (body .entry)) (operandThen Operand.Elements (remaining self) (drop (self .at) (now (body .entry)))) r ⌝ }
+    {
+        let Word::Value(n) = read_word(body, self.at) else {
+            return Met::End;
+        };
+        let size = n as usize;
+        self.plain(body, 4 + 4 * size)
+    }
+
+    // All bytes that are left.
+    fn rest(mut self, body: &[u8]) -> Met
+        ensures { λ r. ⌜ Meets (now (body .entry)) (plain (drop (self .at) (now (body .entry))) ∷ remaining self []) r ⌝ }
+    {
+        let at = self.at;
+        let len = body.len();
+        self.at = len;
+        if len < at {
+            return Met::Plain(len, 0, self);
+        }
+        Met::Plain(at, len - at, self)
+    }
+
+    // An operand, after which this walk goes on.
+    fn operand(self, body: &[u8], operand: Operand) -> Met
+        ensures { λ r. ⌜ Meets (now (body .entry)) (operandThen operand (remaining self) (drop (self .at) (now (body .entry)))) r ⌝ }
+    {
+        match operand {
+            Operand::Byte => self.plain(body, 1),
+            Operand::Word => self.plain(body, 4),
+            Operand::Text => self.text(body),
+            Operand::Elements => self.elements(body),
+            Operand::Function => self.reference(body, Kind::FunKind),
+        }
+    }
+
+    // The code of an operator.
+    fn operator(self, body: &[u8]) -> Met
+        ensures { λ r. ⌜ Meets (now (body .entry)) (operator (after self) (drop (self .at) (now (body .entry)))) r ⌝ }
+    {
+        let at = self.at;
+        if body.len() <= at {
+            return Met::End;
+        }
+        match operand_of(body[at]) {
+            Coded::With(o) => self.put(Field::Operand(o)).plain(body, 1),
+            Coded::Absent => self.popped().plain(body, 1),
+        }
+    }
+
+    // The count of a list.
+    fn count(self, body: &[u8]) -> Met
+        ensures { λ r. ⌜ Meets (now (body .entry)) (counted (self .item) (drop (self .at) (now (body .entry)))) r ⌝ }
+    {
+        let Word::Value(n) = read_word(body, self.at) else {
+            return Met::End;
+        };
+        self.items_from(Field::Nothing, n).plain(body, 4)
+    }
+
+    // Where no fields are left: a count, or the next item.
+    fn ending(self, body: &[u8]) -> Met
+        ensures { λ r. ⌜ Meets (now (body .entry)) (ending self (drop (self .at) (now (body .entry)))) r ⌝ }
+    {
+        if self.counts {
+            return self.count(body);
+        }
+        let left = self.left;
+        if left == 0 {
+            return Met::End;
+        }
+        let item = self.item;
+        match item {
+            Item::Term => self.items_from(Field::Nothing, left - 1)
+                .reference(body, Kind::TermKind),
+            Item::NamedType => self.items_from(Field::TypeRef, left - 1).text(body),
+            Item::NamedTerm => self.items_from(Field::TermRef, left - 1).text(body),
+        }
+    }
+
+    // The next segment.
+    pub fn next(self, body: &[u8]) -> Met
+        ensures { λ r. ⌜ Meets (now (body .entry)) (ahead (now (body .entry)) self) r ⌝ }
+    {
+        let first = self.first;
+        match first {
+            Field::Nothing => self.ending(body),
+            Field::Rest => self.popped().rest(body),
+            Field::TypeRef => self.popped().reference(body, Kind::TypeKind),
+            Field::TermRef => self.popped().reference(body, Kind::TermKind),
+            Field::NamedType => self.put(Field::TypeRef).text(body),
+            Field::NamedTerm => self.put(Field::TermRef).text(body),
+            Field::Operator => self.operator(body),
+            Field::Operand(o) => self.popped().operand(body, o),
+        }
+    }
+}
+
+// The operand of the operator with a code.
+fn operand_of(code: u8) -> Coded
+    ensures { λ r. ⌜ r ≡ operandOf code ⌝ }
+{
+    if code == 21 {
+        return Coded::With(Operand::Byte);
+    }
+    if code == 26 {
+        return Coded::With(Operand::Text);
+    }
+    if code == 30 {
+        return Coded::With(Operand::Elements);
+    }
+    if code == 31 {
+        return Coded::With(Operand::Function);
+    }
+    if code == 32 {
+        return Coded::With(Operand::Word);
+    }
+    Coded::Absent
+}
+
+// A walk from the start of a body with these fields, and no list after them.
+fn fields(f: Field, g: Field) -> Walk
+    ensures { λ r. ⌜ r ≡ fields f g ⌝ }
+{
+    Walk {
+        first: f,
+        second: g,
+        counts: false,
+        item: Item::Term,
+        left: 0,
+        at: 0,
+    }
+}
+
+// With a list after them.
+fn listing(f: Field, g: Field, item: Item) -> Walk
+    ensures { λ r. ⌜ r ≡ listing f g item ⌝ }
+{
+    Walk {
+        first: f,
+        second: g,
+        counts: true,
+        item,
+        left: 0,
+        at: 0,
+    }
+}
+
+// The start in the body of a type, by the second byte of its mark.
+fn start_type(b: u8) -> Walk
+    ensures { λ r. ⌜ r ≡ startType b ⌝ }
+{
+    if b == b'O' {
+        return fields(Field::TypeRef, Field::Nothing);
+    }
+    if b == b'C' {
+        return fields(Field::TypeRef, Field::Nothing);
+    }
+    if b == b'R' {
+        return listing(Field::Nothing, Field::Nothing, Item::NamedType);
+    }
+    fields(Field::Rest, Field::Nothing)
+}
+
+// In the body of a term with a list.
+fn start_list(b: u8) -> Walk
+    ensures { λ r. ⌜ r ≡ startList b ⌝ }
+{
+    if b == b'C' {
+        return listing(Field::TypeRef, Field::Nothing, Item::Term);
+    }
+    if b == b'R' {
+        return listing(Field::Nothing, Field::Nothing, Item::NamedTerm);
+    }
+    if b == b'A' {
+        return listing(Field::TypeRef, Field::Operator, Item::Term);
+    }
+    fields(Field::Rest, Field::Nothing)
+}
+
+// In the body of a term.
+fn start_term(b: u8) -> Walk
+    ensures { λ r. ⌜ r ≡ startTerm b ⌝ }
+{
+    if b == b'V' {
+        return fields(Field::NamedType, Field::Nothing);
+    }
+    if b == b'E' {
+        return fields(Field::TypeRef, Field::Rest);
+    }
+    if b == b'0' {
+        return fields(Field::TypeRef, Field::Nothing);
+    }
+    if b == b'1' {
+        return fields(Field::TermRef, Field::Nothing);
+    }
+    start_list(b)
+}
+
+// In the body of a record, by the two bytes of its mark.
+pub fn start(a: u8, b: u8) -> Walk
+    ensures { λ r. ⌜ r ≡ start a b ⌝ }
+{
+    if a == b'T' {
+        return start_type(b);
+    }
+    if a == b'X' {
+        return start_term(b);
+    }
+    if a == b'U' {
+        return fields(Field::NamedType, Field::TypeRef);
+    }
+    if a == b'I' {
+        return fields(Field::TermRef, Field::Nothing);
+    }
+    fields(Field::Rest, Field::Nothing)
 }

@@ -1,0 +1,3 @@
+pub mod Views
+pub mod Compared
+pub mod Canonical

@@ -1,0 +1,83 @@
+-- A list of segments by its first: the kind, the number and the bytes of that, and the rest; and what the functions that compare promise.
+-- Assumes nothing.
+use Prim.Native.Nat.{ℕ, _+_, _≤_, _<_}
+use mathlib.Core.Path.{_≡_}
+use mathlib.Core.Bool.{Bool, true}
+use mathlib.Core.List.{List, [], _∷_, map}
+use lib.ListN.{length, take, drop, getD}
+use Rattle.script_spec.specs.Base.{Bytes}
+use Rattle.index.specs.Cells.{cell, typeFirst, funFirst, termFirst}
+use Rattle.index.specs.Standing.{markAt, bodyAt}
+use Rattle.segments.specs.Segment.{Segment, plain, typeRef, funRef, termRef, mapped}
+use Rattle.segments.specs.Machine.{start, ahead, segments}
+use Rattle.segments.specs.declared.Walk.{Walk}
+use Rattle.compare.specs.declared.Seen.{Seen}
+
+-- 0 for no segment, 1 for bytes, 2, 3 and 4 for a reference to a type, a function and a term
+unfoldable pub kindOf : List Segment → ℕ
+kindOf [] = 0
+kindOf (plain p ∷ l) = 1
+kindOf (typeRef n ∷ l) = 2
+kindOf (funRef n ∷ l) = 3
+kindOf (termRef n ∷ l) = 4
+
+-- the number of a reference, 0 where there is none
+unfoldable pub numberOf : List Segment → ℕ
+numberOf [] = 0
+numberOf (plain p ∷ l) = 0
+numberOf (typeRef n ∷ l) = n
+numberOf (funRef n ∷ l) = n
+numberOf (termRef n ∷ l) = n
+
+-- the bytes of a plain segment, none where there is none
+unfoldable pub bytesOf : List Segment → Bytes
+bytesOf [] = []
+bytesOf (plain p ∷ l) = p
+bytesOf (typeRef n ∷ l) = []
+bytesOf (funRef n ∷ l) = []
+bytesOf (termRef n ∷ l) = []
+
+-- the segments after the first
+unfoldable pub after : List Segment → List Segment
+after [] = []
+after (x ∷ l) = l
+
+-- a segment with the number of the first equal record for its reference
+unfoldable pub firsts : List ℕ → ℕ → Segment → Segment
+firsts work k = mapped (cell work k typeFirst) (cell work k funFirst) (cell work k termFirst)
+
+-- what is seen of the segments l of a body is their first, with other numbers by g, and the walk after it
+pub record Sees (body : Bytes) (g : Segment → Segment) (l : List Segment) (s : Seen) : Type 0 where
+  pub kind : s .kind ≡ kindOf (map g l)
+  pub number : s .number ≡ numberOf (map g l)
+  pub within : s .start + s .size ≤ length body
+  pub bytes : take (s .size) (drop (s .start) body) ≡ bytesOf (map g l)
+  pub next : 0 < s .kind → map g (ahead body (s .next)) ≡ after (map g l)
+  pub fewer : 0 < s .kind → length (ahead body (s .next)) < length l
+
+-- the walk at the start of the record at an offset
+unfoldable pub startAt : Bytes → ℕ → Walk
+startAt file o = start (getD (markAt file o) 0 0) (getD (markAt file o) 1 0)
+
+-- the segments of the record at an offset
+unfoldable pub segmentsAt : Bytes → ℕ → List Segment
+segmentsAt file o = segments (markAt file o) (bodyAt file o)
+
+-- a test that is true exactly where P holds
+pub record Decides (r : Bool) (P : Type 0) : Type 0 where
+  pub true-of : P → r ≡ true
+  pub of-true : r ≡ true → P
+
+-- two first segments are equal
+pub record Alike (a b : Bytes) (s t : Seen) : Type 0 where
+  pub kind : s .kind ≡ t .kind
+  pub number : s .number ≡ t .number
+  pub bytes : take (s .size) (drop (s .start) a) ≡ take (t .size) (drop (t .start) b)
+
+-- what is ahead of two walks is equal, with other numbers by g
+abbrev pub SameAhead : (Segment → Segment) → Bytes → Walk → Bytes → Walk → Type 0
+SameAhead g a v b w = map g (ahead a v) ≡ map g (ahead b w)
+
+-- the segments of two records are equal, with other numbers by g
+abbrev pub SameSegments : (Segment → Segment) → Bytes → ℕ → ℕ → Type 0
+SameSegments g file o p = map g (segmentsAt file o) ≡ map g (segmentsAt file p)

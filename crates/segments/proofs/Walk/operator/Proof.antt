@@ -1,0 +1,31 @@
+-- `segments::Walk::operator` meets its contract: the code is the first byte from the place on.
+-- Assumes nothing.
+use native.Mathlib.Omega.{arith}
+use borrow.Author.Needs.{needs}
+use mathlib.Core.Path.{sym, _∙_}
+use Rattle.segments.proofs.Steps.{cut-short, operator-with}
+use Rattle.segments.specs.Step.{after, ending}
+use Rattle.segments.specs.Machine.{operator, codedThen, remaining, fieldThen}
+use Rattle.segments.specs.Segment.{plain}
+use Rattle.segments.proofs.Walk.operator.Statement.{statement}
+use Rattle.segments.proofs.Walk.operator.Tie as tie
+
+returns : tie.Need-returns
+unfolding operator
+returns c = cut-short 1 c.before.before.args.self.at c.before.before.args.body.now plain _ (omega arith)
+
+returns-2 : tie.Need-returns-2
+unfolding after ending codedThen remaining fieldThen
+returns-2 c = rw (operator-with c.before.before.before.before.before.before.before.before.before.args.self.at c.before.before.before.before.before.before.before.before.before.args.body.now _ (sym c.before.before.before.before.before.operand-of.ensures ∙ c.before.before.before.o.given.1)) (rw c.before.put.ensures at c.plain.ensures)
+
+returns-3 : tie.Need-returns-3
+unfolding after ending codedThen remaining fieldThen
+returns-3 c = rw (operator-with c.before.before.before.before.before.before.before.before.args.self.at c.before.before.before.before.before.before.before.before.args.body.now _ (sym c.before.before.before.before.operand-of.ensures ∙ c.before.before.enum-told.given.1)) (rw c.before.popped.ensures at c.plain2.ensures)
+
+pub operator-spec : {M : Type 1} → statement M
+operator-spec =
+    tie.close
+    (tie.spec
+    returns (λ c. search needs) (λ c κs. search needs) (λ c. search needs) (λ c κs. search needs) (λ c κs. search needs) (λ c. search needs) (λ c κs. search needs) (λ c κs. search needs)
+    returns-2
+    returns-3)

@@ -1,0 +1,22 @@
+-- `segments::Walk::plain` meets its contract: the bytes are cut at the place, or there are too few.
+-- Assumes nothing.
+use native.Mathlib.Omega.{arith}
+use borrow.Author.Needs.{needs}
+use Rattle.segments.specs.Segment.{plain}
+use Rattle.segments.specs.Machine.{ahead, remaining}
+use Rattle.segments.proofs.Steps.{cut-short, cut-at}
+use Rattle.segments.proofs.Walk.plain.Statement.{statement}
+use Rattle.segments.proofs.Walk.plain.Tie as tie
+
+returns : tie.Need-returns
+returns c = cut-short c.before.args.n c.before.args.self.at c.before.args.body.now plain _ (omega arith)
+
+returns-2 : tie.Need-returns-2
+returns-2 c = cut-short c.before.before.args.n c.before.before.args.self.at c.before.before.args.body.now plain _ (omega arith)
+
+returns-3 : tie.Need-returns-3
+unfolding ahead remaining
+returns-3 c = (omega arith, cut-at c.before.before.args.n c.before.before.args.self.at c.before.before.args.body.now plain _ (omega arith))
+
+pub plain-spec : {M : Type 1} → statement M
+plain-spec = tie.close (tie.spec returns (λ c. search needs) returns-2 (λ c. search needs) returns-3)

@@ -1,0 +1,38 @@
+-- `segments::Walk::reference` meets its contract: the four bytes are the number.
+-- Assumes nothing.
+use native.Mathlib.Omega.{arith}
+use borrow.Author.Needs.{needs}
+use lib.ListN.{drop}
+use Rattle.segments.specs.Segment.{typeRef, funRef, termRef}
+use Rattle.segments.specs.Machine.{remaining, ahead}
+use Rattle.segments.proofs.Steps.{word-value, word-short, word-fits, reference-short, reference-at}
+use Rattle.segments.proofs.Walk.reference.Statement.{statement}
+use Rattle.segments.proofs.Walk.reference.Tie as tie
+
+returns : tie.Need-returns
+returns c = reference-short _ _ _ (word-short (drop c.before.before.before.before.args.self.at c.before.before.before.before.args.body.now) c.before.before.read-word.result c.before.before.read-word.ensures c.enum-told.given.1)
+
+add-self : tie.Need-add-self
+add-self c = omega (arith, word-fits c.before.before.before.before.before.args.self.at c.before.before.before.before.before.args.body.now ((word-value (drop c.before.before.before.before.before.args.self.at c.before.before.before.before.before.args.body.now) c.before.before.before.read-word.result c.before.before.before.read-word.ensures c.before.n.given.1) .0))
+
+returns-2 : tie.Need-returns-2
+unfolding ahead remaining
+returns-2 c = rw c.enum-told2.given.1 (reference-at c.before.before.before.before.before.before.before.args.self.at c.before.before.before.before.before.before.before.args.body.now typeRef (remaining c.before.before.before.before.before.before.before.args.self) (word-value (drop c.before.before.before.before.before.before.before.args.self.at c.before.before.before.before.before.before.before.args.body.now) c.before.before.before.before.before.read-word.result c.before.before.before.before.before.read-word.ensures c.before.before.before.n.given.1))
+
+returns-3 : tie.Need-returns-3
+unfolding ahead remaining
+returns-3 c = rw c.enum-told3.given.1 (reference-at c.before.before.before.before.before.before.before.args.self.at c.before.before.before.before.before.before.before.args.body.now funRef (remaining c.before.before.before.before.before.before.before.args.self) (word-value (drop c.before.before.before.before.before.before.before.args.self.at c.before.before.before.before.before.before.before.args.body.now) c.before.before.before.before.before.read-word.result c.before.before.before.before.before.read-word.ensures c.before.before.before.n.given.1))
+
+returns-4 : tie.Need-returns-4
+unfolding ahead remaining
+returns-4 c = rw c.enum-told4.given.1 (reference-at c.before.before.before.before.before.before.before.args.self.at c.before.before.before.before.before.before.before.args.body.now termRef (remaining c.before.before.before.before.before.before.before.args.self) (word-value (drop c.before.before.before.before.before.before.before.args.self.at c.before.before.before.before.before.before.before.args.body.now) c.before.before.before.before.before.read-word.result c.before.before.before.before.before.read-word.ensures c.before.before.before.n.given.1))
+
+pub reference-spec : {M : Type 1} → statement M
+reference-spec =
+    tie.close
+    (tie.spec (λ c κs. search needs) (λ c. search needs) (λ c. search needs)
+    returns
+    add-self (λ c. search needs) (λ c. search needs) (λ c. search needs)
+    returns-2
+    returns-3
+    returns-4)

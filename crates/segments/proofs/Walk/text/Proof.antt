@@ -1,0 +1,24 @@
+-- `segments::Walk::text` meets its contract: the size is told by the count that was read.
+-- Assumes nothing.
+use borrow.Author.Needs.{needs}
+use lib.ListN.{drop}
+use Rattle.segments.specs.Segment.{plain}
+use Rattle.segments.specs.Machine.{named, textSize}
+use Rattle.segments.proofs.Steps.{word-value, word-short, cut-uncounted}
+use Rattle.segments.proofs.Walk.text.Statement.{statement}
+use Rattle.segments.proofs.Walk.text.Tie as tie
+
+returns : tie.Need-returns
+unfolding named textSize
+returns c = cut-uncounted _ _ plain _ (word-short (drop c.before.before.before.before.args.self.at c.before.before.before.before.args.body.now) c.before.before.read-word.result c.before.before.read-word.ensures c.enum-told.given.1)
+
+returns-2 : tie.Need-returns-2
+unfolding named textSize
+returns-2 c = rw (← (word-value (drop c.before.before.before.before.before.before.args.self.at c.before.before.before.before.before.before.args.body.now) c.before.before.before.before.read-word.result c.before.before.before.before.read-word.ensures c.before.before.n.given.1) .1) c.plain.ensures
+
+pub text-spec : {M : Type 1} → statement M
+text-spec =
+    tie.close
+    (tie.spec (λ c κs. search needs) (λ c. search needs) (λ c. search needs)
+    returns (λ c. search needs) (λ c. search needs) (λ c κs. search needs)
+    returns-2)
