@@ -6,7 +6,7 @@ use lib.IntN.{ℤ, pos, negsuc}
 abbrev pub whole : ℕ → ℕ → ℕ
 whole high low = high * 2 ^ 64 + low
 
--- a signed number in n bits, by two's complement: the number modulo 2 ^ n
+-- a signed number in n bits, by two's complement: the number modulo 2 ^ n; `negsuc v` is −1 − v
 unfoldable pub twosComplement : ℕ → ℤ → ℕ
 twosComplement n (pos v) = v % 2 ^ n
 twosComplement n (negsuc v) = 2 ^ n - 1 - v % 2 ^ n

@@ -6,15 +6,16 @@ use native.Mathlib.Nat.{le-of-suc-le-suc, not-suc-le-zero}
 use native.Mathlib.Omega.{arith}
 use native.Mathlib.Decide.{ℕ-discrete}
 use mathlib.Core.Path.{_≡_, refl, sym, ap, _∙_, subst}
-use mathlib.Core.Bool.{Bool, true, false, _||_}
+use mathlib.Core.Bool.{Bool, true, false}
 use mathlib.Core.List.{List, [], _∷_}
-use mathlib.Core.Option.{Option, none, some}
+use mathlib.Core.Option.{none, some}
 use lib.Dec.{T}
 use lib.ListN.{length, getD}
-use Rattle.script_spec.specs.Base.{place, placeFrom, any, isSome}
+use Rattle.script_spec.specs.Base.{place, placeFrom}
 use Rattle.script_spec.specs.Tree.{eqTy, eqFun, eqTm}
 use Rattle.script_spec.specs.File.{TermFile, types, funs, terms, typeAt, funAt, termAt}
 use Rattle.script_spec.proofs.Laws.{eqTy-eq, eqTy-refl, eqFun-eq, eqFun-refl, eqTm-eq, eqTm-refl, is-true}
+pub use Rattle.script_spec.proofs.Laws.{any-place}
 use Rattle.index.specs.First.{orElse, first, firstType, firstFun, firstTerm}
 
 -- ---- places
@@ -54,17 +55,6 @@ module _ {A : Type 0} (p : A → Bool) (d : A) where
   unfolding place placeFrom
   place-none [] h = refl
   place-none (x ∷ xs) h = rw (is-no (p x) (h zero (suc-le-suc zero-le)), place-none xs (λ k l. h (suc k) (suc-le-suc l)))
-
--- some element passes exactly where there is a place
-pub any-place : {A : Type 0} (p : A → Bool) (xs : List A) → any p xs ≡ isSome (place p xs)
-unfolding any place placeFrom isSome
-any-place p [] = refl
-any-place p (x ∷ xs) = go (p x) (place p xs) (any-place p xs)
-  where
-    go : (b : Bool) (o : Option ℕ) → any p xs ≡ isSome o → (b || any p xs) ≡ isSome (placeFrom b o)
-    go true o e = refl
-    go false none e = e
-    go false (some n) e = e
 
 -- ---- numbers of first equal records
 

@@ -1,10 +1,11 @@
 -- What the bytes of a faithful script give away, whatever naming and roles it is faithful by: the names of its things, that there
--- are enough of them, and the bodies of its assertions; and where all terms are Bool also its definitions and the order of uses.
+-- are enough of them, and the bodies of its assertions; and where all terms are Bool also its definitions and the order of uses. By
+-- recursion on the roles, since each role's command is read as what the role says (`Roles`).
 -- Assumes nothing.
 use Prim.Native.Nat.{ℕ, zero, suc, _≤_}
 use mathlib.Core.Path.{_≡_, refl, sym, ap, _∙_, subst}
 use mathlib.Core.Bool.{Bool, true, not, _&&_}
-use mathlib.Core.List.{List, [], _∷_, map, tail, append-nil, List·Memᴰ, List·Memᴰ·head, List·Memᴰ·tail}
+use mathlib.Core.List.{List, [], _∷_, _++_, map, map-append, tail, List·Memᴰ, List·Memᴰ·head, List·Memᴰ·tail}
 use mathlib.Core.Option.{some, Option·map}
 use lib.Dec.{T, T-not}
 use lib.ListN.{length, length-map, getElem?}
@@ -13,37 +14,34 @@ use Rattle.script_spec.specs.Tree.{Tm, Mark, Forest, node, nil, cons, trees, ch
 use Rattle.script_spec.specs.File.{distinct}
 use Rattle.script_spec.specs.Spelling.{Names, sort}
 use Rattle.script_spec.specs.Smtlib.{Token, flat, wordEnd}
-use Rattle.script_spec.specs.Faithful.{Thing, term, func, type, Needed, NeededTerm, isInput, isChild, nameOf, wellNamed, lettered, full, Role, declares, defines, asserts, command, named, asserted, Definition, definitions, unfolded, Right, uses, inOrder, unique, Every, every, also, things, Says}
+use Rattle.script_spec.specs.Faithful.{Thing, term, func, type, Needed, NeededTerm, isInput, isChild, nameOf, wellNamed, lettered, full, Role, declares, defines, asserts, command, named, asserted, Definition, definitions, unfolded, Right, inOrder, unique, Every, every, also, things, Says}
 use Rattle.script_spec.proofs.Computes
-use Rattle.script_spec.proofs.Laws.{and-parts, or-left, or-right, eqTy-eq, eqTm-refl}
+use Rattle.script_spec.proofs.Laws.{and-parts, or-left, or-right, all-parts, eqTy-eq, eqTm-refl}
+use Rattle.script_spec.proofs.Defined.{definitions-append}
 use Rattle.script_spec.proofs.Unfolding.{flat-wordEnd}
 use Rattle.script_spec.proofs.OneResult.{says-named}
 use Rattle.script_spec.proofs.Lists.{all-mem, all-members}
 use Rattle.script_examples.proofs.Pigeonhole.{Apart, apart, new, length-apart}
 use Rattle.script_examples.proofs.Readings.{nameRead, assertionRead, definitionsRead, orderRead}
-use Rattle.script_examples.proofs.Roles.{declares-kind, declares-name, defines-name, defines-assertion, defines-definition, defines-uses, asserts-name, asserts-assertion, asserts-definition, asserts-uses}
+use Rattle.script_examples.proofs.Roles.{assertedBody, DefinesBool, role-name, role-own, role-assertion, role-definition, role-uses}
 
 -- ---- names and assertions
 
 module _ (e : Enums) (ν : Names) where
   names-read : (rs : List Role) → T (all (wellNamed ν) (things rs)) → collect nameRead (map (command e ν) rs) ≡ map (nameOf ν) (things rs)
-  unfolding things named collect all
+  unfolding things collect
   names-read [] h = refl
-  names-read (declares th ∷ rs) h =
-      let q = and-parts (wellNamed ν th) (all (wellNamed ν) (things rs)) h in
-      rw (declares-name e ν th (q .0)) (ap (λ (l : List Bytes). nameOf ν th ∷ l) (names-read rs (q .1)))
-  names-read (defines t b ∷ rs) h =
-      let q = and-parts (wellNamed ν (term t)) (all (wellNamed ν) (things rs)) h in
-      rw (defines-name e ν t b (q .0)) (ap (λ (l : List Bytes). nameOf ν (term t) ∷ l) (names-read rs (q .1)))
-  names-read (asserts t b ∷ rs) h = rw (asserts-name e ν t b) (names-read rs h)
+  names-read (r ∷ rs) h =
+      let q = all-parts (wellNamed ν) (named r) (things rs) h in
+      rw (role-name e ν r (q .0), names-read rs (q .1)) (sym (map-append (nameOf ν) (named r) (things rs)))
 
   assertions-read : (ds : List Definition) (rs : List Role) → Every (Right e ν ds) rs
       → map (λ b. flat (unfolded ds b)) (collect assertionRead (map (command e ν) rs)) ≡ map (full e ν) (collect asserted rs)
-  unfolding Right collect asserted
+  unfolding Right collect asserted assertedBody
   assertions-read ds [] every = refl
-  assertions-read ds (declares th ∷ rs) (also p ps) = rw (declares-kind e ν th .assertion) (assertions-read ds rs ps)
-  assertions-read ds (defines t b ∷ rs) (also p ps) = rw (defines-assertion e ν t b) (assertions-read ds rs ps)
-  assertions-read ds (asserts t b ∷ rs) (also p ps) = rw (asserts-assertion e ν t b) (λ i. p i ∷ assertions-read ds rs ps i)
+  assertions-read ds (declares th ∷ rs) (also p ps) = rw (role-assertion e ν (declares th)) (assertions-read ds rs ps)
+  assertions-read ds (defines t b ∷ rs) (also p ps) = rw (role-assertion e ν (defines t b)) (assertions-read ds rs ps)
+  assertions-read ds (asserts t b ∷ rs) (also p ps) = rw (role-assertion e ν (asserts t b)) (λ i. p i ∷ assertions-read ds rs ps i)
 
 -- ---- definitions and uses, where all terms are Bool
 
@@ -80,32 +78,28 @@ booleanThing (term t) = boolean t
 booleanThing (func f) = true
 booleanThing (type ty) = true
 
+role-boolean : (ν : Names) (r : Role) → T (all booleanThing (named r)) → DefinesBool ν r
+unfolding named all booleanThing DefinesBool
+role-boolean ν (declares th) h = tt
+role-boolean ν (defines t b) h = boolean-sort ν t (and-parts (boolean t) true h .0)
+role-boolean ν (asserts t b) h = tt
+
 module _ (e : Enums) (ν : Names) where
   definitions-read : (rs : List Role) → T (all (wellNamed ν) (things rs)) → T (all booleanThing (things rs)) → definitionsRead (map (command e ν) rs) ≡ definitions ν rs
-  unfolding things named collect all booleanThing definitionsRead definitions
+  unfolding things collect definitionsRead definitions
   definitions-read [] h k = refl
-  definitions-read (declares th ∷ rs) h k =
-      let p = and-parts (wellNamed ν th) (all (wellNamed ν) (things rs)) h in
-      let q = and-parts (booleanThing th) (all booleanThing (things rs)) k in
-      rw (declares-kind e ν th .definition) (append-nil _ ∙ definitions-read rs (p .1) (q .1))
-  definitions-read (defines t b ∷ rs) h k =
-      let p = and-parts (wellNamed ν (term t)) (all (wellNamed ν) (things rs)) h in
-      let q = and-parts (boolean t) (all booleanThing (things rs)) k in
-      rw (defines-definition e ν t b (p .0) (boolean-sort ν t (q .0)), definitions-read rs (p .1) (q .1)) refl
-  definitions-read (asserts t b ∷ rs) h k = rw (asserts-definition e ν t b) (append-nil _ ∙ definitions-read rs h k)
+  definitions-read (r ∷ rs) h k =
+      let p = all-parts (wellNamed ν) (named r) (things rs) h in
+      let q = all-parts booleanThing (named r) (things rs) k in
+      rw (role-definition e ν r (p .0) (role-boolean ν r (q .0)), definitions-read rs (p .1) (q .1)) (sym (definitions-append ν (r ∷ []) rs))
 
   order-read : (seen : List Bytes) (rs : List Role) → T (all (wellNamed ν) (things rs)) → T (all booleanThing (things rs)) → inOrder e ν seen rs ≡ orderRead seen (map (command e ν) rs)
-  unfolding things named collect all booleanThing inOrder orderRead uses
+  unfolding things collect inOrder orderRead
   order-read seen [] h k = refl
-  order-read seen (declares th ∷ rs) h k =
-      let p = and-parts (wellNamed ν th) (all (wellNamed ν) (things rs)) h in
-      let q = and-parts (booleanThing th) (all booleanThing (things rs)) k in
-      rw (declares-name e ν th (p .0), declares-kind e ν th .uses, order-read (nameOf ν th ∷ seen) rs (p .1) (q .1)) refl
-  order-read seen (defines t b ∷ rs) h k =
-      let p = and-parts (wellNamed ν (term t)) (all (wellNamed ν) (things rs)) h in
-      let q = and-parts (boolean t) (all booleanThing (things rs)) k in
-      rw (defines-name e ν t b (p .0), defines-uses e ν t b (p .0) (boolean-sort ν t (q .0)), order-read (nameOf ν (term t) ∷ seen) rs (p .1) (q .1)) refl
-  order-read seen (asserts t b ∷ rs) h k = rw (asserts-name e ν t b, asserts-uses e ν t b, order-read seen rs h k) refl
+  order-read seen (r ∷ rs) h k =
+      let p = all-parts (wellNamed ν) (named r) (things rs) h in
+      let q = all-parts booleanThing (named r) (things rs) k in
+      rw (role-own e ν r (p .0), role-name e ν r (p .0), role-uses e ν r (p .0) (role-boolean ν r (q .0)), order-read (map (nameOf ν) (named r) ++ seen) rs (p .1) (q .1)) refl
 
 -- ---- unlike terms
 

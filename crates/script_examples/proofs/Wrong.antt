@@ -35,6 +35,7 @@ var id = node (Var (bytes id) bool) nil
 abbrev pub apply : PlainOp → List Tm → Tm
 apply o ts = node (App bool (Plain o)) (forest ts)
 
+-- two variables, and terms of them
 abbrev pub a : Tm
 a = var "a"
 
@@ -165,3 +166,12 @@ pub used-before : Faithful negation (afterOption
     ∷ [])) → ⊥
 unfolding computes
 used-before h = order-of h tt
+
+-- a definition that uses its own name
+pub used-in-itself : Faithful negation (afterOption
+    ("(declare-const t0 Bool)"
+    ∷ "(define-fun t1 () Bool (not t1))"
+    ∷ "(assert t1)"
+    ∷ [])) → ⊥
+unfolding computes
+used-in-itself h = order-of h tt

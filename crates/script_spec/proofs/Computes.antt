@@ -54,5 +54,5 @@ unfolding Smtlib.next Smtlib.kept Smtlib.uncommented Smtlib.wordEnd Smtlib.separ
 smtlib = tt
 
 unfoldable pub faithful : Unit {0}
-unfolding Faithful.Needed Faithful.nameOf Faithful.digitsOnly Faithful.lettered Faithful.datatypeNamed Faithful.wellNamed Faithful.unique Faithful.full Faithful.declaration Faithful.command Faithful.named Faithful.asserted Faithful.definitions Faithful.replacedWord Faithful.replaced Faithful.unfolded Faithful.Right Faithful.stem Faithful.isExtName Faithful.used Faithful.namesIn Faithful.afterExtName Faithful.operands Faithful.uses Faithful.inOrder Faithful.things Faithful.Faithful
+unfolding Faithful.Needed Faithful.nameOf Faithful.digitsOnly Faithful.lettered Faithful.datatypeNamed Faithful.wellNamed Faithful.unique Faithful.full Faithful.declaration Faithful.command Faithful.named Faithful.asserted Faithful.definitions Faithful.replacedWord Faithful.replaced Faithful.unfolded Faithful.Right Faithful.stem Faithful.isExtName Faithful.used Faithful.namesIn Faithful.afterExtName Faithful.operands Faithful.uses Faithful.own Faithful.inOrder Faithful.things Faithful.Faithful
 faithful = tt

@@ -1,5 +1,5 @@
--- Demand 3 of what encode writes: the log of the walk, and that a script of its commands is faithful. A refusal of the walk is at a
--- needed term.
+-- Demand 3: the script of a term file is faithful to it (`faithful`, `encoded-faithful`). By the log of the walk (`Logs`), since a
+-- script of the commands of such a log is faithful (`Says`). And a refusal of the walk is at a needed term.
 -- Assumes nothing.
 use Prim.Native.Nat.{ℕ}
 use mathlib.Core.Path.{_≡_, subst}
@@ -18,18 +18,20 @@ use Rattle.script_spec.proofs.Bare.{bare-types}
 use Rattle.script_spec.proofs.BareFile.{checked-bare}
 use Rattle.script_spec.proofs.Encoding.{encoding-went, encoding-stopped, encoded-commands}
 
--- the commands of records whose extension types have no parts
+-- the script of records whose extension types have no parts
 pub encoding-faithful : (f : TermFile) (cs : List Command) → BareTypes (inputs f) → encoding f ≡ accepted cs → Faithful f (script cs)
 unfolding Faithful
 encoding-faithful f cs bare p =
     let w = encoding-went f cs p in
     subst (λ (x : List Command). Says (members f) (inputs f) (commandsOf (script x))) (w .2) (logged-says (walk-logged (members f) (inputs f) (w .0) bare (w .1) .1))
 
--- the commands of a file that check accepts
+-- For every term file that check accepts and whose encoding is not refused, the script is faithful to it: demand 3. f is the file as
+-- check reads it, and cs the commands that encode it.
 pub faithful : (file : Bytes) (work : ℕ) (f : TermFile) (cs : List Command) → checked file work ≡ accepted f → encoding f ≡ accepted cs → Faithful f (script cs)
 faithful file work f cs p q = encoding-faithful f cs (bare-types (checked-bare file work f p)) q
 
--- the script of a file that check accepts
+-- The same of encode's answer: for every term file that check accepts, the bytes that encode answers with, if it does not refuse, are
+-- faithful to the file.
 pub encoded-faithful : (file : Bytes) (work room : ℕ) (f : TermFile) (s : Bytes) → checked file work ≡ accepted f → encoded file work room ≡ accepted s → Faithful f s
 encoded-faithful file work room f s p q = let w = encoded-commands file work room f s p q in subst (Faithful f) (w .2) (faithful file work f (w .0) p (w .1))
 

@@ -1,22 +1,24 @@
--- What the walk keeps true of its tables and commands and of a log: the invariant, and that entering a thing keeps it.
+-- What the walk keeps true of its tables and commands and of a log: the invariant, and that entering a thing keeps it. Tables grow at
+-- their end only, so that names stay.
 -- Assumes nothing.
+use Prim.Native.Nat.{ℕ}
 use mathlib.Core.Path.{_≡_, refl, sym, ap, ap₂, _∙_, subst}
 use mathlib.Core.Logic.{_⊎_, inl, inr}
-use mathlib.Core.Bool.{Bool, true, false, _||_}
+use mathlib.Core.Bool.{Bool}
 use mathlib.Core.List.{List, [], _∷_, _++_, map, append-nil, List·Memᴰ, map-append, List·Memᴰ·head, List·Memᴰ·tail, List·Memᴰ·not-nil, List·Memᴰ·cases-cons}
 use mathlib.Core.Option.{Option, none, some}
 use lib.Dec.{T}
-use Rattle.script_spec.specs.Base.{Bytes, bytes, any, place, placeFrom, collect}
+use Rattle.script_spec.specs.Base.{Bytes, bytes, any, place, isSome, collect}
 use Rattle.script_spec.specs.Tree.{Ty, Fun, Tm, eqTy, eqFun, eqTm, Enums, Datatype, datatype}
 use Rattle.script_spec.specs.Command.{Command}
 use Rattle.script_spec.specs.Spelling.{Names, optionDeclaration}
 use Rattle.script_spec.specs.Walk.{State, start, enterType, enterFun, enterTerm, write, numbered, letter, typeName, names}
 use Rattle.script_spec.specs.Faithful.{Thing, term, func, type, Needed}
-use Rattle.script_spec.proofs.Laws.{any-left, collect-append}
+use Rattle.script_spec.proofs.Laws.{any-left, place-append, any-place, collect-append}
 use Rattle.script_spec.proofs.Log.{commandOf, silent, HasType, HasParts, nameable, Ordered, next, reversed}
 use Rattle.script_spec.proofs.Log as log
 use Rattle.script_spec.proofs.Agree.{Agree, command-agree}
-use Rattle.script_spec.proofs.Grow.{Grows, Done, type-grows, done-grows, parts-grow}
+use Rattle.script_spec.proofs.Grow.{Grows, grows-next, Done, type-grows, done-grows, parts-grow}
 
 -- ---- tables
 
@@ -34,13 +36,12 @@ pub record Extends (s s′ : State) : Type 0 where
   pub types : (ty : Ty) → Tabled s (type ty) → names s′ .type ty ≡ names s .type ty
 
 place-kept : {A : Type 0} (p : A → Bool) (xs ys : List A) → T (any p xs) → place p (xs ++ ys) ≡ place p xs
-unfolding any place placeFrom
-place-kept p [] ys h = absurd h
-place-kept p (x ∷ xs) ys h = go (p x) h (λ k. place-kept p xs ys k)
+unfolding isSome
+place-kept p xs ys h = go (place p xs) refl (subst T (any-place p xs) h)
   where
-    go : (b : Bool) → T (b || any p xs) → (T (any p xs) → place p (xs ++ ys) ≡ place p xs) → placeFrom b (place p (xs ++ ys)) ≡ placeFrom b (place p xs)
-    go true k ih = refl
-    go false k ih = ap (placeFrom false) (ih k)
+    go : (o : Option ℕ) → place p xs ≡ o → T (isSome o) → place p (xs ++ ys) ≡ place p xs
+    go none e k = absurd k
+    go (some n) e k = place-append p xs ys n e ∙ sym e
 
 -- tables with more entries
 pub extends : (s s′ : State) (tys : List Ty) (fs : List Fun) (ts : List Tm)
@@ -170,9 +171,6 @@ module _ {e : Enums} {ins : List Tm} {s : State} {log : List Thing} (inv : Inv e
         commands = commands;
       }
     where
-      older : Grows log (th ∷ log)
-      older u m = List·Memᴰ·tail m
-
       tabled : (u : Thing) → (u ≡ th) ⊎ List·Memᴰ u log → Tabled s′ u
       tabled u (inl p) = subst (Tabled s′) (sym p) here
       tabled u (inr m) = x .kept u (inv .tabled u m)
@@ -182,12 +180,12 @@ module _ {e : Enums} {ins : List Tm} {s : State} {log : List Thing} (inv : Inv e
       needed u (inr m) = inv .needed u m
 
       covers : (u : Thing) → Tabled s u ⊎ (u ≡ th) → Covered e (th ∷ log) u
-      covers u (inl h) = covered-grows e older u (inv .covered u h)
+      covers u (inl h) = covered-grows e grows-next u (inv .covered u h)
       covers u (inr p) = subst (Covered e (th ∷ log)) (sym p) cover
 
       commands : (ν : Names) → Agree (th ∷ log) ν (names s′) → collect silent (s′ .commands) ≡ optionDeclaration ∷ map (commandOf e ν) (reversed log ++ (th ∷ []))
       commands ν a =
           ap (collect silent) written
           ∙ collect-append silent (s .commands) cs
-          ∙ ap₂ (λ (x y : List Command). x ++ y) (inv .commands ν (agree-older x (agree-tail a))) (spoken ∙ ap (λ (c : Command). c ∷ []) (sym (command-agree a e th (parts-grow older e th parts) (List·Memᴰ·head refl))))
+          ∙ ap₂ (λ (x y : List Command). x ++ y) (inv .commands ν (agree-older x (agree-tail a))) (spoken ∙ ap (λ (c : Command). c ∷ []) (sym (command-agree a e th (parts-grow grows-next e th parts) (List·Memᴰ·head refl))))
           ∙ ap (λ (l : List Command). optionDeclaration ∷ l) (sym (map-append (commandOf e ν) (reversed log) (th ∷ [])))

@@ -1,14 +1,14 @@
 -- Laws of the tests and list functions of `Base`, and of the equality tests of `Tree`: by cases and by recursion on a list.
 -- Assumes nothing.
-use Prim.Native.Nat.{ℕ, zero, suc}
-use mathlib.Core.Path.{_≡_, refl, sym, ap, _∙_, subst}
+use Prim.Native.Nat.{ℕ}
+use mathlib.Core.Path.{_≡_, refl, sym}
 use mathlib.Core.Logic.{_⊎_, inl, inr}
 use mathlib.Core.Bool.{Bool, true, false, not, _&&_, _||_}
 use mathlib.Core.List.{List, [], _∷_, _++_, append-assoc}
 use mathlib.Core.Option.{Option, none, some, Option·none-ne-some}
 use lib.Dec.{T, eqb, eqb→eq}
 use borrow.Author.Tests.{eq-eqb}
-use Rattle.script_spec.specs.Base.{Bytes, isYes, same, any, all, place, placeFrom, collect}
+use Rattle.script_spec.specs.Base.{Bytes, isYes, same, any, all, place, placeFrom, collect, isSome}
 use Rattle.script_spec.specs.Tree.{Ty, Fun, Tm, eqTy, eqFun, eqTm, tyDec, funDec, tmDec}
 
 -- ---- Booleans
@@ -72,6 +72,14 @@ module _ {A : Type 0} (p : A → Bool) where
   all-append [] ys h k = k
   all-append (x ∷ xs) ys h k = let q = and-parts (p x) (all p xs) h in and-both (p x) (all p (xs ++ ys)) (q .0) (all-append xs ys (q .1) k)
 
+  pub all-parts : (xs ys : List A) → T (all p (xs ++ ys)) → T (all p xs) × T (all p ys)
+  unfolding all
+  all-parts [] ys h = (tt, h)
+  all-parts (x ∷ xs) ys h =
+      let q = and-parts (p x) (all p (xs ++ ys)) h in
+      let r = all-parts xs ys (q .1) in
+      (and-both (p x) (all p xs) (q .0) (r .0), r .1)
+
 -- a weaker test
 pub all-map : {A : Type 0} (p q : A → Bool) → ((x : A) → T (p x) → T (q x)) → (xs : List A) → T (all p xs) → T (all q xs)
 unfolding all
@@ -94,6 +102,17 @@ pub place-append : {A : Type 0} (p : A → Bool) (xs ys : List A) (n : ℕ) → 
 unfolding place
 place-append p [] ys n h = absurd (Option·none-ne-some n h)
 place-append p (x ∷ xs) ys n h = placeFrom-some (p x) (place p xs) (place p (xs ++ ys)) (λ m e. place-append p xs ys m e) n h
+
+-- some element passes exactly where there is a place
+pub any-place : {A : Type 0} (p : A → Bool) (xs : List A) → any p xs ≡ isSome (place p xs)
+unfolding any place placeFrom isSome
+any-place p [] = refl
+any-place p (x ∷ xs) = go (p x) (place p xs) (any-place p xs)
+  where
+    go : (b : Bool) (o : Option ℕ) → any p xs ≡ isSome o → (b || any p xs) ≡ isSome (placeFrom b o)
+    go true o e = refl
+    go false none e = e
+    go false (some n) e = e
 
 -- ---- equality tests
 

@@ -10,14 +10,14 @@ use Rattle.script_spec.specs.Tree.{Tree, Ty, Fun, Tm, Forest, node, cons
 use Rattle.script_spec.specs.Command.{Command, assertThat}
 use Rattle.script_spec.specs.Spelling.{Names, atom}
 use Rattle.script_spec.specs.Walk.{State, went, stopped, start, names, encodeInputs, assertions}
-use Rattle.script_spec.specs.Faithful.{Thing, term, func, type, NeededTerm, isInput, isChild, NeededFun, isApplied, NeededType, ofTerm, ofArgument, ofResult, isPart, Needed, wellNamed, Every, every, also}
+use Rattle.script_spec.specs.Faithful.{Thing, term, func, type, NeededTerm, isInput, isChild, NeededFun, isApplied, NeededType, ofTerm, ofArgument, ofResult, isPart, Needed, wellNamed, Every}
 use Rattle.script_spec.proofs.Laws.{collect-append}
-use Rattle.script_spec.proofs.Log.{silent, HasType, HasTypes, HasTerm, HasParts, nameable, Ordered, Logged}
-use Rattle.script_spec.proofs.Lists.{every-mem}
+use Rattle.script_spec.proofs.Log.{silent, HasType, HasTypes, HasParts, nameable, Ordered, reversed, Logged}
+use Rattle.script_spec.proofs.Lists.{mem-reversed, all-members, every-mem, every-weaker}
 use Rattle.script_spec.proofs.Steps.{ends-went, ends-stopped}
 use Rattle.script_spec.proofs.Grow.{Done, Dones, done-term, ordered-parts}
 use Rattle.script_spec.proofs.Invariant.{Inv}
-use Rattle.script_spec.proofs.Names.{Bare, nameOf-injective, nameOf-wellNamed, unique-names, all-reversed}
+use Rattle.script_spec.proofs.Names.{Bare, nameOf-injective, nameOf-wellNamed, unique-names}
 use Rattle.script_spec.proofs.TypeLog.{Logs}
 use Rattle.script_spec.proofs.NewLog.{Refusal}
 use Rattle.script_spec.proofs.TermLog.{walk-logs}
@@ -77,10 +77,6 @@ unfolding collect silent assertions
 assertions-silent e ν [] = refl
 assertions-silent e ν (t ∷ ts) = ap (λ (cs : List Command). assertThat (atom e ν t) ∷ cs) (assertions-silent e ν ts)
 
-done-terms : {e : Enums} {log : List Thing} (ts : List Tm) → Every (Done e log) ts → Every (HasTerm e log) ts
-done-terms [] every = every
-done-terms (t ∷ ts) (also d ds) = also (done-term t d) (done-terms ts ds)
-
 pub walk-logged : (e : Enums) (ins : List Tm) (s : State) → BareTypes ins → encodeInputs e ins start ≡ went s
     → (log : List Thing) × Logged e ins (names s) (s .commands ++ assertions e (names s) ins) log
 walk-logged e ins s bare p = (
@@ -89,8 +85,8 @@ walk-logged e ins s bare p = (
     ordered = inv .ordered;
     needed = λ th. (needed-logged (inv .ordered) done th, inv .needed th);
     unlike = unique-names (names s) log (inv .distinct) (λ a b m k. nameOf-injective e s a b (inv .tabled a m) (inv .tabled b k) (able a m) (able b k) (plain a m) (plain b k));
-    lettering = all-reversed (wellNamed (names s)) log (λ a m. nameOf-wellNamed e s a (inv .tabled a m) (able a m));
-    inputs = done-terms ins done;
+    lettering = all-members (wellNamed (names s)) (reversed log) (λ a m. let k = mem-reversed a log m in nameOf-wellNamed e s a (inv .tabled a k) (able a k));
+    inputs = every-weaker (λ t d. done-term t d) done;
     commands =
         collect-append silent (s .commands) (assertions e (names s) ins)
         ∙ ap₂ (λ (x y : List Command). x ++ y) (inv .commands (names s) (record { terms = λ t m. refl; funs = λ f m. refl; types = λ ty m. refl })) (assertions-silent e (names s) ins);

@@ -9,13 +9,13 @@ use mathlib.Core.List.{List, [], _∷_, _++_, map, map-append, List·Memᴰ, Lis
 use mathlib.Core.Option.{Option, none, some}
 use lib.Dec.{T, eqb, T-not, not-T}
 use borrow.Author.Tests.{eq-eqb}
-use Rattle.script_spec.specs.Base.{Bytes, bytes, isSome, any, all, place, placeFrom, at, lookup, andThen, same}
+use Rattle.script_spec.specs.Base.{Bytes, bytes, isSome, any, place, placeFrom, at, lookup, andThen, same}
 use Rattle.script_spec.specs.Tree.{Forest, TypeMark, node, nil, eqTy, eqFun, eqTm, Enums, datatype, datatypeMark, entity, extension, recordOf, ExtType, IPAddr, Decimal, Datetime, Duration, Bool·, String·, Option·, Set·, BitVec·, Declared}
 use Rattle.script_spec.specs.Text.{decimal}
 use Rattle.script_spec.specs.Spelling.{Names, sort, sortFrom, datatypeSort, extName}
 use Rattle.script_spec.specs.Walk.{State, numbered, letter, typeName, names}
 use Rattle.script_spec.specs.Faithful.{Thing, term, func, type, nameOf, digitsOnly, lettered, datatypeNamed, wellNamed, unique}
-use Rattle.script_spec.proofs.Laws.{eqTy-eq, eqFun-eq, eqTm-eq, same-refl, same-eq, and-parts, and-both, or-cases, any-cases, all-append}
+use Rattle.script_spec.proofs.Laws.{eqTy-eq, eqFun-eq, eqTm-eq, same-refl, same-eq, and-parts, and-both, or-cases, any-cases, any-place}
 use Rattle.script_spec.proofs.Log.{nameable, reversed}
 use Rattle.script_spec.proofs.Lists.{mem-reversed}
 use Rattle.script_spec.proofs.Invariant.{Tabled, Distinct}
@@ -115,34 +115,26 @@ nameOf-injective e s a b ta tb na nb la lb p =
 
 -- ---- letters and digits
 
-lettered-numbered : (l : ℕ) (o : Option ℕ) → T (isSome o) → T (lettered l (numbered (l ∷ []) o))
+lettered-some : (l : ℕ) (o : Option ℕ) → T (isSome o) → T (lettered l (numbered (l ∷ []) o))
 unfolding lettered numbered isSome
-lettered-numbered l none h = absurd h
-lettered-numbered l (some n) h = and-both (eqb l l) (digitsOnly (decimal n)) (rw (eq-eqb l l refl) tt) (decimal-digitsOnly n)
+lettered-some l none h = absurd h
+lettered-some l (some n) h = and-both (eqb l l) (digitsOnly (decimal n)) (rw (eq-eqb l l refl) tt) (decimal-digitsOnly n)
 
-module _ {A : Type 0} (p : A → Bool) where
-  any-place : (xs : List A) → T (any p xs) → T (isSome (place p xs))
-  unfolding any place placeFrom isSome
-  any-place [] h = absurd h
-  any-place (x ∷ xs) h = go (p x) (place p xs) h (λ k. any-place xs k)
-    where
-      go : (b : Bool) (o : Option ℕ) → T (b || any p xs) → (T (any p xs) → T (isSome o)) → T (isSome (placeFrom b o))
-      go true o k ih = tt
-      go false none k ih = ih k
-      go false (some n) k ih = tt
+lettered-place : {A : Type 0} (l : ℕ) (p : A → Bool) (xs : List A) → T (any p xs) → T (lettered l (numbered (l ∷ []) (place p xs)))
+lettered-place l p xs h = lettered-some l (place p xs) (subst T (any-place p xs) h)
 
 pub nameOf-wellNamed : (e : Enums) (s : State) (th : Thing) → Tabled s th → T (nameable e th) → T (wellNamed (names s) th)
 unfolding wellNamed datatypeNamed names typeName letter bytes Tabled nameable sort sortFrom datatypeSort datatype datatypeMark isSome
-nameOf-wellNamed e s (term t) h n = lettered-numbered 116 (place (eqTm t) (s .terms)) (any-place (eqTm t) (s .terms) h)
-nameOf-wellNamed e s (func f) h n = lettered-numbered 102 (place (eqFun f) (s .funs)) (any-place (eqFun f) (s .funs) h)
+nameOf-wellNamed e s (term t) h n = lettered-place 116 (eqTm t) (s .terms) h
+nameOf-wellNamed e s (func f) h n = lettered-place 102 (eqFun f) (s .funs) h
 nameOf-wellNamed e s (type (node Bool· ts)) h n = absurd n
 nameOf-wellNamed e s (type (node String· ts)) h n = absurd n
 nameOf-wellNamed e s (type (node Option· ts)) h n = absurd n
 nameOf-wellNamed e s (type (node Set· ts)) h n = absurd n
 nameOf-wellNamed e s (type (node (BitVec· k) ts)) h n = absurd n
-nameOf-wellNamed e s (type (node (Declared (entity name)) ts)) h n = let t = node (Declared (entity name)) ts in lettered-numbered 69 (place (eqTy t) (s .types)) (any-place (eqTy t) (s .types) h)
+nameOf-wellNamed e s (type (node (Declared (entity name)) ts)) h n = let t = node (Declared (entity name)) ts in lettered-place 69 (eqTy t) (s .types) h
 nameOf-wellNamed e s (type (node (Declared (extension x)) ts)) h n = same-refl (extName x)
-nameOf-wellNamed e s (type (node (Declared (recordOf names)) ts)) h n = let t = node (Declared (recordOf names)) ts in lettered-numbered 82 (place (eqTy t) (s .types)) (any-place (eqTy t) (s .types) h)
+nameOf-wellNamed e s (type (node (Declared (recordOf names)) ts)) h n = let t = node (Declared (recordOf names)) ts in lettered-place 82 (eqTy t) (s .types) h
 
 -- ---- lists of names
 
@@ -179,9 +171,3 @@ unique-names ν (th ∷ log) d inj =
     let k = mem-reversed (r .0) log (r .1) in
     let q : r .0 ≡ th = inj (r .0) th (List·Memᴰ·tail k) (List·Memᴰ·head refl) (sym (r .2) ∙ p) in
     d .0 (Memᴰ·cast (sym q) k)))
-
--- a test of each thing of a log
-pub all-reversed : {A : Type 0} (p : A → Bool) (xs : List A) → ((a : A) → List·Memᴰ a xs → T (p a)) → T (all p (reversed xs))
-unfolding all reversed
-all-reversed p [] h = tt
-all-reversed p (x ∷ xs) h = all-append p (reversed xs) (x ∷ []) (all-reversed p xs (λ a m. h a (List·Memᴰ·tail m))) (and-both (p x) true (h x (List·Memᴰ·head refl)) tt)

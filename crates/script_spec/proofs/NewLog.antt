@@ -3,8 +3,8 @@
 use Prim.Native.Nat.{ℕ, _≤_}
 use mathlib.Core.Path.{_≡_, refl, sym, ap, subst}
 use mathlib.Core.Logic.{_⊎_, inl, inr}
-use mathlib.Core.Bool.{Bool, true, false, not}
-use mathlib.Core.List.{List, [], _∷_, map, append-nil, List·Memᴰ, List·Memᴰ·head, List·Memᴰ·tail}
+use mathlib.Core.Bool.{true, false, not}
+use mathlib.Core.List.{List, [], _∷_, map, append-nil, List·Memᴰ, List·Memᴰ·head}
 use mathlib.Core.Option.{Option, none, some}
 use native.Mathlib.Omega.{arith}
 use lib.Dec.{T, T-not}
@@ -19,7 +19,8 @@ use Rattle.script_spec.specs.Faithful.{Thing, term, func, type, NeededTe
 use Rattle.script_spec.proofs.Laws.{is-false}
 use Rattle.script_spec.proofs.Log.{commandOf, silent, HasType, HasParts, nameable}
 use Rattle.script_spec.proofs.Steps.{Ends, goes, ends-then, ends-ensure, ends-map, goes-map}
-use Rattle.script_spec.proofs.Grow.{Grows, Done, Dones, dones-terms, type-grows, dones-grow}
+use Rattle.script_spec.proofs.Negated.{isFalsehood-by}
+use Rattle.script_spec.proofs.Grow.{grows-next, Done, Dones, dones-terms, type-grows, dones-grow}
 use Rattle.script_spec.proofs.Entered.{term-cases, term-new}
 use Rattle.script_spec.proofs.Invariant.{Tabled, Covered, Extends, extends, extends-term, Inv, inv-quiet, inv-logged}
 use Rattle.script_spec.proofs.TypeLog.{Logs, logs-same, logs-then, encodeUuf-logs}
@@ -30,7 +31,7 @@ pub record Refusal (ins : List Tm) (n : ℕ) (t : Tm) : Type 0 where
   pub most : n ≤ 19
   pub needed : NeededTerm ins t
 
--- the function of an operator, and that of a mark, is logged
+-- the function of an operator, if it has one, is logged
 unfoldable AppliedOp : List Thing → Op Fun → Type 0
 AppliedOp log (Plain o) = Unit {0}
 AppliedOp log (Ext o) = Unit {0}
@@ -39,6 +40,7 @@ AppliedOp log (StringLike p) = Unit {0}
 AppliedOp log (Uuf f) = List·Memᴰ (func f) log
 AppliedOp log (ZeroExtend n) = Unit {0}
 
+-- the function of a mark, if it has one, is logged
 unfoldable Applied : List Thing → Mark → Type 0
 Applied log (Var id ty) = Unit {0}
 Applied log (BoolLit b) = Unit {0}
@@ -68,11 +70,6 @@ negation-mark m ts n = go (markDec m (App (node Bool· nil) (Plain Bvnego))) n
 negation-applied : (log : List Thing) (m : Mark) (ts : Forest Mark) → (negation (node m ts) ≡ ordinary → ⊥) → Applied log m
 unfolding Applied AppliedOp
 negation-applied log m ts n = subst (Applied log) (sym (negation-mark m ts n)) tt
-
--- whether a term is the `false` of a `Bvnego`, by what becomes of it
-isFalsehood-by : (t : Tm) (n : Negation) → negation t ≡ n → isFalsehood t ≡ elim n [ ordinary ↦ false | falsehood ↦ true | comparison k ↦ false ]
-unfolding isFalsehood
-isFalsehood-by t n p = ap (λ (x : Negation). elim x as (λ y. Bool) [ ordinary ↦ false | falsehood ↦ true | comparison k ↦ false ]) p
 
 -- the definition of a term is its command
 defined-command : (e : Enums) (ν : Names) (t : Tm) → T (not (isVariable t))
@@ -131,7 +128,7 @@ module _ (e : Enums) (ins : List Tm) where
     entered-named cs i v a spoken = (
       record {
         later = term t ∷ log;
-        grown = older;
+        grown = grows-next;
         inv = inv-logged (r .inv) s′ (term t) cs (extends-term t cs s) parts i (r .fresh) (r .needed, i) (term-new (s .terms) t) new done refl spoken;
         has = done;
       },
@@ -144,17 +141,14 @@ module _ (e : Enums) (ins : List Tm) where
         s′ : State
         s′ = write cs (enterTerm t s)
 
-        older : Grows log (term t ∷ log)
-        older u k = List·Memᴰ·tail k
-
         parts : HasParts e log (term t)
         parts = (r .typed, λ n. dones-terms ts (r .below (v n)), applied-fun m ts a)
 
         done : Done e (term t ∷ log) t
         done = (
-          record { typed = type-grows older (typeOf t) (r .typed); known = λ n. List·Memᴰ·head refl },
-          λ f ty us p. older (func f) (applied-fun m ts a f ty us p),
-          λ n. dones-grow older e ts (r .below n),
+          record { typed = type-grows grows-next (typeOf t) (r .typed); known = λ n. List·Memᴰ·head refl },
+          λ f ty us p. grows-next (func f) (applied-fun m ts a f ty us p),
+          λ n. dones-grow grows-next e ts (r .below n),
         )
 
         new : (u : Thing) → Tabled s′ u → Tabled s u ⊎ (u ≡ term t)

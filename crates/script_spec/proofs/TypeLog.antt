@@ -16,7 +16,7 @@ use Rattle.script_spec.specs.Faithful.{Thing, term, func, type, NeededFu
 use Rattle.script_spec.proofs.Laws.{collect-append}
 use Rattle.script_spec.proofs.Log.{commandOf, silent, HasType, HasTypes, HasParts, nameable}
 use Rattle.script_spec.proofs.Steps.{Goes, goes, ends-then, ends-unless, ends-map, goes-both}
-use Rattle.script_spec.proofs.Grow.{Grows, type-grows, types-grow}
+use Rattle.script_spec.proofs.Grow.{Grows, grows-next, type-grows, types-grow}
 use Rattle.script_spec.proofs.Entered.{type-cases, type-new, fun-cases, fun-new, TypesOnly, encodeType-only, encodeTypes-only}
 use Rattle.script_spec.proofs.Invariant.{Tabled, Covered, extends, extends-type, extends-fun, Inv, inv-quiet, inv-logged}
 
@@ -57,7 +57,7 @@ module _ (e : Enums) (ins : List Tm) where
   declared-logs d m ts s log need inv parts fresh p =
       record {
         later = type t ∷ log;
-        grown = older;
+        grown = grows-next;
         inv = inv-logged inv s′ (type t) cs (extends-type t cs s) parts able fresh (need, able) (type-new (s .types) t) new has refl spoken;
         has = has;
       }
@@ -74,14 +74,11 @@ module _ (e : Enums) (ins : List Tm) where
       s′ : State
       s′ = write cs (enterType t s)
 
-      older : Grows log (type t ∷ log)
-      older u k = List·Memᴰ·tail k
-
       able : T (isSome (datatype t))
       able = rw p tt
 
       has : HasType (type t ∷ log) t
-      has = (types-grow older ts parts, λ k. List·Memᴰ·head refl)
+      has = (types-grow grows-next ts parts, λ k. List·Memᴰ·head refl)
 
       new : (u : Thing) → Tabled s′ u → Tabled s u ⊎ (u ≡ type t)
       new (term u) h = inl h
@@ -143,7 +140,7 @@ module _ (e : Enums) (ins : List Tm) where
   declaredFun-logs f s log need inv parts fresh =
       record {
         later = func f ∷ log;
-        grown = λ u k. List·Memᴰ·tail k;
+        grown = grows-next;
         inv =
             inv-logged inv (declaredFun f s) (func f) cs (extends-fun f cs s) parts tt fresh need (fun-new (s .funs) f) new (List·Memᴰ·head refl) refl
             (fun-command (names (enterFun f s)) f);

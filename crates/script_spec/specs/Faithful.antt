@@ -47,11 +47,13 @@ Needed e ins (type ty) = NeededType ins ty × T (isSome (datatype ty))
 
 -- ---- names and full spellings
 
+-- the name of a thing; a type's is its sort
 unfoldable pub nameOf : Names → Thing → Bytes
 nameOf ν (term t) = ν .term t
 nameOf ν (func f) = ν .func f
 nameOf ν (type ty) = sort ν ty
 
+-- decimal digits, and at least one
 unfoldable pub digitsOnly : Bytes → Bool
 digitsOnly [] = false
 digitsOnly (b ∷ []) = between 48 57 b
@@ -62,6 +64,7 @@ unfoldable pub lettered : ℕ → Bytes → Bool
 lettered l [] = false
 lettered l (b ∷ s) = eqb b l && digitsOnly s
 
+-- the name of an entity, extension or record type; no other type has one
 unfoldable pub datatypeNamed : Bytes → Option Datatype → Bool
 datatypeNamed n none = false
 datatypeNamed n (some (entity name)) = lettered 69 n
@@ -74,6 +77,7 @@ wellNamed ν (term t) = lettered 116 (ν .term t)
 wellNamed ν (func f) = lettered 102 (ν .func f)
 wellNamed ν (type ty) = datatypeNamed (sort ν ty) (datatype ty)
 
+-- no two are the same
 unfoldable pub unique : List Bytes → Bool
 unique [] = true
 unique (n ∷ ns) = not (any (same n) ns) && unique ns
@@ -95,6 +99,7 @@ pub data Role : Type 0 where
   defines : Tm → List Token → Role
   asserts : Tm → List Token → Role
 
+-- the command that declares a thing
 unfoldable pub declaration : Enums → Names → Thing → Bytes
 declaration e ν (term t) = spelled (declareConst (ν .term t) (sort ν (typeOf t)))
 declaration e ν (func f) = spelled (funDeclaration ν f)
@@ -107,12 +112,13 @@ command e ν (defines t b) =
     tokens (bytes "(define-fun " ⊹ ν .term t ⊹ bytes " () " ⊹ sort ν (typeOf t) ⊹ bytes " ") ++ (b ++ tokens (bytes ")"))
 command e ν (asserts t b) = tokens (bytes "(assert ") ++ (b ++ tokens (bytes ")"))
 
--- the thing that a command declares or defines, and the input that it asserts
+-- the thing that a command declares or defines
 unfoldable pub named : Role → List Thing
 named (declares th) = th ∷ []
 named (defines t b) = term t ∷ []
 named (asserts t b) = []
 
+-- the input that a command asserts
 unfoldable pub asserted : Role → List Tm
 asserted (declares th) = []
 asserted (defines t b) = []
@@ -131,11 +137,12 @@ definitions ν (declares th ∷ rs) = definitions ν rs
 definitions ν (defines t b ∷ rs) = definitions ν rs ++ ((ν .term t, b) ∷ [])
 definitions ν (asserts t b ∷ rs) = definitions ν rs
 
--- tokens with a name replaced by its body; a string literal is a token of its own and stays
+-- a word before tokens: its body where it is the name that is replaced
 unfoldable pub replacedWord : Bool → Bytes → List Token → List Token → List Token
 replacedWord true w b ts = b ++ ts
 replacedWord false w b ts = word w ∷ ts
 
+-- tokens with a name replaced by its body; a string literal is a token of its own and stays
 unfoldable pub replaced : Bytes → List Token → List Token → List Token
 replaced n b [] = []
 replaced n b (word w ∷ ts) = replacedWord (same w n) w b (replaced n b ts)
@@ -162,6 +169,7 @@ unfoldable pub stem : Bytes → Bytes
 stem [] = []
 stem (b ∷ s) = elim (eqb b 95) [ true ↦ [] | false ↦ b ∷ stem s ]
 
+-- a name of an extension type
 unfoldable pub isExtName : Bytes → Bool
 isExtName w = any (same w) (bytes "IPAddr" ∷ bytes "Decimal" ∷ bytes "Datetime" ∷ bytes "Duration" ∷ [])
 
@@ -173,6 +181,7 @@ used w =
       | false ↦ elim (isExtName w) [ true ↦ w ∷ [] | false ↦ [] ]
     ]
 
+-- the names that tokens use, word by word
 unfoldable pub namesIn : List Token → List Bytes
 namesIn [] = []
 namesIn (word w ∷ ts) = used w ++ namesIn ts
@@ -200,15 +209,21 @@ uses e ν (declares th) = namesIn (command e ν (declares th))
 uses e ν (defines t b) = namesIn (tokens (sort ν (typeOf t))) ++ namesIn (operands b)
 uses e ν (asserts t b) = namesIn b
 
--- each command uses only names that it or a command before it declares or defines
+-- the thing whose own name a command may use: the one that it declares, since a datatype's constructors have its name
+unfoldable pub own : Role → List Thing
+own (declares th) = th ∷ []
+own (defines t b) = []
+own (asserts t b) = []
+
+-- each command uses only names that commands before it declare or define; a declaration may also use its own
 unfoldable pub inOrder : Enums → Names → List Bytes → List Role → Bool
 inOrder e ν seen [] = true
 inOrder e ν seen (r ∷ rs) =
-    let now = map (nameOf ν) (named r) ++ seen in
-    all (λ n. any (same n) now) (uses e ν r) && inOrder e ν now rs
+    all (λ n. any (same n) (map (nameOf ν) (own r) ++ seen)) (uses e ν r) && inOrder e ν (map (nameOf ν) (named r) ++ seen) rs
 
 -- ---- demand 3
 
+-- P holds of each
 pub data Every {A : Type 0} (P : A → Type 0) : List A → Type 0 where
   every : Every P []
   also : {x : A} {xs : List A} → P x → Every P xs → Every P (x ∷ xs)

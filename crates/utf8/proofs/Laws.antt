@@ -7,6 +7,7 @@ use mathlib.Core.Option.{Option, none, some, Option·map, Option·none-ne-some, 
 use Prim.Native.Nat.{ℕ, zero, suc, _+_, _-_, _*_, _≤_, _<_}
 use native.Mathlib.Nat.{not-suc-le-zero}
 use native.Mathlib.Omega.{arith}
+use borrow.Author.Tests.{lt-ltb}
 use lib.Dec.{ltb}
 use lib.ListN.{length, drop, length-drop}
 use lib.Seq.{drop-drop}
@@ -112,6 +113,11 @@ points-by (suc n) s h (point v k) e w =
 pub points-first : (s : Bytes) → points s ≡ pointed (first s) s
 unfolding points
 points-first s = points-by (length s) s refl (first s) refl (within-first s)
+
+-- a byte below 128 is its own code point
+pub points-ascii : (a : ℕ) (s : Bytes) → a < 128 → points (a ∷ s) ≡ a ∷ points s
+unfolding first pointed
+points-ascii a s h = points-first (a ∷ s) ∙ (rw (lt-ltb a 128 h, first))
 
 -- ---- the code points of UTF-8
 

@@ -18,12 +18,14 @@ pub enum Next {
     End,
 }
 
-fn wide(b: u8) -> u32
+// A byte as a number of 32 bits.
+pub fn wide(b: u8) -> u32
     ensures { λ r. ⌜ (r ≡ b) × (r < 256) ⌝ }
 {
     b as u32
 }
 
+// One of two numbers by a test.
 fn either(test: bool, x: u32, y: u32) -> u32
     ensures { λ r. ⌜ r ≡ choose test x y ⌝ }
 {

@@ -84,14 +84,14 @@ laid-rest (suc n) (suc p) q (x ∷ o) (b ∷ a) s h k = ap (λ (l : Bytes). b �
 -- ---- one write
 
 -- the part that a write goes into starts where the bytes before it end, or is empty
-part-start : (la lo m at p q : ℕ) → at ≡ min la (m + 1) → q ≡ min lo m → p ≡ min at q → p ≡ min la (min lo m)
+part-start : (la lo m at p q : ℕ) → min at (m + 1) ≡ min la (m + 1) → q ≡ min lo m → p ≡ min at q → p ≡ min la (min lo m)
 part-start la lo m at p q h k l = omega arith
 
 part-size : (at p q : ℕ) → p ≡ min at q → p + (q - p) ≡ q
 part-size at p q h = omega arith
 
 -- the place after a write: past the limit, or within it
-place-moved : (la ls m at r : ℕ) → at ≡ min la (m + 1) → r ≡ min (at + ls) (m + 1) → r ≡ min (la + ls) (m + 1)
+place-moved : (la ls m at r : ℕ) → min at (m + 1) ≡ min la (m + 1) → r ≡ min (at + ls) (m + 1) → min r (m + 1) ≡ min (la + ls) (m + 1)
 place-moved la ls m at r h k = omega arith
 
 -- a copy of s into the part of x from p to the limit
@@ -102,7 +102,7 @@ put-appends {limit} {at} {r} {p} {q} {m} {x} {ys} {s} hm hq hp hy hr = record {
   go = λ o a w.
       let e : x ≡ laid m o a = rw hm (w .holds) in
       let l : length x ≡ length o = ap length e ∙ length-laid m o a in
-      let hat : at ≡ min (length a) (m + 1) = rw hm (w .place) in
+      let hat : min at (m + 1) ≡ min (length a) (m + 1) = rw hm (w .place) in
       record {
         holds = rw (← hm) (rw (hy, e) (laid-rest m p (q - p) o a s (part-start (length a) (length o) m at p q hat (rw l at hq) hp) (part-size at p q hp ∙ (rw l at hq))));
         place = rw (← hm) (simp length-append (place-moved (length a) (length s) m at r hat hr));
@@ -129,7 +129,7 @@ pub from-start : {limit r : ℕ} {x y s : Bytes} → Appends limit x 0 y r s →
 from-start {limit} {x = x} f = f .go x [] (record { holds = sym (laid-nil (ceiling limit) x); place = omega arith })
 
 -- bytes that fit stand at the start, and what the buffer held stands after them
-pub laid-fits : (n : ℕ) (o s : Bytes) → length s ≤ length o → length s ≤ n → laid n o s ≡ s ++ drop (length s) o
+laid-fits : (n : ℕ) (o s : Bytes) → length s ≤ length o → length s ≤ n → laid n o s ≡ s ++ drop (length s) o
 unfolding laid
 laid-fits n o [] h k = laid-nil n o
 laid-fits n [] (b ∷ s) h k = absurd (not-suc-le-zero h)
@@ -139,6 +139,17 @@ laid-fits (suc n) (x ∷ o) (b ∷ s) h k = ap (λ (l : Bytes). b ∷ l) (laid-f
 -- writes keep a buffer's length
 pub wrote-size : {limit at : ℕ} {o x s : Bytes} → Wrote limit o x at s → length x ≡ length o
 wrote-size {limit} {o = o} {s = s} w = ap length (w .holds) ∙ length-laid (ceiling limit) o s
+
+-- a place within the limit is the number of bytes, and bytes that fit stand before what the buffer held
+pub wrote-within : {limit at : ℕ} {o x s : Bytes} → Wrote limit o x at s → at ≤ ceiling limit → at ≡ length s
+wrote-within w h = omega (arith, w .place)
+
+pub wrote-fits : {limit at : ℕ} {o x s : Bytes} → Wrote limit o x at s → length s ≤ length o → length s ≤ ceiling limit → x ≡ s ++ drop (length s) o
+wrote-fits {limit} {o = o} {s = s} w h k = w .holds ∙ laid-fits (ceiling limit) o s h k
+
+-- a place past the limit tells of more bytes than the limit
+pub wrote-past : {limit at : ℕ} {o x s : Bytes} → Wrote limit o x at s → ceiling limit < at → ceiling limit < length s
+wrote-past w h = omega (arith, w .place)
 
 -- the answers by the two cases
 ending-within : (x : Bytes) (at : ℕ) → at ≤ length x → ending x at ≡ accepted (take at x)
@@ -159,22 +170,23 @@ fitting-past s room h = rw (lt-leb (length s) room h, fitting)
 
 -- the answer at the end of a run
 ending-wrote : (o x s : Bytes) (at : ℕ) → length o ≤ 9223372036854775807 → Wrote (length o) o x at s → length x ≡ length o
-    → (b : Bool) → leb (length s) (length o) ≡ b → ending x at ≡ fitting s (length o)
+    → (b : Bool) → leb at (length x) ≡ b → ending x at ≡ fitting s (length o)
 ending-wrote o x s at h w size true e =
-    let fits : length s ≤ length o = leb-true (length s) (length o) e in
-    let end : at ≡ length s = omega (arith, w .place) in
-    let start : take at x ≡ s = rw (end, w .holds, laid-fits (ceiling (length o)) o s fits (omega arith)) (take-at s _ (length s) refl) in
-    ending-within x at (omega arith) ∙ ap accepted start ∙ sym (fitting-within s (length o) fits)
+    let fits : at ≤ length x = leb-true at (length x) e in
+    let end : at ≡ length s = wrote-within w (omega arith) in
+    let start : take at x ≡ s = rw (end, wrote-fits w (omega arith) (omega arith)) (take-at s _ (length s) refl) in
+    ending-within x at fits ∙ ap accepted start ∙ sym (fitting-within s (length o) (omega arith))
 ending-wrote o x s at h w size false e =
-    let long : length o < length s = leb-false (length s) (length o) e in
-    ending-past x at (omega (arith, w .place)) ∙ sym (fitting-past s (length o) long)
+    let past : length x < at = leb-false at (length x) e in
+    let long : ceiling (length o) < length s = wrote-past w (omega arith) in
+    ending-past x at past ∙ sym (fitting-past s (length o) (omega arith))
 
 -- a run of writes from the start, ended
 pub finished : {o x y s : Bytes} {at : ℕ} {r : Written} → Appends (length o) o 0 x at s → Finishes x at y r → Leaves o y r (fitting s (length o))
 finished {o} {x} {y} {s} {at} {r} f e =
     let w : Wrote (length o) o x at s = from-start f in
     let size : length x ≡ length o = wrote-size w in
-    let same : ending x at ≡ fitting s (length o) = ending-wrote o x s at (rw size at (e .small)) w size (leb (length s) (length o)) refl in
+    let same : ending x at ≡ fitting s (length o) = ending-wrote o x s at (rw size at (e .small)) w size (leb at (length x)) refl in
     record { says = rw same at (e .leaves .says); holds = rw (same, size) at (e .leaves .holds) }
 
 -- ---- clearing

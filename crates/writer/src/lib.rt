@@ -13,6 +13,7 @@ pub enum Written {
     NoRoom,
 }
 
+// The smaller of two numbers.
 fn smaller(a: usize, b: usize) -> usize
     ensures { λ r. ⌜ r ≡ min a b ⌝ }
 {

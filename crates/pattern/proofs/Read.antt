@@ -1,0 +1,105 @@
+-- The elements that a reader of document 01 finds are those of the bytes that it reads.
+-- Assumes nothing.
+use mathlib.Core.Path.{_≡_, refl, sym, ap, _∙_}
+use mathlib.Core.Bool.{Bool, true, false}
+use mathlib.Core.List.{List, [], _∷_}
+use Prim.Native.Nat.{ℕ, zero, suc, _+_, _*_, _-_, _≤_, _<_}
+use native.Mathlib.Nat.{mul-div-cancel-left}
+use native.Mathlib.Omega.{arith}
+use borrow.Author.Tests.{leb-true}
+use lib.Dec.{leb}
+use lib.ListN.{length, take, drop, length-drop}
+use lib.Seq.{take-nil, take-take, length-take-le}
+use Rattle.script_spec.specs.Base.{Bytes}
+use Rattle.script_spec.specs.Fields.{Read, got, bad, Reader, _>>=_, pure, ensure, part, number, u32, element, times, low}
+use Rattle.pattern.specs.Elements.{words, elements}
+
+-- one reader after another has read
+record Bound {A B : Type 0} (r : Reader A) (k : A → Reader B) (s : Bytes) (b : B) (rest : Bytes) : Type 0 where
+  value : A
+  mid : Bytes
+  one : r s ≡ got value mid
+  two : k value mid ≡ got b rest
+
+bound : {A B : Type 0} (r : Reader A) (k : A → Reader B) (s : Bytes) (b : B) (rest : Bytes) → _>>=_ r k s ≡ got b rest → Bound r k s b rest
+unfolding _>>=_
+bound {A} {B} r k s b rest h = go (r s) refl h
+  where
+    after : Read A → Read B
+    after (got a m) = k a m
+    after (bad n) = bad n
+
+    go : (x : Read A) → r s ≡ x → after x ≡ got b rest → Bound r k s b rest
+    go (got a m) e h = record { value = a; mid = m; one = e; two = h }
+    go (bad n) e h = let z : _≡_ {A = ℕ} 0 1 = cc in absurd (omega arith)
+
+part-read : (n : ℕ) (s bs r : Bytes) (t : Bool) → leb n (length s) ≡ t → part n s ≡ got bs r → (bs ≡ take n s) × (r ≡ drop n s) × (n ≤ length s)
+unfolding part
+part-read n s bs r true e h = let q = rw (e, part) at h in (cc, cc, leb-true n (length s) e)
+part-read n s bs r false e h = let q = rw (e, part) at h in let z : _≡_ {A = ℕ} 0 1 = cc in absurd (omega arith)
+
+ensure-read : (n : ℕ) (t : Bool) (a c : ℕ) (s r : Bytes) → ensure n t a s ≡ got c r → (c ≡ a) × (r ≡ s)
+unfolding ensure
+ensure-read n true a c s r h = (cc, cc)
+ensure-read n false a c s r h = let z : _≡_ {A = ℕ} 0 1 = cc in absurd (omega arith)
+
+pure-read : {A : Type 0} (a b : A) (s r : Bytes) → pure a s ≡ got b r → (b ≡ a) × (r ≡ s)
+unfolding pure
+pure-read a b s r h = (cc, cc)
+
+number-read : (s : Bytes) (c : ℕ) (r : Bytes) → u32 s ≡ got c r → (c ≡ low (take 4 s)) × (r ≡ drop 4 s) × (4 ≤ length s)
+unfolding u32 number
+number-read s c r h =
+    let p = bound (part 4) (λ bs. pure (low bs)) s c r h in
+    let q = part-read 4 s (p .value) (p .mid) (leb 4 (length s)) refl (p .one) in
+    let v = pure-read (low (p .value)) c (p .mid) r (p .two) in
+    (v .0 ∙ ap low (q .0), v .1 ∙ q .1, q .2)
+
+element-read : (s : Bytes) (c : ℕ) (r : Bytes) → element s ≡ got c r → (c ≡ low (take 4 s)) × (r ≡ drop 4 s) × (4 ≤ length s)
+unfolding element
+element-read s c r h =
+    let p = bound u32 _ s c r h in
+    let q = number-read s (p .value) (p .mid) (p .one) in
+    let v = ensure-read 7 _ (p .value) c (p .mid) r (p .two) in
+    (v .0 ∙ q .0, v .1 ∙ q .1, q .2)
+
+words-join : (n c : ℕ) (s m : Bytes) (ds cs : List ℕ) → c ≡ low (take 4 s) → m ≡ drop 4 s → words n m ≡ ds → cs ≡ c ∷ ds → words (suc n) s ≡ cs
+unfolding words
+words-join n c s m ds cs e f g h = cc
+
+-- n elements of a text are words of four bytes
+words-read : (n : ℕ) (s : Bytes) (cs : List ℕ) (r : Bytes) → times n element s ≡ got cs r → (words n s ≡ cs) × (4 * n ≤ length s)
+unfolding times words
+words-read zero s cs r h = let v = pure-read [] cs s r h in (sym (v .0), omega arith)
+words-read (suc n) s cs r h =
+    let p = bound element _ s cs r h in
+    let q = bound (times n element) _ (p .mid) cs r (p .two) in
+    let e = element-read s (p .value) (p .mid) (p .one) in
+    let w = words-read n (p .mid) (q .value) (q .mid) (q .one) in
+    let v = pure-read (p .value ∷ q .value) cs (q .mid) r (q .two) in
+    let l : length (p .mid) ≡ length s - 4 = ap length (e .1) ∙ length-drop 4 s in
+    (words-join n (p .value) s (p .mid) (q .value) cs (e .0) (e .1) (w .0) (v .0), omega (arith, e .2, w .1))
+
+-- ---- the part of a body that holds the elements
+
+drop-take : (k m n : ℕ) (l : Bytes) → m ≡ k + n → drop k (take m l) ≡ take n (drop k l)
+drop-take zero m n l h = let e : m ≡ n = omega arith in ap (λ (j : ℕ). take j l) e
+drop-take (suc k) zero n l h = absurd (omega arith)
+drop-take (suc k) (suc m) n [] h = sym (take-nil n)
+drop-take (suc k) (suc m) n (x ∷ l) h = drop-take k m n l (omega arith)
+
+words-take : (n m : ℕ) (s : Bytes) → 4 * n ≤ m → words n (take m s) ≡ words n s
+unfolding words
+words-take zero m s h = refl
+words-take (suc n) m s h =
+    let four : 4 ≤ m = omega arith in
+    rw (take-take 4 m s four, drop-take 4 m (m - 4) s (omega arith)) (ap (λ (cs : List ℕ). low (take 4 s) ∷ cs) (words-take n (m - 4) (drop 4 s) (omega arith)))
+
+-- what a reader of n elements finds in a body, by the bytes that hold them
+pub elements-read : (n : ℕ) (s : Bytes) (cs : List ℕ) (r : Bytes) → times n element s ≡ got cs r → elements (take (4 * n) s) ≡ cs
+unfolding elements
+elements-read n s cs r h =
+    let w = words-read n s cs r h in
+    let pos : 0 < 4 = omega arith in
+    let l : length (take (4 * n) s) ≡ 4 * n = length-take-le (4 * n) s (w .1) in
+    rw (l, mul-div-cancel-left n pos) (words-take n (4 * n) s (omega arith) ∙ w .0)
