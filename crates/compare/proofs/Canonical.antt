@@ -16,7 +16,9 @@ use Rattle.index.proofs.Renamed.{renumbered-agree}
 use Rattle.segments.proofs.Prints.{Octets, octets-take, octets-drop}
 use Rattle.segments.proofs.Agreement.{segments-tell}
 use Rattle.segments.proofs.Equal.{segments-agree}
-use Rattle.compare.specs.View.{firsts, segmentsAt, SameSegments}
+use Rattle.compare.specs.View.{viewed, segmentsAt, SameSegments}
+use Rattle.compare.specs.declared.View.the-variants.{First}
+use Rattle.compare.proofs.Views.{viewed-first}
 use Rattle.compare.proofs.Compared.{Same}
 
 -- the working memory has the numbers of first equal records
@@ -41,18 +43,19 @@ module _ {f : TermFile} {work : List ℕ} {k : ℕ} (F : Firsts f work k) where
       renumbered-agree (earlier f) (F .type-first) (F .fun-first) (F .term-first) x h
 
   pub same-canonical : (file : Bytes) (o p : ℕ) {x y : Entry} → Octets file → markAt file o ≡ markAt file p → entryAt file o ≡ some x → entryAt file p ≡ some y
-      → InRange (earlier f) x → InRange (earlier f) y → Same (SameSegments (firsts work k) file o p) (canonical f x ≡ canonical f y)
-  unfolding segmentsAt firsts entryAt bodyAt
+      → InRange (earlier f) x → InRange (earlier f) y → Same (SameSegments file (viewed work k First) o (viewed work k First) p) (canonical f x ≡ canonical f y)
+  unfolding segmentsAt entryAt bodyAt
   same-canonical file o p {x} {y} octets marks e e′ h h′ =
       let body-octets : (q : ℕ) → Octets (bodyAt file q) = λ q. octets-take (sizeAt file q) (drop (q + 6) file) (octets-drop (q + 6) file octets) in
       let e″ : entryOf (markAt file o) (bodyAt file p) ≡ some y = rw marks e′ in
       record {
         to = λ same.
+            let agree = sym (viewed-first work k (segmentsAt file o)) ∙ same ∙ viewed-first work k (segmentsAt file p) in
             sym (renumbered-firsts x h)
-            ∙ segments-tell (cell work k typeFirst) (cell work k funFirst) (cell work k termFirst) (markAt file o) (bodyAt file o) (bodyAt file p) e e″ (rw (← marks) at same)
+            ∙ segments-tell (cell work k typeFirst) (cell work k funFirst) (cell work k termFirst) (markAt file o) (bodyAt file o) (bodyAt file p) e e″ (rw (← marks) at agree)
             ∙ renumbered-firsts y h′;
         from = λ same.
-            rw (← marks)
-            (segments-agree (cell work k typeFirst) (cell work k funFirst) (cell work k termFirst) (markAt file o) (bodyAt file o) (bodyAt file p) (body-octets o) (body-octets p) e e″
-            (renumbered-firsts x h ∙ same ∙ sym (renumbered-firsts y h′)));
+            let agree = segments-agree (cell work k typeFirst) (cell work k funFirst) (cell work k termFirst) (markAt file o) (bodyAt file o) (bodyAt file p) (body-octets o) (body-octets p) e e″
+            (renumbered-firsts x h ∙ same ∙ sym (renumbered-firsts y h′)) in
+            viewed-first work k (segmentsAt file o) ∙ (rw (← marks) agree) ∙ sym (viewed-first work k (segmentsAt file p));
       }

@@ -68,7 +68,7 @@ some-kind (typeRef n) l = omega arith
 some-kind (funRef n) l = omega arith
 some-kind (termRef n) l = omega arith
 
-kind-none : (l : List Segment) → kindOf l ≡ 0 → l ≡ []
+pub kind-none : (l : List Segment) → kindOf l ≡ 0 → l ≡ []
 kind-none [] h = refl
 kind-none (x ∷ l) h = let k = some-kind x l in absurd (omega arith)
 
@@ -83,8 +83,8 @@ view (x ∷ l) (y ∷ m) k n b e =
 
 -- ---- what is seen
 
-module _ {a b : Bytes} {g : Segment → Segment} {l m : List Segment} {s t : Seen} (S : Sees a g l s) (T : Sees b g m t) where
-  pub heads-agree : map g l ≡ map g m → Alike a b s t
+module _ {a b : Bytes} {g h : Segment → Segment} {l m : List Segment} {s t : Seen} (S : Sees a g l s) (T : Sees b h m t) where
+  pub heads-agree : map g l ≡ map h m → Alike a b s t
   heads-agree e =
       record {
         kind = S .kind ∙ ap kindOf e ∙ sym (T .kind);
@@ -92,26 +92,26 @@ module _ {a b : Bytes} {g : Segment → Segment} {l m : List Segment} {s t : See
         bytes = S .bytes ∙ ap bytesOf e ∙ sym (T .bytes);
       }
 
-  pub heads-next : 0 < s .kind → map g l ≡ map g m → map g (ahead a (s .next)) ≡ map g (ahead b (t .next))
-  heads-next h e =
+  pub heads-next : 0 < s .kind → map g l ≡ map h m → map g (ahead a (s .next)) ≡ map h (ahead b (t .next))
+  heads-next p e =
       let same = heads-agree e .kind in
-      let h′ : 0 < t .kind = omega arith in
-      S .next h ∙ ap after e ∙ sym (T .next h′)
+      let q : 0 < t .kind = omega arith in
+      S .next p ∙ ap after e ∙ sym (T .next q)
 
   module _ (A : Alike a b s t) where
-    kinds : kindOf (map g l) ≡ kindOf (map g m)
+    kinds : kindOf (map g l) ≡ kindOf (map h m)
     kinds = sym (S .kind) ∙ A .kind ∙ T .kind
 
-    pub heads-equal : 0 < s .kind → map g (ahead a (s .next)) ≡ map g (ahead b (t .next)) → map g l ≡ map g m
-    heads-equal h e =
+    pub heads-equal : 0 < s .kind → map g (ahead a (s .next)) ≡ map h (ahead b (t .next)) → map g l ≡ map h m
+    heads-equal p e =
         let same = A .kind in
-        let h′ : 0 < t .kind = omega arith in
-        view (map g l) (map g m) kinds (sym (S .number) ∙ A .number ∙ T .number) (sym (S .bytes) ∙ A .bytes ∙ T .bytes) (sym (S .next h) ∙ e ∙ T .next h′)
+        let q : 0 < t .kind = omega arith in
+        view (map g l) (map h m) kinds (sym (S .number) ∙ A .number ∙ T .number) (sym (S .bytes) ∙ A .bytes ∙ T .bytes) (sym (S .next p) ∙ e ∙ T .next q)
 
-    pub heads-end : s .kind ≡ 0 → map g l ≡ map g m
-    heads-end h =
-        let none = kind-none (map g l) (sym (S .kind) ∙ h) in
-        none ∙ sym (kind-none (map g m) (sym kinds ∙ sym (S .kind) ∙ h))
+    pub heads-end : s .kind ≡ 0 → map g l ≡ map h m
+    heads-end p =
+        let none = kind-none (map g l) (sym (S .kind) ∙ p) in
+        none ∙ sym (kind-none (map h m) (sym kinds ∙ sym (S .kind) ∙ p))
 
 -- bytes by the places of their start and end
 pub decides-bytes : (a b : Bytes) (s t : Seen) {r : Bool} → s .kind ≡ t .kind → s .number ≡ t .number

@@ -1,3 +1,4 @@
 pub mod Views
 pub mod Compared
 pub mod Canonical
+pub mod Depths

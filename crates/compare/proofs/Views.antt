@@ -2,19 +2,23 @@
 -- Assumes nothing.
 use Prim.Native.Nat.{ℕ, zero, _+_, _-_, _≤_, _<_}
 use native.Mathlib.Omega.{arith}
-use mathlib.Core.Path.{_≡_, sym, ap, _∙_, subst}
+use mathlib.Core.Path.{_≡_, refl, sym, ap, _∙_, subst}
 use mathlib.Core.Bool.{false}
-use mathlib.Core.List.{List, []}
+use mathlib.Core.List.{List, [], _∷_, map}
 use lib.Dec.{leb, nleb→lt}
 use lib.ListN.{length, take, drop, getD, length-drop, drop-of-length-le, List·getD-eq-default}
 use lib.Seq.{getD-take, getD-drop, take-all, take-nil}
 use Rattle.script_spec.specs.Base.{Bytes}
 use Rattle.script_spec.specs.Fields.{low}
+use Rattle.index.specs.Cells.{cell, typeFirst, funFirst, termFirst}
 use Rattle.index.specs.Standing.{markAt, sizeAt, bodyAt}
-use Rattle.segments.specs.Segment.{Segment}
-use Rattle.segments.specs.Machine.{Meets, start}
+use Rattle.segments.specs.Segment.{Segment, plain, typeRef, funRef, termRef, mapped}
+use Rattle.segments.specs.Machine.{Meets, start, ahead}
+use Rattle.segments.specs.declared.Walk.{Walk}
 use Rattle.segments.specs.declared.Met.{Met}
-use Rattle.compare.specs.View.{Sees, startAt}
+use Rattle.compare.specs.View.{kindOf, numberOf, bytesOf, after, termColumn, termAs, termKind, viewed, Sees, startAt}
+use Rattle.compare.specs.declared.View.{View}
+use Rattle.compare.specs.declared.View.the-variants.{First, Listed, Depth}
 use Rattle.compare.specs.declared.Seen.{Seen}
 
 pub met-is : (body : Bytes) (l : List Segment) (m : Met) {m′ : Met} → Meets body l m → m ≡ m′ → Meets body l m′
@@ -57,3 +61,48 @@ module _ (file : Bytes) (o : ℕ) where
   word-there h e =
       let k : length (drop (o + 2) file) < 4 = nleb→lt 4 (length (drop (o + 2) file)) (rw e tt) in
       omega (arith, length-drop (o + 2) file)
+
+-- ---- views
+
+termAs-kind : (v : View) (n : ℕ) (l : List Segment) → termKind v ≡ kindOf (termAs v n ∷ l)
+unfolding termAs kindOf
+termAs-kind First n l = refl
+termAs-kind Listed n l = refl
+termAs-kind Depth n l = refl
+
+termAs-number : (v : View) (n : ℕ) (l : List Segment) → n ≡ numberOf (termAs v n ∷ l)
+unfolding termAs numberOf
+termAs-number First n l = refl
+termAs-number Listed n l = refl
+termAs-number Depth n l = refl
+
+termAs-bytes : (v : View) (n : ℕ) (l : List Segment) → [] ≡ bytesOf (termAs v n ∷ l)
+unfolding termAs bytesOf
+termAs-bytes First n l = refl
+termAs-bytes Listed n l = refl
+termAs-bytes Depth n l = refl
+
+-- a reference to a term, which a view may have for one to its type
+pub sees-term : (body : Bytes) (work : List ℕ) (k : ℕ) (v : View) (n : ℕ) (w : Walk) (kind number : ℕ) → kind ≡ termKind v → number ≡ cell work k (termColumn v) n
+    → Sees body (viewed work k v) (termRef n ∷ ahead body w) (record { kind = kind; number = number; start = 0; size = 0; next = w })
+unfolding viewed after
+sees-term body work k v n w kind number e q =
+    let m = cell work k (termColumn v) n in
+    let l = map (viewed work k v) (ahead body w) in
+    record {
+      kind = e ∙ termAs-kind v m l;
+      number = q ∙ termAs-number v m l;
+      within = omega arith;
+      bytes = termAs-bytes v m l;
+      next = λ h. refl;
+      fewer = λ h. omega arith;
+    }
+
+-- a view by first equal records is a change of numbers
+pub viewed-first : (work : List ℕ) (k : ℕ) (l : List Segment) → map (viewed work k First) l ≡ map (mapped (cell work k typeFirst) (cell work k funFirst) (cell work k termFirst)) l
+unfolding viewed mapped termAs
+viewed-first work k [] = refl
+viewed-first work k (plain p ∷ l) = ap (λ (m : List Segment). plain p ∷ m) (viewed-first work k l)
+viewed-first work k (typeRef n ∷ l) = ap (λ (m : List Segment). typeRef (cell work k typeFirst n) ∷ m) (viewed-first work k l)
+viewed-first work k (funRef n ∷ l) = ap (λ (m : List Segment). funRef (cell work k funFirst n) ∷ m) (viewed-first work k l)
+viewed-first work k (termRef n ∷ l) = ap (λ (m : List Segment). termRef (cell work k termFirst n) ∷ m) (viewed-first work k l)

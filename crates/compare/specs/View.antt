@@ -2,16 +2,20 @@
 -- Assumes nothing.
 use Prim.Native.Nat.{ℕ, _+_, _≤_, _<_}
 use mathlib.Core.Path.{_≡_}
-use mathlib.Core.Bool.{Bool, true}
+use mathlib.Core.Bool.{Bool, true, false}
 use mathlib.Core.List.{List, [], _∷_, map}
+use lib.Dec.{eqb}
 use lib.ListN.{length, take, drop, getD}
 use Rattle.script_spec.specs.Base.{Bytes}
-use Rattle.index.specs.Cells.{cell, typeFirst, funFirst, termFirst}
+use Rattle.index.specs.Cells.{cell, typeFirst, typeDepth, funFirst, termFirst, termType, termDepth}
+use Rattle.index.specs.Rules.{greatest}
 use Rattle.index.specs.Standing.{markAt, bodyAt}
-use Rattle.segments.specs.Segment.{Segment, plain, typeRef, funRef, termRef, mapped}
+use Rattle.segments.specs.Segment.{Segment, plain, typeRef, funRef, termRef}
 use Rattle.segments.specs.Machine.{start, ahead, segments}
 use Rattle.segments.specs.declared.Walk.{Walk}
 use Rattle.compare.specs.declared.Seen.{Seen}
+use Rattle.compare.specs.declared.View.{View}
+use Rattle.compare.specs.declared.View.the-variants.{First, Listed, Depth}
 
 -- 0 for no segment, 1 for bytes, 2, 3 and 4 for a reference to a type, a function and a term
 unfoldable pub kindOf : List Segment → ℕ
@@ -42,9 +46,37 @@ unfoldable pub after : List Segment → List Segment
 after [] = []
 after (x ∷ l) = l
 
--- a segment with the number of the first equal record for its reference
-unfoldable pub firsts : List ℕ → ℕ → Segment → Segment
-firsts work k = mapped (cell work k typeFirst) (cell work k funFirst) (cell work k termFirst)
+-- ---- views
+
+-- the column that a view has for types
+abbrev pub typeColumn : View → ℕ
+typeColumn First = typeFirst
+typeColumn Listed = typeFirst
+typeColumn Depth = typeDepth
+
+-- for terms
+abbrev pub termColumn : View → ℕ
+termColumn First = termFirst
+termColumn Listed = termType
+termColumn Depth = termDepth
+
+-- what a reference to a term is in a view: where types are listed, one to its type
+unfoldable pub termAs : View → ℕ → Segment
+termAs First n = termRef n
+termAs Listed n = typeRef n
+termAs Depth n = termRef n
+
+abbrev pub termKind : View → ℕ
+termKind First = 4
+termKind Listed = 2
+termKind Depth = 4
+
+-- a segment with what a view has for its reference
+unfoldable pub viewed : List ℕ → ℕ → View → Segment → Segment
+viewed work k v (plain p) = plain p
+viewed work k v (typeRef n) = typeRef (cell work k (typeColumn v) n)
+viewed work k v (funRef n) = funRef (cell work k funFirst n)
+viewed work k v (termRef n) = termAs v (cell work k (termColumn v) n)
 
 -- what is seen of the segments l of a body is their first, with other numbers by g, and the walk after it
 pub record Sees (body : Bytes) (g : Segment → Segment) (l : List Segment) (s : Seen) : Type 0 where
@@ -74,10 +106,26 @@ pub record Alike (a b : Bytes) (s t : Seen) : Type 0 where
   pub number : s .number ≡ t .number
   pub bytes : take (s .size) (drop (s .start) a) ≡ take (t .size) (drop (t .start) b)
 
--- what is ahead of two walks is equal, with other numbers by g
-abbrev pub SameAhead : (Segment → Segment) → Bytes → Walk → Bytes → Walk → Type 0
-SameAhead g a v b w = map g (ahead a v) ≡ map g (ahead b w)
+-- what is ahead of two walks is equal, each with other numbers
+abbrev pub SameAhead : (Segment → Segment) → Bytes → Walk → (Segment → Segment) → Bytes → Walk → Type 0
+SameAhead g a v h b w = map g (ahead a v) ≡ map h (ahead b w)
 
--- the segments of two records are equal, with other numbers by g
-abbrev pub SameSegments : (Segment → Segment) → Bytes → ℕ → ℕ → Type 0
-SameSegments g file o p = map g (segmentsAt file o) ≡ map g (segmentsAt file p)
+-- the segments of two records are equal, each with other numbers
+abbrev pub SameSegments : Bytes → (Segment → Segment) → ℕ → (Segment → Segment) → ℕ → Type 0
+SameSegments file g o h p = map g (segmentsAt file o) ≡ map h (segmentsAt file p)
+
+-- ---- the numbers of a kind
+
+-- the number of a segment in front of others, if it is of the kind
+unfoldable pub ofKind : Bool → ℕ → List ℕ → List ℕ
+ofKind true n ns = n ∷ ns
+ofKind false n ns = ns
+
+-- the numbers of the references of a kind, in order
+unfoldable pub numbers : ℕ → List Segment → List ℕ
+numbers kind [] = []
+numbers kind (x ∷ l) = ofKind (eqb (kindOf (x ∷ [])) kind) (numberOf (x ∷ [])) (numbers kind l)
+
+-- the larger of a number and that of a segment, if this is of the kind
+unfoldable pub larger : ℕ → ℕ → ℕ → ℕ → ℕ
+larger found number kind most = greatest (ofKind (eqb found kind) number (most ∷ []))

@@ -3,15 +3,25 @@ ghost use mathlib.Core.Path.{_≡_};
 ghost use mathlib.Core.Bool.{true};
 ghost use Prim.Native.Nat.{_+_, _≤_};
 ghost use lib.ListN.{length, getD};
+ghost use mathlib.Core.List.{map};
+ghost use Rattle.index.specs.Rules.{greatest};
 ghost use Rattle.index.specs.Standing.{bodyAt};
 ghost use Rattle.segments.specs.Machine.{ahead};
-ghost use Rattle.compare.specs.View.{startAt, firsts, Sees, Decides, Alike, SameAhead, SameSegments};
+ghost use Rattle.compare.specs.View.{startAt, segmentsAt, numbers, larger, typeColumn, termColumn, termKind, viewed, Sees, Decides, Alike, SameAhead, SameSegments};
 use segments::Met;
 use segments::Walk;
 use segments::Word;
 
-// The first segment of a walk, with the numbers of first equal records for references: its kind (0 none, 1 bytes, 2 to 4 references),
-// its number, its bytes by their start and size, and the walk after it.
+// What stands for a reference: the number of the first equal record; the same, and for a term that of its type, as a reference to a
+// type; or the depth.
+pub enum View {
+    First,
+    Listed,
+    Depth,
+}
+
+// The first segment of a walk in a view: its kind (0 none, 1 bytes, 2 to 4 references to types, functions and terms), its number, its
+// bytes by their start and size, and the walk after it.
 pub struct Seen {
     pub kind: u32,
     pub number: u32,
@@ -64,9 +74,42 @@ fn body_of(file: &[u8], o: usize) -> &[u8]
     &file[from..to]
 }
 
+// The column of a view for types.
+fn type_column(view: View) -> usize
+    ensures { λ r. ⌜ r ≡ typeColumn view ⌝ }
+{
+    match view {
+        View::First => index::TYPE_FIRST,
+        View::Listed => index::TYPE_FIRST,
+        View::Depth => index::TYPE_DEPTH,
+    }
+}
+
+// The column of a view for terms.
+fn term_column(view: View) -> usize
+    ensures { λ r. ⌜ r ≡ termColumn view ⌝ }
+{
+    match view {
+        View::First => index::TERM_FIRST,
+        View::Listed => index::TERM_TYPE,
+        View::Depth => index::TERM_DEPTH,
+    }
+}
+
+// The kind of a reference to a term in a view.
+fn term_kind(view: View) -> u32
+    ensures { λ r. ⌜ r ≡ termKind view ⌝ }
+{
+    match view {
+        View::First => 4,
+        View::Listed => 2,
+        View::Depth => 4,
+    }
+}
+
 // The first segment of what is ahead of a walk.
-fn head(w: Walk, body: &[u8], work: &[u32], k: usize) -> Seen
-    ensures { λ r. ⌜ Sees (now (body .entry)) (firsts (now (work .entry)) k) (ahead (now (body .entry)) w) r ⌝ }
+fn head(w: Walk, body: &[u8], work: &[u32], k: usize, view: View) -> Seen
+    ensures { λ r. ⌜ Sees (now (body .entry)) (viewed (now (work .entry)) k view) (ahead (now (body .entry)) w) r ⌝ }
 {
     match w.next(body) {
         Met::End => Seen {
@@ -85,7 +128,7 @@ fn head(w: Walk, body: &[u8], work: &[u32], k: usize) -> Seen
         },
         Met::TypeRef(n, next) => Seen {
             kind: 2,
-            number: index::get(work, k, index::TYPE_FIRST, n as usize),
+            number: index::get(work, k, type_column(view), n as usize),
             start: 0,
             size: 0,
             next,
@@ -98,8 +141,8 @@ fn head(w: Walk, body: &[u8], work: &[u32], k: usize) -> Seen
             next,
         },
         Met::TermRef(n, next) => Seen {
-            kind: 4,
-            number: index::get(work, k, index::TERM_FIRST, n as usize),
+            kind: term_kind(view),
+            number: index::get(work, k, term_column(view), n as usize),
             start: 0,
             size: 0,
             next,
@@ -125,31 +168,91 @@ fn same_heads(a: &[u8], b: &[u8], s: Seen, t: Seen) -> bool
     check::same(&a[i..to_i], &b[j..to_j])
 }
 
-// Whether what is ahead of two walks is equal.
-fn same_ahead(a: &[u8], v: Walk, b: &[u8], w: Walk, work: &[u32], k: usize) -> bool
-    ensures { λ r. ⌜ Decides r (SameAhead (firsts (now (work .entry)) k) (now (a .entry)) v (now (b .entry)) w) ⌝ }
+// Whether what is ahead of two walks is equal, each in a view.
+fn same_ahead(
+    a: &[u8],
+    v: Walk,
+    s: View,
+    b: &[u8],
+    w: Walk,
+    t: View,
+    work: &[u32],
+    k: usize,
+) -> bool
+    ensures { λ r. ⌜ Decides r (SameAhead (viewed (now (work .entry)) k s) (now (a .entry)) v (viewed (now (work .entry)) k t) (now (b .entry)) w) ⌝ }
 {
     let mut x = v;
     let mut y = w;
     loop {
-        let s = head(x, a, work, k);
-        let t = head(y, b, work, k);
-        if !same_heads(a, b, s, t) {
+        let p = head(x, a, work, k, s);
+        let q = head(y, b, work, k, t);
+        if !same_heads(a, b, p, q) {
             return false;
         }
-        if s.kind == 0 {
+        if p.kind == 0 {
             return true;
         }
-        x = s.next;
-        y = t.next;
+        x = p.next;
+        y = q.next;
     }
+}
+
+// Whether the segments of the records at two offsets are equal, each in a view.
+fn same_segments(file: &[u8], work: &[u32], k: usize, o: usize, s: View, p: usize, t: View) -> bool
+    ensures { λ r. ⌜ Decides r (SameSegments (now (file .entry)) (viewed (now (work .entry)) k s) o (viewed (now (work .entry)) k t) p) ⌝ }
+{
+    let v = walk_of(file, o);
+    let w = walk_of(file, p);
+    same_ahead(body_of(file, o), v, s, body_of(file, p), w, t, work, k)
 }
 
 // Whether the records at two offsets, of one mark, are equal, references by the numbers of first equal records.
 pub fn same_record(file: &[u8], work: &[u32], k: usize, o: usize, p: usize) -> bool
-    ensures { λ r. ⌜ Decides r (SameSegments (firsts (now (work .entry)) k) (now (file .entry)) o p) ⌝ }
+    ensures { λ r. ⌜ Decides r (SameSegments (now (file .entry)) (viewed (now (work .entry)) k View.First) o (viewed (now (work .entry)) k View.First) p) ⌝ }
 {
-    let v = walk_of(file, o);
-    let w = walk_of(file, p);
-    same_ahead(body_of(file, o), v, body_of(file, p), w, work, k)
+    same_segments(file, work, k, o, View::First, p, View::First)
+}
+
+// Whether the record type at an offset o is the type of the record term at an offset p.
+pub fn same_listed_type(file: &[u8], work: &[u32], k: usize, o: usize, p: usize) -> bool
+    ensures { λ r. ⌜ Decides r (SameSegments (now (file .entry)) (viewed (now (work .entry)) k View.First) o (viewed (now (work .entry)) k View.Listed) p) ⌝ }
+{
+    same_segments(file, work, k, o, View::First, p, View::Listed)
+}
+
+// The larger of a number and that of a segment, if this is of a kind.
+fn larger(found: u32, number: u32, kind: u32, most: u32) -> u32
+    ensures { λ r. ⌜ r ≡ larger found number kind most ⌝ }
+{
+    if found != kind {
+        return most;
+    }
+    if number < most {
+        return most;
+    }
+    number
+}
+
+// The greatest depth ahead of a walk that the index has for references of a kind, 0 where there are none.
+fn greatest_ahead(body: &[u8], w: Walk, work: &[u32], k: usize, kind: u32) -> u32
+    ensures { λ r. ⌜ r ≡ greatest (numbers kind (map (viewed (now (work .entry)) k View.Depth) (ahead (now (body .entry)) w))) ⌝ }
+{
+    let mut x = w;
+    let mut most = 0;
+    loop {
+        let s = head(x, body, work, k, View::Depth);
+        if s.kind == 0 {
+            return most;
+        }
+        most = larger(s.kind, s.number, kind, most);
+        x = s.next;
+    }
+}
+
+// The greatest depth that the index has for the references of a record of a kind: 2 for types, 4 for terms.
+pub fn greatest(file: &[u8], work: &[u32], k: usize, o: usize, kind: u32) -> u32
+    ensures { λ r. ⌜ r ≡ greatest (numbers kind (map (viewed (now (work .entry)) k View.Depth) (segmentsAt (now (file .entry)) o))) ⌝ }
+{
+    let w = walk_of(file, o);
+    greatest_ahead(body_of(file, o), w, work, k, kind)
 }

@@ -2,38 +2,37 @@
 -- Assumes nothing.
 use native.Mathlib.Omega.{arith}
 use borrow.Author.Needs.{needs}
-use Rattle.compare.proofs.Views.{met-is, sees-of}
-use Rattle.compare.specs.View.{firsts, kindOf, numberOf, bytesOf, after}
+use Rattle.compare.proofs.Views.{met-is, sees-of, sees-term}
+use Rattle.compare.specs.View.{viewed, kindOf, numberOf, bytesOf, after}
 use Rattle.segments.specs.Machine.{ahead}
-use Rattle.segments.specs.Segment.{mapped}
 use mathlib.Core.Path.{refl}
 use Rattle.compare.proofs.head.Statement.{statement}
 use Rattle.compare.proofs.head.Tie as tie
 
 returns : tie.Need-returns
-unfolding firsts mapped kindOf numberOf bytesOf after
+unfolding viewed kindOf numberOf bytesOf after
 returns c = sees-of (met-is c.before.before.before.before.before.args.body.now (ahead c.before.before.before.before.before.args.body.now c.before.before.before.before.before.args.w) c.before.before.next.result c.before.before.next.ensures c.enum-told.given.1) (record { kind = refl; number = refl; within = omega arith; bytes = refl; next = λ h. absurd (omega arith); fewer = λ h. absurd (omega arith) })
 
 returns-2 : tie.Need-returns-2
-unfolding firsts mapped kindOf numberOf bytesOf after
+unfolding viewed kindOf numberOf bytesOf after
 returns-2 c = let m = met-is c.before.before.before.before.before.before.args.body.now (ahead c.before.before.before.before.before.before.args.body.now c.before.before.before.before.before.before.args.w) c.before.before.before.next.result c.before.before.before.next.ensures c.before.from.given.1 in sees-of (m .1) (record { kind = refl; number = refl; within = m .0; bytes = refl; next = λ h. refl; fewer = λ h. omega arith })
 
 returns-3 : tie.Need-returns-3
-unfolding firsts mapped kindOf numberOf bytesOf after
-returns-3 c = sees-of (met-is c.before.before.before.before.before.before.before.args.body.now (ahead c.before.before.before.before.before.before.before.args.body.now c.before.before.before.before.before.before.before.args.w) c.before.before.before.before.next.result c.before.before.before.before.next.ensures c.before.before.n.given.1) (record { kind = refl; number = c.get.ensures; within = omega arith; bytes = refl; next = λ h. refl; fewer = λ h. omega arith })
+unfolding viewed kindOf numberOf bytesOf after
+returns-3 c = sees-of (met-is c.before.before.before.before.before.before.before.before.args.body.now (ahead c.before.before.before.before.before.before.before.before.args.body.now c.before.before.before.before.before.before.before.before.args.w) c.before.before.before.before.before.next.result c.before.before.before.before.before.next.ensures c.before.before.before.n.given.1) (record { kind = refl; number = (rw c.before.type-column.ensures at c.get.ensures); within = omega arith; bytes = refl; next = λ h. refl; fewer = λ h. omega arith })
 
 returns-4 : tie.Need-returns-4
-unfolding firsts mapped kindOf numberOf bytesOf after
+unfolding viewed kindOf numberOf bytesOf after
 returns-4 c = sees-of (met-is c.before.before.before.before.before.before.before.args.body.now (ahead c.before.before.before.before.before.before.before.args.body.now c.before.before.before.before.before.before.before.args.w) c.before.before.before.before.next.result c.before.before.before.before.next.ensures c.before.before.n2.given.1) (record { kind = refl; number = c.get2.ensures; within = omega arith; bytes = refl; next = λ h. refl; fewer = λ h. omega arith })
 
 returns-5 : tie.Need-returns-5
-unfolding firsts mapped kindOf numberOf bytesOf after
-returns-5 c = sees-of (met-is c.before.before.before.before.before.before.before.args.body.now (ahead c.before.before.before.before.before.before.before.args.body.now c.before.before.before.before.before.before.before.args.w) c.before.before.before.before.next.result c.before.before.before.before.next.ensures c.before.before.n3.given.1) (record { kind = refl; number = c.get3.ensures; within = omega arith; bytes = refl; next = λ h. refl; fewer = λ h. omega arith })
+unfolding viewed kindOf numberOf bytesOf after
+returns-5 c = sees-of (met-is c.before.before.before.before.before.before.before.before.before.args.body.now (ahead c.before.before.before.before.before.before.before.before.before.args.body.now c.before.before.before.before.before.before.before.before.before.args.w) c.before.before.before.before.before.before.next.result c.before.before.before.before.before.before.next.ensures c.before.before.before.before.n3.given.1) (sees-term c.before.before.before.before.before.before.before.before.before.args.body.now c.before.before.before.before.before.before.before.before.before.args.work.now c.before.before.before.before.before.before.before.before.before.args.k c.before.before.before.before.before.before.before.before.before.args.view _ _ _ _ c.before.before.term-kind.ensures (rw c.before.term-column.ensures at c.get3.ensures))
 
 pub head-spec : {M : Type 1} → statement M
 head-spec =
     tie.close
-    (tie.spec (λ c κs. search needs) (λ c. search needs) (λ c. search needs) (λ c. search needs) (λ c. search needs) (λ c κs. search needs) (λ c. search needs) (λ c. search needs) (λ c κs. search needs) (λ c. search needs) (λ c. search needs) (λ c κs. search needs)
+    (tie.spec (λ c κs. search needs) (λ c. search needs) (λ c. search needs) (λ c. search needs) (λ c κs. search needs) (λ c. search needs) (λ c κs. search needs) (λ c. search needs) (λ c. search needs) (λ c κs. search needs) (λ c. search needs) (λ c κs. search needs) (λ c κs. search needs) (λ c. search needs) (λ c κs. search needs)
     returns
     returns-2
     returns-3

@@ -1,19 +1,20 @@
--- `compare::same_ahead` meets its contract: what is ahead of the walks is equal exactly where it was at the start. The measure is the number of segments ahead.
+-- `compare::same_ahead` meets its contract: what is ahead of the walks is equal exactly where it was at the start.
+-- The measure is the number of segments ahead.
 -- Assumes nothing.
 use native.Mathlib.Omega.{arith}
 use borrow.Author.Needs.{needs}
 use Rattle.compare.proofs.Compared.{Same, not-true, not-false, decides-false, decides-true, heads-agree, heads-next, heads-equal, heads-end}
-use Rattle.compare.specs.View.{firsts, SameAhead}
+use Rattle.compare.specs.View.{viewed, SameAhead}
 use Rattle.segments.specs.Machine.{ahead}
 use lib.ListN.{length}
 use Rattle.compare.proofs.same_ahead.Statement.{statement}
 use Rattle.compare.proofs.same_ahead.Tie as tie
 
 abbrev Inv-loop : tie.InvT-loop
-Inv-loop a b work k x₀ y₀ x y = Same (SameAhead (firsts work k) a x b y) (SameAhead (firsts work k) a x₀ b y₀)
+Inv-loop a s b t work k x₀ y₀ x y = Same (SameAhead (viewed work k s) a x (viewed work k t) b y) (SameAhead (viewed work k s) a x₀ (viewed work k t) b y₀)
 
 abbrev μ-loop : tie.MeasureT-loop
-μ-loop a b work k x₀ y₀ x y = length (ahead a x)
+μ-loop a s b t work k x₀ y₀ x y = length (ahead a x)
 
 loop-holds : tie.Need-loop-holds Inv-loop μ-loop
 loop-holds c = record { to = λ e. e; from = λ e. e }

@@ -1,17 +1,17 @@
--- `compare::same_record` meets its contract: the walks start at the bodies of the records.
+-- `compare::same_segments` meets its contract: the walks start at the bodies of the records.
 -- Assumes nothing.
 use borrow.Author.Needs.{needs}
 use Rattle.compare.specs.View.{segmentsAt, startAt}
 use Rattle.segments.specs.Machine.{segments}
-use Rattle.compare.proofs.same_record.Statement.{statement}
-use Rattle.compare.proofs.same_record.Tie as tie
+use Rattle.compare.proofs.same_segments.Statement.{statement}
+use Rattle.compare.proofs.same_segments.Tie as tie
 
 returns : tie.Need-returns
 unfolding segmentsAt startAt segments
 returns c = rw (c.before.before.before.before.walk-of.ensures, c.before.before.before.walk-of2.ensures, c.before.before.body-of.ensures, c.before.body-of2.ensures) at c.same-ahead.ensures
 
-pub same-record-spec : {M : Type 1} → statement M
-same-record-spec =
+pub same-segments-spec : {M : Type 1} → statement M
+same-segments-spec =
     tie.close
     (tie.spec (λ c κs. search needs) (λ c κs. search needs) (λ c κs. search needs) (λ c κs. search needs) (λ c κs. search needs)
     returns)
