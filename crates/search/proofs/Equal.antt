@@ -17,7 +17,8 @@ use Rattle.index.specs.Cells.{cell}
 use Rattle.index.specs.First.{renamed, renumbered, canonical}
 use Rattle.index.specs.Standing.{markAt, bodyAt, entryAt}
 use Rattle.segments.proofs.Prints.{Octets}
-use Rattle.compare.specs.View.{Decides, SameSegments, firsts}
+use Rattle.compare.specs.View.{Decides, SameSegments, viewed}
+use Rattle.compare.specs.declared.View.the-variants.{First}
 use Rattle.compare.proofs.Canonical.{index-firsts, same-canonical}
 use Rattle.record_rules.specs.Marks.{termBytes, markOf}
 use Rattle.record_rules.proofs.Marks.{entry-mark}
@@ -48,7 +49,7 @@ mark-canonical f (input n) = refl
 
 module _ (file : Bytes) (work : List ℕ) (k o p : ℕ) {a b : Bytes} {r : Bool} (is : a ≡ markAt file o) (is′ : b ≡ markAt file p) (test : r ≡ same a b) where
   -- the same mark: the bodies decide
-  pub same-marks : {d : Bool} → Octets file → r ≡ true → Decides d (SameSegments (firsts work k) file o p) → SameAt file work k o p d
+  pub same-marks : {d : Bool} → Octets file → r ≡ true → Decides d (SameSegments file (viewed work k First) o (viewed work k First) p) → SameAt file work k o p d
   same-marks octets h D =
       let marks : markAt file o ≡ markAt file p = sym is ∙ same-eq a b (rw (← test, h) tt) ∙ is′ in
       record {
