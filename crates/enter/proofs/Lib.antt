@@ -1,2 +1,4 @@
+pub mod FirstBroken
 pub mod Functions
 pub mod Types
+pub mod EnumRules

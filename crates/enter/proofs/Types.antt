@@ -7,7 +7,7 @@ use native.Mathlib.Numerals.{add-one}
 use mathlib.Core.Bool.{Bool, true, false, _&&_}
 use lib.Dec.{leb, ltb}
 use mathlib.Core.List.{List, [], _∷_, map}
-use mathlib.Core.Option.{none, some}
+use mathlib.Core.Option.{some}
 use borrow.Author.Tests.{lt-ltb, le-ltb, le-leb, lt-leb}
 use lib.ListN.{length, drop}
 use Rattle.script_spec.specs.Base.{Bytes, ifSome, ascending}
@@ -35,6 +35,7 @@ use Rattle.record_rules.specs.Records.{TypeAscends}
 use Rattle.search.specs.Found.{Finds}
 use Rattle.search.proofs.Numbers.{type-found}
 use Rattle.enter.specs.Entering.{Enters, StoresType, typeCount}
+use Rattle.enter.proofs.FirstBroken.{broken-here, broken-later, none-broken}
 use Rattle.enter.specs.declared.Entered.the-variants.{Done, Broken}
 
 pub type-row-stored : (file : Bytes) (work : List ℕ) (k count o deep : ℕ) {first : ℕ} {work₁ work₂ work₃ : List ℕ} → Finds file work k typeOffset typeFirst count o first
@@ -67,20 +68,6 @@ parts (fields.input n) e h q = let z : _≡_ {A = ℕ} 0 1 = cc in absurd (omega
 
 type-value : {t u : Ty} → type t ≡ type u → t ≡ u
 type-value e = cc
-
--- the first broken rule of two
-module _ (n m : ℕ) where
-  two-first : {a : Bool} (b : Bool) → a ≡ false → broken ((n, a) ∷ (m, b) ∷ []) ≡ some n
-  unfolding broken
-  two-first b e = rw (e, broken)
-
-  two-second : {a b : Bool} → a ≡ true → b ≡ false → broken ((n, a) ∷ (m, b) ∷ []) ≡ some m
-  unfolding broken
-  two-second e q = rw (e, q, broken)
-
-  two-kept : {a b : Bool} → a ≡ true → b ≡ true → broken ((n, a) ∷ (m, b) ∷ []) ≡ none
-  unfolding broken
-  two-kept e q = rw (e, q, broken)
 
 module _ {file : Bytes} {f : TermFile} {work : List ℕ} {k o : ℕ} {t : Ty} (I : Indexed file f work k) (P : Parts file f o t) where
   -- the greatest depth of the parts
@@ -119,11 +106,11 @@ ascends-is A P = sym (A .go (P .m) (P .rs) (P .reads))
 
 module _ (file : Bytes) (work : List ℕ) {work′ : List ℕ} (k count o : ℕ) {b : Bool} (A : TypeAscends file o b) where
   pub type-unordered : b ≡ false → Enters type typeCount file work work′ k count o (Broken 9)
-  type-unordered h = record { go = λ f I c room t s. let P = stands-parts s in ap broken (type-rules I P) ∙ two-first 9 13 _ (ascends-is A P ∙ h) }
+  type-unordered h = record { go = λ f I c room t s. let P = stands-parts s in ap broken (type-rules I P) ∙ broken-here 9 _ (ascends-is A P ∙ h) }
 
   pub type-many : b ≡ true → 60000 ≤ count → Enters type typeCount file work work′ k count o (Broken 13)
   unfolding typeCount
-  type-many h g = record { go = λ f I c room t s. let P = stands-parts s in ap broken (type-rules I P) ∙ two-second 9 13 (ascends-is A P ∙ h) (rw (← c, le-ltb count 60000 g)) }
+  type-many h g = record { go = λ f I c room t s. let P = stands-parts s in ap broken (type-rules I P) ∙ broken-later 9 _ (ascends-is A P ∙ h) ∙ broken-here 13 _ (rw (← c, le-ltb count 60000 g)) }
 
   module _ {n : ℕ} (octets : Octets file) (is : n ≡ greatest (numbers 2 (map (viewed work k Depth) (segmentsAt file o)))) where
     pub type-deep : b ≡ true → count < 60000 → 255 < n → Enters type typeCount file work work′ k count o (Broken 13)
@@ -133,7 +120,7 @@ module _ (file : Bytes) (work : List ℕ) {work′ : List ℕ} (k count o : ℕ)
           go = λ f I c room t s.
               let P = stands-parts s in
               let q : n ≡ deepest I P = is ∙ deepest-is I P octets in
-              ap broken (type-rules I P) ∙ two-second 9 13 (ascends-is A P ∙ h) (rw (← c, lt-ltb count 60000 g, ← q, lt-leb (suc n) 256 (omega arith)));
+              ap broken (type-rules I P) ∙ broken-later 9 _ (ascends-is A P ∙ h) ∙ broken-here 13 _ (rw (← c, lt-ltb count 60000 g, ← q, lt-leb (suc n) 256 (omega arith)));
         }
 
     pub type-entered : b ≡ true → count < 60000 → n ≤ 255 → StoresType file work work′ k count o (n + 1) → Enters type typeCount file work work′ k count o Done
@@ -144,7 +131,7 @@ module _ (file : Bytes) (work : List ℕ) {work′ : List ℕ} (k count o : ℕ)
               let P = stands-parts s in
               let q : n ≡ deepest I P = is ∙ deepest-is I P octets in
               record {
-                kept = ap broken (type-rules I P) ∙ two-kept 9 13 (ascends-is A P ∙ h) (rw (← c, lt-ltb count 60000 g, ← q, le-leb (suc n) 256 (omega arith)));
+                kept = ap broken (type-rules I P) ∙ broken-later 9 _ (ascends-is A P ∙ h) ∙ broken-later 13 _ (rw (← c, lt-ltb count 60000 g, ← q, le-leb (suc n) 256 (omega arith))) ∙ none-broken;
                 indexed = S .go f I c room t s (add-one n ∙ ap suc q ∙ type-depth I P);
               };
         }

@@ -59,7 +59,7 @@ types-in-range f (fields.term m rs) h o = absurd o
 types-in-range f (fields.input n) h o = absurd o
 
 -- the entry of an enum is its name and members
-enum-entry : (f : TermFile) (x : Entry) (name : Bytes) (members : List Bytes) → named f x ≡ enum name members → x ≡ fields.enum name members
+pub enum-entry : (f : TermFile) (x : Entry) (name : Bytes) (members : List Bytes) → named f x ≡ enum name members → x ≡ fields.enum name members
 unfolding named
 enum-entry f (fields.type m rs) name members e = let z : _≡_ {A = ℕ} 0 1 = cc in absurd (omega arith)
 enum-entry f (fields.enum n ms) name members e = cc
