@@ -2,3 +2,4 @@ pub mod FirstBroken
 pub mod Functions
 pub mod Types
 pub mod EnumRules
+pub mod TermRules
