@@ -36,7 +36,7 @@ use Rattle.compare.proofs.Depths.{numbers-terms}
 use Rattle.search.specs.Found.{Finds}
 use Rattle.search.proofs.Numbers.{term-found}
 use Rattle.record_rules.specs.Terms.{ruleTold, TermRule}
-use Rattle.enter.specs.Entering.{Outcome, Keeps, typeCount}
+use Rattle.enter.specs.Entering.{typeCount}
 use Rattle.enter.specs.Terms.{termCount, TypeSought, StoresTerm, EntersTerm}
 use Rattle.enter.proofs.FirstBroken.{broken-here, broken-later, none-broken}
 use Rattle.enter.specs.declared.Entered.the-variants.{Done, Broken}

@@ -1,20 +1,20 @@
 -- The rules of an enum, by its name and the list after it.
 -- Assumes nothing.
-use mathlib.Core.Path.{_≡_, refl, sym, ap, _∙_, subst}
+use mathlib.Core.Path.{_≡_, ap, _∙_, subst}
 use Prim.Native.Nat.{ℕ, zero, suc}
 use native.Mathlib.Omega.{arith}
-use mathlib.Core.Bool.{Bool, false, not}
+use mathlib.Core.Bool.{Bool, false}
 use mathlib.Core.List.{List, [], _∷_}
 use mathlib.Core.Option.{some}
 use lib.Dec.{ltb}
 use borrow.Author.Tests.{lt-ltb}
-use lib.ListN.{take, drop}
+use lib.ListN.{drop}
 use Rattle.script_spec.specs.Base.{Bytes, same, ascending, empty}
-use Rattle.script_spec.specs.Fields.{got, pure, text, u32, times, list, enum}
+use Rattle.script_spec.specs.Fields.{got, text, u32, times, list, enum}
 use Rattle.field.specs.Reads.{value, refusal, asRead, Reads}
 use Rattle.index.specs.Standing.{entryAt, markAt, bodyAt}
 use Rattle.segments.proofs.Inverse.{bind-inverse, pure-inverse}
-use Rattle.record_rules.specs.Decided.{Decides, DecidesList}
+use Rattle.record_rules.specs.Decided.{DecidesList}
 use Rattle.record_rules.specs.Tests.{itemText, given}
 use Rattle.record_rules.specs.Enums.{NameRead, MembersFrom, EnumAscends, EnumGiven, SameName}
 use Rattle.record_rules.proofs.Decided.{decides-list}

@@ -1,13 +1,12 @@
 -- An entry stands under its mark: each mark's reader gives entries of that mark only.
 -- Assumes nothing.
-use mathlib.Core.Path.{_≡_, refl, sym, subst}
-use Prim.Native.Nat.{ℕ}
-use mathlib.Core.List.{[], _∷_}
+use mathlib.Core.Path.{_≡_, refl, subst}
+use mathlib.Core.List.{[]}
 use mathlib.Core.Option.{some}
 use Rattle.script_spec.specs.Base.{Bytes}
 use Rattle.script_spec.specs.Fields.{Entry, got, Reader, _>>=_, pure, marks, leaf}
 use Rattle.index.specs.First.{All}
-use Rattle.index.specs.Standing.{loose, entryOf, entryAt, markAt, bodyAt}
+use Rattle.index.specs.Standing.{loose, entryOf}
 use Rattle.index.proofs.Readers.{_&_}
 use Rattle.segments.proofs.Inverse.{bind-inverse, pure-inverse}
 use Rattle.segments.proofs.Standing.{entryOf-inverse}

@@ -6,11 +6,11 @@ use mathlib.Core.Bool.{not}
 use mathlib.Core.List.{List, [], _∷_}
 use mathlib.Core.Option.{some, Option·none-ne-some}
 use lib.Dec.{eqb}
-use lib.ListN.{drop, getD}
+use lib.ListN.{getD}
 use lib.Seq.{getD-drop}
 use Rattle.script_spec.specs.Base.{Bytes, at}
 use Rattle.script_spec.specs.Tree.{Op, App}
-use Rattle.script_spec.specs.Fields.{Reader, got, operators, operator, plain, coded, marks, list, ref, term}
+use Rattle.script_spec.specs.Fields.{Reader, operators, operator, plain, marks, list, ref, term}
 use Rattle.script_spec.specs.File.{TermFile, namedOp, needsArguments}
 use Rattle.script_spec.proofs.Computes
 use Rattle.index.proofs.Readers.{_&_}

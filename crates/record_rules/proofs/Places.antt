@@ -1,9 +1,9 @@
 -- The mark's second byte and the body of a record, by its offset.
 -- Assumes nothing.
-use mathlib.Core.Path.{_≡_, sym, ap, _∙_}
+use mathlib.Core.Path.{_≡_, sym, _∙_}
 use Prim.Native.Nat.{ℕ, _+_, _-_, _≤_, _<_}
 use native.Mathlib.Omega.{arith}
-use mathlib.Core.List.{List, []}
+use mathlib.Core.List.{[]}
 use lib.ListN.{length, take, drop, getD, length-take, length-drop, drop-of-length-le, List·getD-eq-default}
 use lib.Seq.{take-nil, getD-take, getD-drop}
 use Rattle.script_spec.specs.Base.{Bytes}

@@ -3,8 +3,8 @@
 use mathlib.Core.Path.{_≡_, refl, sym, ap, _∙_}
 use Prim.Native.Nat.{ℕ}
 use native.Mathlib.Omega.{arith}
-use mathlib.Core.Bool.{Bool, true, false}
-use mathlib.Core.List.{List, [], _∷_}
+use mathlib.Core.Bool.{Bool, true}
+use mathlib.Core.List.{List, []}
 use mathlib.Core.Option.{some}
 use lib.ListN.{getD}
 use Rattle.script_spec.specs.Base.{Bytes, ifSome, ascending}

@@ -2,12 +2,12 @@
 -- Assumes nothing.
 use mathlib.Core.Path.{_≡_, refl, sym, ap, _∙_}
 use Prim.Native.Nat.{ℕ}
-use mathlib.Core.List.{List, [], _∷_}
+use mathlib.Core.List.{List, []}
 use mathlib.Core.Option.{some}
 use lib.ListN.{drop}
-use Rattle.script_spec.specs.Base.{Bytes, bytes, lookup, firsts, seconds}
+use Rattle.script_spec.specs.Base.{Bytes, lookup, firsts, seconds}
 use Rattle.script_spec.specs.Tree.{Declared, recordOf, Set, Record}
-use Rattle.script_spec.specs.Fields.{Entry, Reader, got, marks, list, text, u32, ref, pair, type, enum, term, pure}
+use Rattle.script_spec.specs.Fields.{Entry, Reader, got, marks, list, text, u32, ref, pair, type, enum, term}
 use Rattle.script_spec.proofs.Computes
 use Rattle.index.specs.Standing.{loose, entryOf}
 use Rattle.segments.proofs.Inverse.{bind-inverse, pure-inverse, ref-inverse}

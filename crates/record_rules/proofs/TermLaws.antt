@@ -1,9 +1,8 @@
 -- Rules 9 and 10 of a term, by the second byte of its mark, the lists of its body and its operator's code.
 -- Assumes nothing.
 use mathlib.Core.Path.{_≡_, refl, sym, ap, _∙_}
-use Prim.Native.Nat.{ℕ, zero, suc, max, _≤_, _<_}
+use Prim.Native.Nat.{ℕ, _≤_, _<_}
 use native.Mathlib.Omega.{arith}
-use native.Mathlib.Nat.{max-comm}
 use mathlib.Core.Bool.{Bool, true, false, not, _&&_}
 use mathlib.Core.List.{List, [], _∷_, map}
 use mathlib.Core.Option.{some}
@@ -12,11 +11,11 @@ use borrow.Author.Tests.{eq-eqb, ne-eqb}
 use lib.ListN.{length, getD, List·getD-eq-default}
 use Rattle.script_spec.specs.Base.{Bytes, ascending, empty}
 use Rattle.script_spec.specs.Tree.{TermMark, Var, BoolLit, BitVecLit, StringLit, Entity, ExtLit, None, Some, Set, Record, App, Op}
-use Rattle.script_spec.specs.Fields.{Entry, term, u32}
-use Rattle.script_spec.specs.File.{TermFile, namedOp, needsArguments, broken}
+use Rattle.script_spec.specs.Fields.{term, u32}
+use Rattle.script_spec.specs.File.{TermFile, broken}
 use Rattle.script_spec.proofs.Computes
 use Rattle.index.specs.Cells.{cell, termFirst}
-use Rattle.index.specs.Standing.{entryOf, entryAt, markAt, bodyAt}
+use Rattle.index.specs.Standing.{entryAt, markAt, bodyAt}
 use Rattle.index.specs.Rules.{different, greatest, listRulesBy}
 use Rattle.record_rules.specs.Decided.{DecidesList}
 use Rattle.record_rules.specs.Tests.{itemText, differentTerms}

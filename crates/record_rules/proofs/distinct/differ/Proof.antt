@@ -7,15 +7,9 @@ use Rattle.field.proofs.Laws.{tells}
 use Rattle.record_rules.specs.Tests.{differentTerms}
 use Rattle.record_rules.proofs.Decided.{Going, going-start, going-on, decides-none, decides-first, decides-bad}
 use Rattle.record_rules.proofs.Elements.{differ-none, differ-next, differ-stop}
-use native.Mathlib.Omega.{arith}
 use borrow.Author.Needs.{needs}
 use Rattle.record_rules.proofs.distinct.differ.Statement.{statement}
 use Rattle.record_rules.proofs.distinct.differ.Tie as tie
-use Rattle.record_rules.proofs.distinct.differ.Reads as reads
-use Rattle.record_rules.proofs.distinct.differ.Lts as lts
-use Rattle.field.proofs.Cursor.u32_le.Reads as u32-le-reads
-use Rattle.index.proofs.get.Reads as get-reads
-use Rattle.record_rules.proofs.distinct.any_first.Reads as any-first-reads
 
 abbrev Inv-loop : tie.InvT-loop
 Inv-loop body work k from count at₀ left₀ at left = Going u32 (differentTerms work k) body from count (differentTerms work k) at left
@@ -23,62 +17,21 @@ Inv-loop body work k from count at₀ left₀ at left = Going u32 (differentTerm
 abbrev μ-loop : tie.MeasureT-loop
 μ-loop body work k from count at₀ left₀ at left = left
 
--- src/distinct.rt:37:5
 loop-holds : tie.Need-loop-holds Inv-loop μ-loop
 loop-holds c = going-start
 
--- src/distinct.rt:38:15
-u32-le-requires : tie.Need-u32-le-requires Inv-loop μ-loop
-u32-le-requires c κs = search needs
-
--- src/distinct.rt:40:17
-enum-told : tie.Need-enum-told Inv-loop μ-loop
-enum-told c = search needs
-
--- src/distinct.rt:40:17
 returns : tie.Need-returns Inv-loop μ-loop
 unfolding numberTold
 returns c = c.before.before.before.before.loop.inv .go _ (decides-bad _ _ c.before.before.before.loop-test.taken (tells (ap numberTold (c.enum-told.given.1)) c.before.before.u32-le.ensures))
 
--- src/distinct.rt:42:31
-enum-known-n : tie.Need-enum-known-n Inv-loop μ-loop
-enum-known-n c = search needs
-
--- src/distinct.rt:43:68
-cast-get : tie.Need-cast-get Inv-loop μ-loop
-cast-get c = search needs
-
--- src/distinct.rt:43:21
-get-requires : tie.Need-get-requires Inv-loop μ-loop
-get-requires c κs = search needs
-
--- src/distinct.rt:44:58
-sub-any-first : tie.Need-sub-any-first Inv-loop μ-loop
-sub-any-first c = search needs
-
--- src/distinct.rt:44:20
-any-first-requires : tie.Need-any-first-requires Inv-loop μ-loop
-any-first-requires c κs = search needs
-
--- src/distinct.rt:45:21
 returns-2 : tie.Need-returns-2 Inv-loop μ-loop
 unfolding numberTold
 returns-2 c = c.before.before.before.before.before.before.before.before.loop.inv .go _ (decides-first _ c.before.before.before.before.before.before.before.loop-test.taken (tells (ap numberTold (c.before.before.before.before.n.given.1)) c.before.before.before.before.before.before.u32-le.ensures) (record { go = λ ts rest e. differ-stop _ _ _ c.before.before.get.ensures ts (c.before.any-first.ensures .go ts rest e) c.if1.taken }))
 
--- src/distinct.rt:50:9
-sub-left : tie.Need-sub-left Inv-loop μ-loop
-sub-left c = search needs
-
--- src/distinct.rt:37:5
-loop-less : tie.Need-loop-less Inv-loop μ-loop
-loop-less c = search needs
-
--- src/distinct.rt:37:5
 loop-again : tie.Need-loop-again Inv-loop μ-loop
 unfolding numberTold
 loop-again c = going-on _ c.before.before.before.before.before.before.before.loop-test.taken c.before.before.before.before.before.before.before.before.loop.inv (tells (ap numberTold (c.before.before.before.before.n.given.1)) c.before.before.before.before.before.before.u32-le.ensures) (record { go = λ ts rest e. differ-next _ _ _ c.before.before.get.ensures ts (c.before.any-first.ensures .go ts rest e) c.if1.left })
 
--- src/distinct.rt:32:1
 returns-3 : tie.Need-returns-3 Inv-loop μ-loop
 returns-3 c = c.before.loop.inv .go _ (decides-none _ c.loop-test.left (differ-none _ _))
 
@@ -88,17 +41,8 @@ differ-spec =
     (tie.spec
     Inv-loop
     μ-loop
-    loop-holds
-    u32-le-requires
-    enum-told
-    returns
-    enum-known-n
-    cast-get
-    get-requires
-    sub-any-first
-    any-first-requires
-    returns-2
-    sub-left
-    loop-less
+    loop-holds (λ c κs. search needs) (λ c. search needs)
+    returns (λ c. search needs) (λ c. search needs) (λ c κs. search needs) (λ c. search needs) (λ c κs. search needs)
+    returns-2 (λ c. search needs) (λ c. search needs)
     loop-again
     returns-3)
