@@ -2,3 +2,4 @@ pub mod Records
 pub mod Reading
 pub mod Loop
 pub mod Entities
+pub mod Step
