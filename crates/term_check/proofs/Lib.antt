@@ -3,3 +3,4 @@ pub mod Reading
 pub mod Loop
 pub mod Entities
 pub mod Step
+pub mod FirstByte
