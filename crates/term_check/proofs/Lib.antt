@@ -4,3 +4,4 @@ pub mod Loop
 pub mod Entities
 pub mod Step
 pub mod FirstByte
+pub mod Following
