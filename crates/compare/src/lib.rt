@@ -47,9 +47,9 @@ fn walk_of(file: &[u8], o: usize) -> Walk
     let a = byte_at(file, o);
     if o < file.len() {
         let b = byte_at(file, o + 1);
-        return segments::start(a, b);
+        return segments::mark::start(a, b);
     }
-    segments::start(a, 0)
+    segments::mark::start(a, 0)
 }
 
 // The body of the record at an offset.

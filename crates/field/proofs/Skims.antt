@@ -4,8 +4,11 @@ use mathlib.Core.Path.{_≡_, refl, sym, _∙_}
 use Prim.Native.Nat.{ℕ, zero, suc}
 use mathlib.Core.List.{[], _∷_}
 use Rattle.script_spec.specs.Base.{Bytes}
-use Rattle.script_spec.specs.Fields.{Read, got, bad, Reader, _>>=_, pure, u32, times, list}
+use Rattle.script_spec.specs.Fields.{Read, got, bad, Reader, _>>=_, pure, u32, times, list, text, ref, pair, element}
 use Rattle.field.specs.Reads.{skim, repeat}
+use Rattle.field.specs.Items.{itemReader, listReader}
+use Rattle.field.specs.declared.list.Item.{Item}
+use Rattle.field.specs.declared.list.Item.the-variants as item
 
 -- one field after the other, where the first gives a value or a refusal
 module _ {A B : Type 0} (r : Reader A) (k : A → Reader B) {s : Bytes} where
@@ -66,6 +69,14 @@ module _ {A : Type 0} (r : Reader A) where
       skim-bind r _ (λ a. repeat n (skim r)) (λ a t. skim-map (times n r) (λ rest. a ∷ rest) t ∙ skim-times n t) s
       ∙ sym (skim-then r (repeat n (skim r)) s)
 
-  pub skim-list : (s : Bytes) → skim (list r) s ≡ _>>=_ u32 (λ n. repeat n (skim r)) s
+  skim-list : (s : Bytes) → skim (list r) s ≡ _>>=_ u32 (λ n. repeat n (skim r)) s
   unfolding list
   skim-list s = skim-bind u32 _ (λ n. repeat n (skim r)) (λ n t. skim-times n t) s
+
+-- a list of items, item by item
+pub list-items : (k : Item) (s : Bytes) → listReader k s ≡ _>>=_ u32 (λ n. repeat n (itemReader k)) s
+unfolding listReader itemReader
+list-items item.Text s = skim-list text s
+list-items (item.Reference n) s = skim-list (ref n) s
+list-items (item.Named n) s = skim-list (pair text (ref n)) s
+list-items item.Element s = skim-list element s

@@ -1,7 +1,7 @@
--- The lists that records have: what an item of each is.
+-- The lists that records have, and what an item of each is; the values are not kept.
 -- Assumes nothing.
-use Rattle.script_spec.specs.Fields.{Reader, _>>=_, u32, text, ref, element, pair}
-use Rattle.field.specs.Reads.{skim, repeat}
+use Rattle.script_spec.specs.Fields.{Reader, text, list, ref, element, pair}
+use Rattle.field.specs.Reads.{skim}
 use Rattle.field.specs.declared.list.Item.{Item}
 use Rattle.field.specs.declared.list.Item.the-variants as item
 
@@ -14,4 +14,7 @@ itemReader item.Element = skim element
 
 -- a count and its items
 unfoldable pub listReader : Item → Reader (Unit {0})
-listReader k = _>>=_ u32 (λ n. repeat n (itemReader k))
+listReader item.Text = skim (list text)
+listReader (item.Reference n) = skim (list (ref n))
+listReader (item.Named n) = skim (list (pair text (ref n)))
+listReader item.Element = skim (list element)

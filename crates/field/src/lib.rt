@@ -22,17 +22,19 @@ pub struct Span {
     pub len: usize,
 }
 
+// What reading a number answers; `Bad` has the number of the refusal.
 pub enum ReadNumber {
     Value(u32, Cursor),
     Bad(u32),
 }
 
+// What reading bytes or a text answers.
 pub enum ReadText {
     Bytes(Span, Cursor),
     Bad(u32),
 }
 
-// An answer without a value.
+// What reading answers where the value is not kept.
 pub enum Moved {
     To(Cursor),
     Bad(u32),
@@ -56,6 +58,7 @@ impl Cursor {
         body.len() - at
     }
 
+    // A byte.
     pub fn byte(self, body: &[u8]) -> ReadNumber
         ensures { λ r. ⌜ Reads byte (now (body .entry)) (self .at) (numberTold r) ⌝ }
     {
@@ -66,6 +69,7 @@ impl Cursor {
         ReadNumber::Value(wide(body[at]), Cursor { at: at + 1 })
     }
 
+    // A number of four bytes, low byte first.
     pub fn u32_le(self, body: &[u8]) -> ReadNumber
         ensures { λ r. ⌜ Reads u32 (now (body .entry)) (self .at) (numberTold r) ⌝ }
     {

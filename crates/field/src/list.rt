@@ -7,11 +7,14 @@ ghost use Rattle.field.specs.Reads.{Reads, repeat};
 ghost use Rattle.field.specs.Answers.{movedTold};
 ghost use Rattle.field.specs.Items.{itemReader, listReader};
 
-// What the items of a list are; a reference is to one of so many earlier records.
+// What the items of a list are.
 pub enum Item {
     Text,
+    // The number of one of so many earlier records.
     Reference(u32),
+    // A text and such a number.
     Named(u32),
+    // A pattern's element.
     Element,
 }
 
@@ -25,6 +28,7 @@ fn named(c: Cursor, body: &[u8], count: u32) -> Moved
     }
 }
 
+// One item.
 fn next_item(c: Cursor, body: &[u8], kind: Item) -> Moved
     ensures { λ r. ⌜ Reads (itemReader kind) (now (body .entry)) (c .at) (movedTold r) ⌝ }
 {
@@ -56,6 +60,7 @@ pub fn items(c: Cursor, body: &[u8], kind: Item, count: u32) -> Moved
     Moved::To(Cursor { at })
 }
 
+// A count and its items.
 pub fn list(c: Cursor, body: &[u8], kind: Item) -> Moved
     ensures { λ r. ⌜ Reads (listReader kind) (now (body .entry)) (c .at) (movedTold r) ⌝ }
 {

@@ -68,11 +68,13 @@ pub enum Op {
     ZeroExtend(u32),
 }
 
+// What reading an operator answers.
 pub enum ReadOp {
     Is(Op, Cursor),
     Bad(u32),
 }
 
+// The extension operator of a code.
 fn ext_of(code: u32) -> ExtOp
     requires { ⌜ code < 10 ⌝ }
     ensures { λ r. ⌜ IsExt code r ⌝ }
@@ -91,6 +93,7 @@ fn ext_of(code: u32) -> ExtOp
     }
 }
 
+// The operators that have an operand.
 fn ext(c: Cursor, body: &[u8]) -> ReadOp
     ensures { λ r. ⌜ Reads extOperator (now (body .entry)) (c .at) (opTold (now (body .entry)) r) ⌝ }
 {
@@ -215,6 +218,7 @@ fn record_get_to_zero_extend(c: Cursor, code: u32, body: &[u8], funs: u32) -> Re
     }
 }
 
+// The operator of a code, with its operand.
 fn operand(c: Cursor, code: u32, body: &[u8], funs: u32) -> ReadOp
     ensures { λ r. ⌜ Reads (chosen (operators funs) code) (now (body .entry)) (c .at) (opTold (now (body .entry)) r) ⌝ }
 {

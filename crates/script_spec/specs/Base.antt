@@ -9,7 +9,7 @@ use mathlib.Core.List.{List, [], _∷_, _++_, cons≢nil, head-eq-of-cons-eq, ta
 use mathlib.Core.Option.{Option, none, some}
 use lib.Dec.{eqb, leb, ltb}
 
--- a byte string; every element is below 256
+-- a byte string, as the numbers of its bytes
 abbrev pub Bytes : Type 0
 Bytes = List ℕ
 
@@ -30,6 +30,7 @@ isYes (no a) = false
 
 -- ---- options
 
+-- there is a value
 unfoldable pub isSome : {A : Type 0} → Option A → Bool
 isSome none = false
 isSome (some a) = true
@@ -39,12 +40,14 @@ unfoldable pub ifSome : {A : Type 0} → (A → Bool) → Option A → Bool
 ifSome p none = true
 ifSome p (some a) = p a
 
+-- a partial function of a value, if there is one
 unfoldable pub andThen : {A B : Type 0} → Option A → (A → Option B) → Option B
 andThen none k = none
 andThen (some a) k = k a
 
 -- ---- numbers and texts
 
+-- from a least to a greatest number
 unfoldable pub between : ℕ → ℕ → ℕ → Bool
 between low high n = leb low n && leb n high
 
@@ -81,14 +84,17 @@ placeFrom false none = none
 placeFrom false (some n) = some (suc n)
 
 module _ {A : Type 0} where
+  -- no element
   unfoldable pub empty : List A → Bool
   empty [] = true
   empty (x ∷ xs) = false
 
+  -- some element passes
   unfoldable pub any : (A → Bool) → List A → Bool
   any p [] = false
   any p (x ∷ xs) = p x || any p xs
 
+  -- every element passes
   unfoldable pub all : (A → Bool) → List A → Bool
   all p [] = true
   all p (x ∷ xs) = p x && all p xs
@@ -128,10 +134,12 @@ module _ {A B : Type 0} where
   collect f [] = []
   collect f (x ∷ xs) = f x ++ collect f xs
 
+  -- the first parts of pairs
   unfoldable pub firsts : List (A × B) → List A
   firsts [] = []
   firsts (p ∷ ps) = p .0 ∷ firsts ps
 
+  -- the second parts of pairs
   unfoldable pub seconds : List (A × B) → List B
   seconds [] = []
   seconds (p ∷ ps) = p .1 ∷ seconds ps

@@ -173,7 +173,7 @@ stem (b ∷ s) = elim (eqb b 95) [ true ↦ [] | false ↦ b ∷ stem s ]
 unfoldable pub isExtName : Bytes → Bool
 isExtName w = any (same w) (bytes "IPAddr" ∷ bytes "Decimal" ∷ bytes "Datetime" ∷ bytes "Duration" ∷ [])
 
--- the name that a symbol uses: a t, f, E or R name, also before the `_` of a member or an attribute, or an extension name
+-- the name that a symbol uses: a t, f, E or R name, also before a `_`, as in a member or an attribute, or an extension name
 unfoldable pub used : Bytes → List Bytes
 used w =
     elim (any (λ l. lettered l (stem w)) (116 ∷ 102 ∷ 69 ∷ 82 ∷ [])) [
@@ -195,7 +195,7 @@ afterExtName (word w ∷ ts) = elim (isExtName w) [ true ↦ ts | false ↦ word
 afterExtName (string l ∷ ts) = string l ∷ ts
 afterExtName (mark c ∷ ts) = mark c ∷ ts
 
--- a body without the extension name that is its operator or constructor: that one counts as used only if it is the definition's
+-- a body without its first parenthesis and the extension name behind it, which is its operator or constructor: that one counts as used only if it is the definition's
 -- sort, where it is counted
 unfoldable pub operands : List Token → List Token
 operands [] = []

@@ -21,14 +21,17 @@ mutual
     cons : Tree A → Forest A → Forest A
 
 module _ {A : Type 0} where
+  -- children as a list
   unfoldable pub trees : Forest A → List (Tree A)
   trees nil = []
   trees (cons t ts) = t ∷ trees ts
 
+  -- a list as children
   unfoldable pub forest : List (Tree A) → Forest A
   forest [] = nil
   forest (t ∷ ts) = cons t (forest ts)
 
+  -- a type's parts or a term's children, in order
   unfoldable pub children : Tree A → List (Tree A)
   children (node a ts) = trees ts
 
@@ -43,6 +46,7 @@ module _ {A : Type 0} where
 
 -- ---- types
 
+-- the extension types, in the order of their codes in `TX`
 pub data ExtType : Type 0 where
   IPAddr Decimal Datetime Duration : ExtType
   deriving Discrete as ExtType-discrete
@@ -61,10 +65,11 @@ pub data TypeMark : Type 0 where
   Declared : Datatype → TypeMark
   deriving Discrete as TypeMark-discrete
 
+-- a type
 abbrev pub Ty : Type 0
 Ty = Tree TypeMark
 
--- the entity, extension or record type that a type is
+-- the entity, extension or record type that a mark stands for
 unfoldable pub datatypeMark : TypeMark → Option Datatype
 datatypeMark Bool· = none
 datatypeMark String· = none
@@ -73,6 +78,7 @@ datatypeMark Set· = none
 datatypeMark (BitVec· n) = none
 datatypeMark (Declared d) = some d
 
+-- the entity, extension or record type that a type is
 unfoldable pub datatype : Ty → Option Datatype
 datatype (node m ts) = datatypeMark m
 
@@ -82,6 +88,7 @@ nameOfEntity (entity name) = some name
 nameOfEntity (extension x) = none
 nameOfEntity (recordOf names) = none
 
+-- the name of a type that is an entity type
 unfoldable pub entityName : Ty → Option Bytes
 entityName ty = andThen (datatype ty) nameOfEntity
 
@@ -91,6 +98,7 @@ attributesOf (entity name) = none
 attributesOf (extension x) = none
 attributesOf (recordOf names) = some names
 
+-- the attributes of a type that is a record type
 unfoldable pub attributes : Ty → Option (List Bytes)
 attributes ty = andThen (datatype ty) attributesOf
 
@@ -164,12 +172,15 @@ pub data TermMark (R F : Type 0) : Type 0 where
   App : R → Op F → TermMark R F
   deriving Discrete as TermMark-discrete
 
+-- a term's mark over trees
 abbrev pub Mark : Type 0
 Mark = TermMark Ty Fun
 
+-- a term
 abbrev pub Tm : Type 0
 Tm = Tree Mark
 
+-- an extension value's type
 unfoldable pub extTypeOf : Value → ExtType
 extTypeOf (V4 a p) = IPAddr
 extTypeOf (V6 a p) = IPAddr
@@ -191,6 +202,7 @@ typeFrom (Set ty) parts = node Set· (cons ty nil)
 typeFrom (Record names) parts = node (Declared (recordOf names)) parts
 typeFrom (App ty op) parts = ty
 
+-- a term's type
 unfoldable mutual
   pub typeOf : Tm → Ty
   typeOf (node m ts) = typeFrom m (typesOf ts)
@@ -201,20 +213,25 @@ unfoldable mutual
 
 -- ---- equality
 
+-- whether two texts are equal
 unfoldable pub bytesDec : Discrete Bytes
 bytesDec = listDec ℕ-discrete
 
+-- whether two types are equal: the same mark and fields, equal parts
 unfoldable pub tyDec : Discrete Ty
 tyDec = Tree-discrete (TypeMark-discrete ℕ-discrete (Datatype-discrete bytesDec ExtType-discrete (listDec bytesDec)))
 
+-- whether two functions are equal
 unfoldable pub funDec : Discrete Fun
 funDec = Fun-discrete bytesDec tyDec
 
+-- whether two terms' marks and plain fields are equal
 unfoldable pub markDec : Discrete Mark
 markDec =
     TermMark-discrete bytesDec tyDec Bool-discrete ℕ-discrete (Value-discrete ℕ-discrete) (listDec bytesDec)
     (Op-discrete PlainOp-discrete ExtOp-discrete bytesDec funDec ℕ-discrete)
 
+-- whether two terms are equal: the same mark and fields, equal children
 unfoldable pub tmDec : Discrete Tm
 tmDec = Tree-discrete markDec
 
@@ -222,9 +239,11 @@ tmDec = Tree-discrete markDec
 unfoldable pub eqTy : Ty → Ty → Bool
 eqTy a b = isYes (tyDec a b)
 
+-- equal functions
 unfoldable pub eqFun : Fun → Fun → Bool
 eqFun a b = isYes (funDec a b)
 
+-- equal terms
 unfoldable pub eqTm : Tm → Tm → Bool
 eqTm a b = isYes (tmDec a b)
 
@@ -236,6 +255,7 @@ pub data Negation : Type 0 where
   ordinary falsehood : Negation
   comparison : ℕ → Negation
 
+-- by the type of the one argument
 unfoldable pub negationOver : TypeMark → Negation
 negationOver Bool· = falsehood
 negationOver String· = falsehood
@@ -250,6 +270,7 @@ negationWith nil = ordinary
 negationWith (cons (node m ps) nil) = negationOver m
 negationWith (cons ty (cons ty′ tys)) = ordinary
 
+-- what a term is as a `Bvnego`
 unfoldable pub negation : Tm → Negation
 negation (node m ts) = elim (isYes (markDec m (App (node Bool· nil) (Plain Bvnego)))) [ true ↦ negationWith (typesOf ts) | false ↦ ordinary ]
 
@@ -257,6 +278,7 @@ negation (node m ts) = elim (isYes (markDec m (App (node Bool· nil) (Plain Bvne
 unfoldable pub isFalsehood : Tm → Bool
 isFalsehood t = elim (negation t) [ ordinary ↦ false | falsehood ↦ true | comparison n ↦ false ]
 
+-- an `XV`
 unfoldable pub isVariable : Tm → Bool
 isVariable (node (Var id ty) ts) = true
 isVariable (node (BoolLit b) ts) = false

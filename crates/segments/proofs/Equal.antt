@@ -103,7 +103,7 @@ unfolding typeRefs collect
 type-refs [] = refl
 type-refs (n ∷ rs) = ap (λ (l : List ℕ). n ∷ l) (type-refs rs)
 
-named-type-refs : (names : List Bytes) (rs : List ℕ) → typeRefs (named typeRef names rs) ≡ rs
+pub named-type-refs : (names : List Bytes) (rs : List ℕ) → typeRefs (named typeRef names rs) ≡ rs
 unfolding named typeRefs collect
 named-type-refs [] rs = type-refs rs
 named-type-refs (a ∷ names) [] = named-type-refs names []

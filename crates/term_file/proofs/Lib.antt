@@ -3,3 +3,4 @@ pub mod Bodies
 pub mod Values
 pub mod Verdicts
 pub mod Records
+pub mod Alike

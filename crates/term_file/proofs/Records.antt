@@ -17,7 +17,7 @@ use Rattle.field.specs.Reads.{value, refusal, asRead, Reads}
 use Rattle.field.proofs.Skims.{bind-got}
 use Rattle.term_file.specs.Marks.{readerOf, Marked}
 use Rattle.term_file.specs.Bodies.{outcome, verdictOf}
-use Rattle.term_file.specs.Records.{followed, readRecord, numberOf, Said, NextRecord}
+use Rattle.term_file.specs.Records.{followed, readRecord, numberOf, IsRecord, Said, NextRecord}
 use Rattle.term_file.specs.declared.mark.Kind.{Kind}
 use Rattle.term_file.specs.declared.Next.the-variants as next
 use Rattle.term_file.specs.declared.body.Verdict.the-variants as verdict
@@ -94,18 +94,18 @@ module _ (e : Earlier) (file : Bytes) (at : ℕ) where
   next-short h = record { is = record-short e (drop at file) (lt-leb 6 (length (drop at file)) (rw length-drop h)) }
 
   module _ (k : Kind) (enough : 6 ≤ length file - at) (m : Marked (getD file at 0 ∷ getD file (at + 1) 0 ∷ []) k) where
-    six : leb 6 (length (drop at file)) ≡ true
-    six = le-leb 6 (length (drop at file)) (rw length-drop enough)
+    six-bytes : leb 6 (length (drop at file)) ≡ true
+    six-bytes = le-leb 6 (length (drop at file)) (rw length-drop enough)
 
-    two : take 2 (drop at file) ≡ getD file at 0 ∷ getD file (at + 1) 0 ∷ []
-    two = let z : at + 0 ≡ at = omega arith in rw z at (simp getD-drop at (take-two (drop at file) (rw length-drop (omega arith))))
+    mark-bytes : take 2 (drop at file) ≡ getD file at 0 ∷ getD file (at + 1) 0 ∷ []
+    mark-bytes = let z : at + 0 ≡ at = omega arith in rw z at (simp getD-drop at (take-two (drop at file) (rw length-drop (omega arith))))
 
-    found : lookup (take 2 (drop at file)) (marks e) ≡ readerOf e k
-    found = rw two (lookup-kind _ k e m)
+    lookup-mark : lookup (take 2 (drop at file)) (marks e) ≡ readerOf e k
+    lookup-mark = rw mark-bytes (lookup-kind _ k e m)
 
     pub next-unknown : isSome (readerOf e k) ≡ false → NextRecord e file at (next.Bad 4)
     unfolding Said
-    next-unknown h = record { is = record-unknown e (drop at file) six (found ∙ is-none (readerOf e k) h) }
+    next-unknown h = record { is = record-unknown e (drop at file) six-bytes (lookup-mark ∙ is-none (readerOf e k) h) }
 
     module _ (known : isSome (readerOf e k) ≡ true) (size : ℕ) (sized : size ≡ numberOf (u32 (drop (at + 2) file))) where
       size-is : low (take 4 (drop 2 (drop at file))) ≡ size
@@ -115,13 +115,13 @@ module _ (e : Earlier) (file : Bytes) (at : ℕ) where
       unfolding Said
       next-past h =
           let r = is-some (readerOf e k) known in
-          record { is = record-past e (drop at file) (r .0) six (found ∙ r .1) (rw (size-is, drop-drop 6 at file, length-drop) (lt-leb size _ h)) }
+          record { is = record-past e (drop at file) (r .0) six-bytes (lookup-mark ∙ r .1) (rw (size-is, drop-drop 6 at file, length-drop) (lt-leb size _ h)) }
 
       module _ (fits : size ≤ length file - (at + 6)) (n : ℕ) (whole-size : n ≡ size) where
         read-is : (r : Reader Entry) → readerOf e k ≡ some r
             → readRecord e (drop at file) ≡ followed (drop (at + 6 + size) file) (whole (r (take n (drop (at + 6) file))))
         read-is r h =
-            record-read e (drop at file) r six (found ∙ h) (rw (size-is, drop-drop 6 at file, length-drop) (le-leb size _ fits))
+            record-read e (drop at file) r six-bytes (lookup-mark ∙ h) (rw (size-is, drop-drop 6 at file, length-drop) (le-leb size _ fits))
             ∙ rw (size-is, drop-drop 6 at file, drop-drop size (at + 6) file, whole-size)
 
         pub next-bad : {v : ℕ} → verdict.Bad v ≡ verdictOf (readerOf e k) (take n (drop (at + 6) file)) → NextRecord e file at (next.Bad v)
@@ -138,7 +138,7 @@ module _ (e : Earlier) (file : Bytes) (at : ℕ) where
             let x = outcome-fine (whole (r .0 (take n (drop (at + 6) file)))) (rw (r .1) at h) in
             record {
               is = record {
-                marked = rw two m;
+                marked = rw mark-bytes m;
                 starts = refl;
                 ends = ap (λ z. at + 6 + z) (sym size-is);
                 within = omega arith;
@@ -146,6 +146,37 @@ module _ (e : Earlier) (file : Bytes) (at : ℕ) where
                 is = read-is (r .0) (r .1) ∙ x .1 (drop (at + 6 + size) file);
               };
             }
+
+-- ---- the body of a record that is read
+
+whole-got : (y : Read Entry) (a : Entry) (left : Bytes) → whole y ≡ got a left → y ≡ got a []
+unfolding whole
+whole-got (got b []) a left h = let q : b ≡ a = cc in rw q
+whole-got (got b (c ∷ rest)) a left h = cc
+whole-got (bad n) a left h = cc
+
+followed-got : (rest end : Bytes) (y : Read Entry) (a : Entry) → followed rest (whole y) ≡ got a end → y ≡ got a []
+unfolding followed
+followed-got rest end y a = go (whole y) refl
+  where
+    go : (x : Read Entry) → whole y ≡ x → followed rest x ≡ got a end → y ≡ got a []
+    go (got b left) e h = let q : b ≡ a = cc in whole-got y a left (rw q at e)
+    go (bad n) e h = cc
+
+-- its mark's reader reads the whole body as the entry
+pub record-body : {e : Earlier} {file : Bytes} {at start end : ℕ} {k : Kind} (h : IsRecord e file at k start end) (r : Reader Entry)
+    → readerOf e k ≡ some r → r (take (end - start) (drop start file)) ≡ got (h .entry) []
+record-body {e} {file} {at} {start} {end} {k} h r l =
+    let size = low (take 4 (drop 2 (drop at file))) in
+    let after : start ≡ at + 6 = h .starts in
+    let until : end ≡ start + size = h .ends in
+    let inside : end ≤ length file = h .within in
+    let six : leb 6 (length (drop at file)) ≡ true = le-leb 6 (length (drop at file)) (rw length-drop (omega arith)) in
+    let fits : leb size (length (drop 6 (drop at file))) ≡ true = le-leb size _ (rw (drop-drop 6 at file, length-drop) (omega arith)) in
+    let read = record-read e (drop at file) r six (lookup-kind _ k e (h .marked) ∙ l) fits in
+    let length-is : end - start ≡ size = omega arith in
+    let body-is : take (end - start) (drop start file) ≡ take size (drop 6 (drop at file)) = rw (length-is, after, drop-drop 6 at file) in
+    ap r body-is ∙ followed-got _ _ (r (take size (drop 6 (drop at file)))) (h .entry) (sym read ∙ h .is)
 
 -- ---- check
 

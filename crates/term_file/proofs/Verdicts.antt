@@ -11,8 +11,8 @@ use Rattle.script_spec.specs.Base.{Bytes, bytes, same, lookup}
 use Rattle.script_spec.specs.Tree.{IPAddr, Decimal, Datetime, Duration}
 use Rattle.script_spec.specs.Fields.{Read, got, bad, Reader, _>>=_, pure, ensure, Entry, Earlier, marks, whole, text, ref, width, number, list, pair, value, operator, extType, entityRef, coded}
 use Rattle.field.specs.Reads.{Told, asRead, Reads, skim}
-use Rattle.field.specs.Items.{itemReader, listReader}
-use Rattle.field.proofs.Skims.{skim-bind, skim-map, skim-list}
+use Rattle.field.specs.Items.{listReader}
+use Rattle.field.proofs.Skims.{skim-bind, skim-map}
 use Rattle.term_file.specs.Marks.{mark, readerFor, readerOf}
 use Rattle.term_file.specs.Fields.{fieldsOf, entity, valueBelow, bitVec, fieldReader, three, bodyReader}
 use Rattle.term_file.specs.Bodies.{outcome, verdictOf, ended}
@@ -55,7 +55,7 @@ bitVec-skim f s = skim-bind width _ valueBelow (λ n t. skim-bind (number 16) _ 
 -- the fields of a mark read what the definitions read
 pub verdict-fields : (e : Earlier) (k : Kind) (s : Bytes)
     → verdictOf (readerOf e k) s ≡ ended (bodyReader (e .isEntity) (fieldsOf (e .types) (e .funs) (e .terms) k) s)
-unfolding verdictOf readerOf readerFor mark marks lookup same bytes bodyReader fieldReader listReader itemReader extType
+unfolding verdictOf readerOf readerFor mark marks lookup same bytes bodyReader fieldReader listReader extType
 verdict-fields e kind.TB s = ended-reader _ s (no-field _ s)
 verdict-fields e kind.TS s = ended-reader _ s (no-field _ s)
 verdict-fields e kind.TV s = ended-reader _ s (one-field width _ (λ t. refl) _ s)
@@ -63,8 +63,8 @@ verdict-fields e kind.TO s = ended-reader _ s (one-field (ref (e .types)) _ (λ 
 verdict-fields e kind.TC s = ended-reader _ s (one-field (ref (e .types)) _ (λ t. refl) _ s)
 verdict-fields e kind.TE s = ended-reader _ s (one-field text _ (λ t. refl) _ s)
 verdict-fields e kind.TX s = ended-reader _ s (one-field (coded (map pure (IPAddr ∷ Decimal ∷ Datetime ∷ Duration ∷ []))) _ (skim-coded (IPAddr ∷ Decimal ∷ Datetime ∷ Duration ∷ [])) _ s)
-verdict-fields e kind.TR s = ended-reader _ s (one-field (list (pair text (ref (e .types)))) _ (skim-list (pair text (ref (e .types)))) _ s)
-verdict-fields e kind.EN s = ended-reader _ s (two-fields text _ (λ t. refl) (list (text)) _ (skim-list (text)) _ s)
+verdict-fields e kind.TR s = ended-reader _ s (one-field (list (pair text (ref (e .types)))) _ (λ t. refl) _ s)
+verdict-fields e kind.EN s = ended-reader _ s (two-fields text _ (λ t. refl) (list (text)) _ (λ t. refl) _ s)
 verdict-fields e kind.UF s = ended-reader _ s (three-fields text _ (λ t. refl) (ref (e .types)) _ (λ t. refl) (ref (e .types)) _ (λ t. refl) _ s)
 verdict-fields e kind.XV s = ended-reader _ s (two-fields text _ (λ t. refl) (ref (e .types)) _ (λ t. refl) _ s)
 verdict-fields e kind.XB s = ended-reader _ s (one-field (coded (map pure (false ∷ true ∷ []))) _ (skim-coded (false ∷ true ∷ [])) _ s)
@@ -74,9 +74,9 @@ verdict-fields e kind.XE s = ended-reader _ s (two-fields (entityRef e) _ (entit
 verdict-fields e kind.XX s = ended-reader _ s (one-field value _ (λ t. refl) _ s)
 verdict-fields e kind.X0 s = ended-reader _ s (one-field (ref (e .types)) _ (λ t. refl) _ s)
 verdict-fields e kind.X1 s = ended-reader _ s (one-field (ref (e .terms)) _ (λ t. refl) _ s)
-verdict-fields e kind.XC s = ended-reader _ s (two-fields (ref (e .types)) _ (λ t. refl) (list (ref (e .terms))) _ (skim-list (ref (e .terms))) _ s)
-verdict-fields e kind.XR s = ended-reader _ s (one-field (list (pair text (ref (e .terms)))) _ (skim-list (pair text (ref (e .terms)))) _ s)
-verdict-fields e kind.XA s = ended-reader _ s (three-fields (ref (e .types)) _ (λ t. refl) (operator (e .funs)) _ (λ t. refl) (list (ref (e .terms))) _ (skim-list (ref (e .terms))) _ s)
+verdict-fields e kind.XC s = ended-reader _ s (two-fields (ref (e .types)) _ (λ t. refl) (list (ref (e .terms))) _ (λ t. refl) _ s)
+verdict-fields e kind.XR s = ended-reader _ s (one-field (list (pair text (ref (e .terms)))) _ (λ t. refl) _ s)
+verdict-fields e kind.XA s = ended-reader _ s (three-fields (ref (e .types)) _ (λ t. refl) (operator (e .funs)) _ (λ t. refl) (list (ref (e .terms))) _ (λ t. refl) _ s)
 verdict-fields e kind.IN s = ended-reader _ s (one-field (ref (e .terms)) _ (λ t. refl) _ s)
 verdict-fields e kind.Unknown s = ended-unknown s
 

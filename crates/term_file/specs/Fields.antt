@@ -15,31 +15,35 @@ use Rattle.term_file.specs.declared.fields.Field.{Field}
 use Rattle.term_file.specs.declared.fields.Field.the-variants as field
 use Rattle.term_file.specs.declared.fields.Fields.{Fields}
 
+-- the fields of a body in their order
+abbrev row : Field → Field → Field → Fields
+row a b c = record { 0 = a; 1 = b; 2 = c }
+
 -- the fields of each mark's body, after so many types, functions and terms
 abbrev pub fieldsOf : ℕ → ℕ → ℕ → Kind → Fields
-fieldsOf types funs terms kind.TB = record { 0 = field.Nothing; 1 = field.Nothing; 2 = field.Nothing }
-fieldsOf types funs terms kind.TS = record { 0 = field.Nothing; 1 = field.Nothing; 2 = field.Nothing }
-fieldsOf types funs terms kind.TV = record { 0 = field.Width; 1 = field.Nothing; 2 = field.Nothing }
-fieldsOf types funs terms kind.TO = record { 0 = field.Reference types; 1 = field.Nothing; 2 = field.Nothing }
-fieldsOf types funs terms kind.TC = record { 0 = field.Reference types; 1 = field.Nothing; 2 = field.Nothing }
-fieldsOf types funs terms kind.TE = record { 0 = field.Text; 1 = field.Nothing; 2 = field.Nothing }
-fieldsOf types funs terms kind.TX = record { 0 = field.Code 4; 1 = field.Nothing; 2 = field.Nothing }
-fieldsOf types funs terms kind.TR = record { 0 = field.List (item.Named types); 1 = field.Nothing; 2 = field.Nothing }
-fieldsOf types funs terms kind.EN = record { 0 = field.Text; 1 = field.List item.Text; 2 = field.Nothing }
-fieldsOf types funs terms kind.UF = record { 0 = field.Text; 1 = field.Reference types; 2 = field.Reference types }
-fieldsOf types funs terms kind.XV = record { 0 = field.Text; 1 = field.Reference types; 2 = field.Nothing }
-fieldsOf types funs terms kind.XB = record { 0 = field.Code 2; 1 = field.Nothing; 2 = field.Nothing }
-fieldsOf types funs terms kind.XN = record { 0 = field.Number; 1 = field.Nothing; 2 = field.Nothing }
-fieldsOf types funs terms kind.XS = record { 0 = field.Text; 1 = field.Nothing; 2 = field.Nothing }
-fieldsOf types funs terms kind.XE = record { 0 = field.Entity types; 1 = field.Text; 2 = field.Nothing }
-fieldsOf types funs terms kind.XX = record { 0 = field.Value; 1 = field.Nothing; 2 = field.Nothing }
-fieldsOf types funs terms kind.X0 = record { 0 = field.Reference types; 1 = field.Nothing; 2 = field.Nothing }
-fieldsOf types funs terms kind.X1 = record { 0 = field.Reference terms; 1 = field.Nothing; 2 = field.Nothing }
-fieldsOf types funs terms kind.XC = record { 0 = field.Reference types; 1 = field.List (item.Reference terms); 2 = field.Nothing }
-fieldsOf types funs terms kind.XR = record { 0 = field.List (item.Named terms); 1 = field.Nothing; 2 = field.Nothing }
-fieldsOf types funs terms kind.XA = record { 0 = field.Reference types; 1 = field.Operator funs; 2 = field.List (item.Reference terms) }
-fieldsOf types funs terms kind.IN = record { 0 = field.Reference terms; 1 = field.Nothing; 2 = field.Nothing }
-fieldsOf types funs terms kind.Unknown = record { 0 = field.Unknown; 1 = field.Nothing; 2 = field.Nothing }
+fieldsOf types funs terms kind.TB = row field.Nothing field.Nothing field.Nothing
+fieldsOf types funs terms kind.TS = row field.Nothing field.Nothing field.Nothing
+fieldsOf types funs terms kind.TV = row field.Width field.Nothing field.Nothing
+fieldsOf types funs terms kind.TO = row (field.Reference types) field.Nothing field.Nothing
+fieldsOf types funs terms kind.TC = row (field.Reference types) field.Nothing field.Nothing
+fieldsOf types funs terms kind.TE = row field.Text field.Nothing field.Nothing
+fieldsOf types funs terms kind.TX = row (field.Code 4) field.Nothing field.Nothing
+fieldsOf types funs terms kind.TR = row (field.List (item.Named types)) field.Nothing field.Nothing
+fieldsOf types funs terms kind.EN = row field.Text (field.List item.Text) field.Nothing
+fieldsOf types funs terms kind.UF = row field.Text (field.Reference types) (field.Reference types)
+fieldsOf types funs terms kind.XV = row field.Text (field.Reference types) field.Nothing
+fieldsOf types funs terms kind.XB = row (field.Code 2) field.Nothing field.Nothing
+fieldsOf types funs terms kind.XN = row field.Number field.Nothing field.Nothing
+fieldsOf types funs terms kind.XS = row field.Text field.Nothing field.Nothing
+fieldsOf types funs terms kind.XE = row (field.Entity types) field.Text field.Nothing
+fieldsOf types funs terms kind.XX = row field.Value field.Nothing field.Nothing
+fieldsOf types funs terms kind.X0 = row (field.Reference types) field.Nothing field.Nothing
+fieldsOf types funs terms kind.X1 = row (field.Reference terms) field.Nothing field.Nothing
+fieldsOf types funs terms kind.XC = row (field.Reference types) (field.List (item.Reference terms)) field.Nothing
+fieldsOf types funs terms kind.XR = row (field.List (item.Named terms)) field.Nothing field.Nothing
+fieldsOf types funs terms kind.XA = row (field.Reference types) (field.Operator funs) (field.List (item.Reference terms))
+fieldsOf types funs terms kind.IN = row (field.Reference terms) field.Nothing field.Nothing
+fieldsOf types funs terms kind.Unknown = row field.Unknown field.Nothing field.Nothing
 
 -- a reference to one of `count` types, which has to be an entity type
 unfoldable pub entity : (ℕ → Bool) → ℕ → Reader (Unit {0})
@@ -93,5 +97,6 @@ fieldReader isEntity field.Unknown = λ s. bad 4
 unfoldable pub three : Reader (Unit {0}) → Reader (Unit {0}) → Reader (Unit {0}) → Reader (Unit {0})
 three a b c = _>>=_ a (λ u. _>>=_ b (λ v. c))
 
+-- the fields of a body
 unfoldable pub bodyReader : (ℕ → Bool) → Fields → Reader (Unit {0})
 bodyReader isEntity fs = three (fieldReader isEntity (fs .0)) (fieldReader isEntity (fs .1)) (fieldReader isEntity (fs .2))

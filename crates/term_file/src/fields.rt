@@ -4,24 +4,32 @@ use field::list::Item;
 ghost use mathlib.Core.Path.{_≡_};
 ghost use Rattle.term_file.specs.Fields.{fieldsOf};
 
-// A field of a body, with the count of the records or codes that it chooses from. `Unknown` is what an unknown mark has.
+// A field of a body.
 pub enum Field {
     Nothing,
     Text,
     Width,
+    // A code below this bound.
     Code(u32),
+    // The number of one of so many earlier records.
     Reference(u32),
+    // The number of one of so many types, which is a `TE`.
     Entity(u32),
+    // The width and the value of a bit vector.
     Number,
+    // An extension value.
     Value,
+    // An operator with its operand, after so many functions.
     Operator(u32),
     List(Item),
+    // What stands for the body of an unknown mark.
     Unknown,
 }
 
 // The fields of a body in their order.
 pub struct Fields(pub Field, pub Field, pub Field);
 
+// The fields of a kind's body, after so many types, functions and terms.
 pub fn fields_of(kind: Kind, types: u32, funs: u32, terms: u32) -> Fields
     ensures { λ r. ⌜ r ≡ fieldsOf types funs terms kind ⌝ }
 {

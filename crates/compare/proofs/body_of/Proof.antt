@@ -10,19 +10,28 @@ use Rattle.compare.proofs.body_of.Statement.{statement}
 use Rattle.compare.proofs.body_of.Tie as tie
 
 returns : tie.Need-returns
-returns c = bodyAt-past c.before.before.before.args.file.now c.before.before.before.args.o (omega arith)
+returns c = let s = c.before.before.before in bodyAt-past s.args.file.now s.args.o (omega arith)
 
 returns-2 : tie.Need-returns-2
-returns-2 c = bodyAt-past c.before.before.before.before.args.file.now c.before.before.before.before.args.o (omega arith)
+returns-2 c = let s = c.before.before.before.before in bodyAt-past s.args.file.now s.args.o (omega arith)
 
 returns-3 : tie.Need-returns-3
-returns-3 c = absurd (word-there c.before.before.before.before.before.before.before.args.file.now c.before.before.before.before.before.before.before.args.o (omega arith) (word-short (drop (c.before.before.before.before.before.before.before.args.o + 2) c.before.before.before.before.before.before.before.args.file.now) c.before.before.before.read-word.result c.before.before.before.read-word.ensures c.before.enum-told.given.1))
+returns-3 c =
+    let s = c.before.before.before.before.before.before.before in
+    let read-word = c.before.before.before.read-word in
+    absurd (word-there s.args.file.now s.args.o (omega arith) (word-short (drop (s.args.o + 2) s.args.file.now) read-word.result read-word.ensures c.before.enum-told.given.1))
 
 returns-4 : tie.Need-returns-4
-returns-4 c = bodyAt-all c.before.before.before.before.before.before.before.before.before.args.file.now c.before.before.before.before.before.before.before.before.before.args.o ((word-value (drop (c.before.before.before.before.before.before.before.before.before.args.o + 2) c.before.before.before.before.before.before.before.before.before.args.file.now) c.before.before.before.before.before.read-word.result c.before.before.before.before.before.read-word.ensures c.before.before.before.n.given.1) .1) (omega arith)
+returns-4 c =
+    let s = c.before.before.before.before.before.before.before.before.before in
+    let read-word = c.before.before.before.before.before.read-word in
+    bodyAt-all s.args.file.now s.args.o ((word-value (drop (s.args.o + 2) s.args.file.now) read-word.result read-word.ensures c.before.before.before.n.given.1) .1) (omega arith)
 
 returns-5 : tie.Need-returns-5
-returns-5 c = bodyAt-part c.before.before.before.before.before.before.before.before.before.args.file.now c.before.before.before.before.before.before.before.before.before.args.o ((word-value (drop (c.before.before.before.before.before.before.before.before.before.args.o + 2) c.before.before.before.before.before.before.before.before.before.args.file.now) c.before.before.before.before.before.read-word.result c.before.before.before.before.before.read-word.ensures c.before.before.before.n.given.1) .1)
+returns-5 c =
+    let s = c.before.before.before.before.before.before.before.before.before in
+    let read-word = c.before.before.before.before.before.read-word in
+    bodyAt-part s.args.file.now s.args.o ((word-value (drop (s.args.o + 2) s.args.file.now) read-word.result read-word.ensures c.before.before.before.n.given.1) .1)
 
 pub body-of-spec : {M : Type 1} → statement M
 body-of-spec =

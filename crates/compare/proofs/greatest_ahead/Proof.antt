@@ -25,13 +25,17 @@ loop-holds : tie.Need-loop-holds Inv-loop μ-loop
 loop-holds c = omega arith
 
 returns : tie.Need-returns Inv-loop μ-loop
-returns c = greatest-end c.before.before.head.ensures c.before.before.before.before.before.before.args.kind c.before.before.before.loop.most c.if1.taken ∙ c.before.before.before.loop.inv
+returns c =
+    let loop = c.before.before.before.loop in
+    greatest-end c.before.before.head.ensures c.before.before.before.before.before.before.args.kind loop.most c.if1.taken ∙ loop.inv
 
 loop-less : tie.Need-loop-less Inv-loop μ-loop
 loop-less c = c.before.before.before.before.head.ensures.fewer (omega (arith, c.before.before.if1.left))
 
 loop-again : tie.Need-loop-again Inv-loop μ-loop
-loop-again c = rw c.before.larger.ensures (greatest-next c.before.before.before.before.head.ensures c.before.before.before.before.before.before.before.before.args.kind c.before.before.before.before.before.loop.most (omega (arith, c.before.before.if1.left)) ∙ c.before.before.before.before.before.loop.inv)
+loop-again c =
+    let loop = c.before.before.before.before.before.loop in
+    rw c.before.larger.ensures (greatest-next c.before.before.before.before.head.ensures c.before.before.before.before.before.before.before.before.args.kind loop.most (omega (arith, c.before.before.if1.left)) ∙ loop.inv)
 
 pub greatest-ahead-spec : {M : Type 1} → statement M
 greatest-ahead-spec =

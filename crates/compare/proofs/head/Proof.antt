@@ -11,23 +11,38 @@ use Rattle.compare.proofs.head.Tie as tie
 
 returns : tie.Need-returns
 unfolding viewed kindOf numberOf bytesOf after
-returns c = sees-of (met-is c.before.before.before.before.before.args.body.now (ahead c.before.before.before.before.before.args.body.now c.before.before.before.before.before.args.w) c.before.before.next.result c.before.before.next.ensures c.enum-told.given.1) (record { kind = refl; number = refl; within = omega arith; bytes = refl; next = λ h. absurd (omega arith); fewer = λ h. absurd (omega arith) })
+returns c =
+    let s = c.before.before.before.before.before in
+    sees-of (met-is s.args.body.now (ahead s.args.body.now s.args.w) c.before.before.next.result c.before.before.next.ensures c.enum-told.given.1) (record { kind = refl; number = refl; within = omega arith; bytes = refl; next = λ h. absurd (omega arith); fewer = λ h. absurd (omega arith) })
 
 returns-2 : tie.Need-returns-2
 unfolding viewed kindOf numberOf bytesOf after
-returns-2 c = let m = met-is c.before.before.before.before.before.before.args.body.now (ahead c.before.before.before.before.before.before.args.body.now c.before.before.before.before.before.before.args.w) c.before.before.before.next.result c.before.before.before.next.ensures c.before.from.given.1 in sees-of (m .1) (record { kind = refl; number = refl; within = m .0; bytes = refl; next = λ h. refl; fewer = λ h. omega arith })
+returns-2 c =
+    let s = c.before.before.before.before.before.before in
+    let next = c.before.before.before.next in
+    let m = met-is s.args.body.now (ahead s.args.body.now s.args.w) next.result next.ensures c.before.from.given.1 in
+    sees-of (m .1) (record { kind = refl; number = refl; within = m .0; bytes = refl; next = λ h. refl; fewer = λ h. omega arith })
 
 returns-3 : tie.Need-returns-3
 unfolding viewed kindOf numberOf bytesOf after
-returns-3 c = sees-of (met-is c.before.before.before.before.before.before.before.before.args.body.now (ahead c.before.before.before.before.before.before.before.before.args.body.now c.before.before.before.before.before.before.before.before.args.w) c.before.before.before.before.before.next.result c.before.before.before.before.before.next.ensures c.before.before.before.n.given.1) (record { kind = refl; number = (rw c.before.type-column.ensures at c.get.ensures); within = omega arith; bytes = refl; next = λ h. refl; fewer = λ h. omega arith })
+returns-3 c =
+    let s = c.before.before.before.before.before.before.before.before in
+    let next = c.before.before.before.before.before.next in
+    sees-of (met-is s.args.body.now (ahead s.args.body.now s.args.w) next.result next.ensures c.before.before.before.n.given.1) (record { kind = refl; number = (rw c.before.type-column.ensures at c.get.ensures); within = omega arith; bytes = refl; next = λ h. refl; fewer = λ h. omega arith })
 
 returns-4 : tie.Need-returns-4
 unfolding viewed kindOf numberOf bytesOf after
-returns-4 c = sees-of (met-is c.before.before.before.before.before.before.before.args.body.now (ahead c.before.before.before.before.before.before.before.args.body.now c.before.before.before.before.before.before.before.args.w) c.before.before.before.before.next.result c.before.before.before.before.next.ensures c.before.before.n2.given.1) (record { kind = refl; number = c.get2.ensures; within = omega arith; bytes = refl; next = λ h. refl; fewer = λ h. omega arith })
+returns-4 c =
+    let s = c.before.before.before.before.before.before.before in
+    let next = c.before.before.before.before.next in
+    sees-of (met-is s.args.body.now (ahead s.args.body.now s.args.w) next.result next.ensures c.before.before.n2.given.1) (record { kind = refl; number = c.get2.ensures; within = omega arith; bytes = refl; next = λ h. refl; fewer = λ h. omega arith })
 
 returns-5 : tie.Need-returns-5
 unfolding viewed kindOf numberOf bytesOf after
-returns-5 c = sees-of (met-is c.before.before.before.before.before.before.before.before.before.args.body.now (ahead c.before.before.before.before.before.before.before.before.before.args.body.now c.before.before.before.before.before.before.before.before.before.args.w) c.before.before.before.before.before.before.next.result c.before.before.before.before.before.before.next.ensures c.before.before.before.before.n3.given.1) (sees-term c.before.before.before.before.before.before.before.before.before.args.body.now c.before.before.before.before.before.before.before.before.before.args.work.now c.before.before.before.before.before.before.before.before.before.args.k c.before.before.before.before.before.before.before.before.before.args.view _ _ _ _ c.before.before.term-kind.ensures (rw c.before.term-column.ensures at c.get3.ensures))
+returns-5 c =
+    let s = c.before.before.before.before.before.before.before.before.before in
+    let next = c.before.before.before.before.before.before.next in
+    sees-of (met-is s.args.body.now (ahead s.args.body.now s.args.w) next.result next.ensures c.before.before.before.before.n3.given.1) (sees-term s.args.body.now s.args.work.now s.args.k s.args.view _ _ _ _ c.before.before.term-kind.ensures (rw c.before.term-column.ensures at c.get3.ensures))
 
 pub head-spec : {M : Type 1} → statement M
 head-spec =

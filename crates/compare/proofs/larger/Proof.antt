@@ -5,13 +5,17 @@ use Rattle.compare.proofs.larger.Statement.{statement}
 use Rattle.compare.proofs.larger.Tie as tie
 
 returns : tie.Need-returns
-returns c = larger-other c.before.args.found c.before.args.number c.before.args.kind c.before.args.most c.if1.taken
+returns c = let s = c.before in larger-other s.args.found s.args.number s.args.kind s.args.most c.if1.taken
 
 returns-2 : tie.Need-returns-2
-returns-2 c = larger-less c.before.before.args.found c.before.before.args.number c.before.before.args.kind c.before.before.args.most c.before.if1.left c.if2.taken
+returns-2 c =
+    let s = c.before.before in
+    larger-less s.args.found s.args.number s.args.kind s.args.most c.before.if1.left c.if2.taken
 
 returns-3 : tie.Need-returns-3
-returns-3 c = larger-more c.before.before.args.found c.before.before.args.number c.before.before.args.kind c.before.before.args.most c.before.if1.left c.if2.left
+returns-3 c =
+    let s = c.before.before in
+    larger-more s.args.found s.args.number s.args.kind s.args.most c.before.if1.left c.if2.left
 
 pub larger-spec : {M : Type 1} → statement M
 larger-spec = tie.close (tie.spec returns returns-2 returns-3)

@@ -26,13 +26,20 @@ returns : tie.Need-returns Inv-loop μ-loop
 returns c = decides-false c.before.same-heads.ensures (not-true c.before.same-heads.result c.if1.taken) (λ p. heads-agree c.before.before.before.head.ensures c.before.before.head2.ensures (c.before.before.before.before.loop.inv.from p))
 
 returns-2 : tie.Need-returns-2 Inv-loop μ-loop
-returns-2 c = decides-true (c.before.before.before.before.before.before.loop.inv.to (heads-end c.before.before.before.before.before.head.ensures c.before.before.before.before.head2.ensures (c.before.before.before.same-heads.ensures.of-true (not-false c.before.before.before.same-heads.result c.before.before.if1.left)) c.if2.taken))
+returns-2 c =
+    let same-heads = c.before.before.before.same-heads in
+    decides-true (c.before.before.before.before.before.before.loop.inv.to (heads-end c.before.before.before.before.before.head.ensures c.before.before.before.before.head2.ensures (same-heads.ensures.of-true (not-false same-heads.result c.before.before.if1.left)) c.if2.taken))
 
 loop-less : tie.Need-loop-less Inv-loop μ-loop
 loop-less c = c.before.before.before.before.before.before.before.head.ensures.fewer (omega (arith, c.before.before.if2.left))
 
 loop-again : tie.Need-loop-again Inv-loop μ-loop
-loop-again c = record { to = λ e. c.before.before.before.before.before.before.before.before.loop.inv.to (heads-equal c.before.before.before.before.before.before.before.head.ensures c.before.before.before.before.before.before.head2.ensures (c.before.before.before.before.before.same-heads.ensures.of-true (not-false c.before.before.before.before.before.same-heads.result c.before.before.before.before.if1.left)) (omega (arith, c.before.before.if2.left)) e); from = λ e. heads-next c.before.before.before.before.before.before.before.head.ensures c.before.before.before.before.before.before.head2.ensures (omega (arith, c.before.before.if2.left)) (c.before.before.before.before.before.before.before.before.loop.inv.from e) }
+loop-again c =
+    let loop = c.before.before.before.before.before.before.before.before.loop in
+    let head = c.before.before.before.before.before.before.before.head in
+    let head2 = c.before.before.before.before.before.before.head2 in
+    let same-heads = c.before.before.before.before.before.same-heads in
+    record { to = λ e. loop.inv.to (heads-equal head.ensures head2.ensures (same-heads.ensures.of-true (not-false same-heads.result c.before.before.before.before.if1.left)) (omega (arith, c.before.before.if2.left)) e); from = λ e. heads-next head.ensures head2.ensures (omega (arith, c.before.before.if2.left)) (loop.inv.from e) }
 
 pub same-ahead-spec : {M : Type 1} → statement M
 same-ahead-spec =

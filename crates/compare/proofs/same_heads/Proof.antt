@@ -12,7 +12,9 @@ returns-2 : tie.Need-returns-2
 returns-2 c = decides-not (λ A. c.if2.taken (A .number))
 
 returns-3 : tie.Need-returns-3
-returns-3 c = decides-bytes c.before.before.before.before.before.before.before.before.before.before.before.before.before.args.a.now c.before.before.before.before.before.before.before.before.before.before.before.before.before.args.b.now c.before.before.before.before.before.before.before.before.before.before.before.before.before.args.s c.before.before.before.before.before.before.before.before.before.before.before.before.before.args.t c.before.before.before.before.before.before.before.before.if1.left c.before.before.before.before.before.if2.left c.same.ensures
+returns-3 c =
+    let s = c.before.before.before.before.before.before.before.before.before.before.before.before.before in
+    decides-bytes s.args.a.now s.args.b.now s.args.s s.args.t c.before.before.before.before.before.before.before.before.if1.left c.before.before.before.before.before.if2.left c.same.ensures
 
 pub same-heads-spec : {M : Type 1} → statement M
 same-heads-spec =

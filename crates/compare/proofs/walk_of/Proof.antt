@@ -8,10 +8,14 @@ use Rattle.compare.proofs.walk_of.Statement.{statement}
 use Rattle.compare.proofs.walk_of.Tie as tie
 
 returns : tie.Need-returns
-returns c = (rw (c.before.before.before.byte-at.ensures, c.before.byte-at2.ensures) at (c .start .ensures)) ∙ sym (startAt-bytes c.before.before.before.before.before.args.file.now c.before.before.before.before.before.args.o)
+returns c =
+    let s = c.before.before.before.before.before in
+    (rw (c.before.before.before.byte-at.ensures, c.before.byte-at2.ensures) at (c .start .ensures)) ∙ sym (startAt-bytes s.args.file.now s.args.o)
 
 returns-2 : tie.Need-returns-2
-returns-2 c = (rw c.before.before.byte-at.ensures at (c .start2 .ensures)) ∙ sym (startAt-past c.before.before.before.before.args.file.now c.before.before.before.before.args.o (omega arith))
+returns-2 c =
+    let s = c.before.before.before.before in
+    (rw c.before.before.byte-at.ensures at (c .start2 .ensures)) ∙ sym (startAt-past s.args.file.now s.args.o (omega arith))
 
 pub walk-of-spec : {M : Type 1} → statement M
 walk-of-spec =

@@ -2,18 +2,18 @@
 use mathlib.Core.Path.{ap}
 use borrow.Author.Needs.{needs}
 use Rattle.field.specs.Answers.{numberTold, movedTold}
-use Rattle.field.specs.Items.{listReader}
-use Rattle.field.proofs.Laws.{reads-stop, reads-next, tells}
+use Rattle.field.proofs.Skims.{list-items}
+use Rattle.field.proofs.Laws.{reads-alike, reads-stop, reads-next, tells}
 use Rattle.field.proofs.list.list.Statement.{statement}
 use Rattle.field.proofs.list.list.Tie as tie
 
 returns : tie.Need-returns
-unfolding listReader numberTold movedTold
-returns c = reads-stop _ (tells (ap numberTold (c.before.n.given.1)) c.before.before.before.u32-le.ensures)
+unfolding numberTold movedTold
+returns c = reads-alike (list-items _) (reads-stop _ (tells (ap numberTold (c.before.n.given.1)) c.before.before.before.u32-le.ensures))
 
 returns-2 : tie.Need-returns-2
-unfolding listReader numberTold
-returns-2 c = reads-next _ (tells (ap numberTold (c.before.before.n2.given.1)) c.before.before.before.before.u32-le.ensures) c.items.ensures
+unfolding numberTold
+returns-2 c = reads-alike (list-items _) (reads-next _ (tells (ap numberTold (c.before.before.n2.given.1)) c.before.before.before.before.u32-le.ensures) c.items.ensures)
 
 pub list-spec : {M : Type 1} → statement M
 list-spec =

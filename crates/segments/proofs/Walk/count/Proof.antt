@@ -10,11 +10,16 @@ use Rattle.segments.proofs.Walk.count.Tie as tie
 
 returns : tie.Need-returns
 unfolding counted
-returns c = cut-uncounted 0 _ plain _ (word-short (drop c.before.before.before.before.args.self.at c.before.before.before.before.args.body.now) c.before.before.read-word.result c.before.before.read-word.ensures c.enum-told.given.1)
+returns c =
+    let s = c.before.before.before.before in
+    cut-uncounted 0 _ plain _ (word-short (drop s.args.self.at s.args.body.now) c.before.before.read-word.result c.before.before.read-word.ensures c.enum-told.given.1)
 
 returns-2 : tie.Need-returns-2
 unfolding counted remaining fieldThen last
-returns-2 c = rw (← (word-value (drop c.before.before.before.before.before.before.before.args.self.at c.before.before.before.before.before.before.before.args.body.now) c.before.before.before.before.before.read-word.result c.before.before.before.before.before.read-word.ensures c.before.before.before.n.given.1) .1) (rw c.before.items-from.ensures at c.plain.ensures)
+returns-2 c =
+    let s = c.before.before.before.before.before.before.before in
+    let read-word = c.before.before.before.before.before.read-word in
+    rw (← (word-value (drop s.args.self.at s.args.body.now) read-word.result read-word.ensures c.before.before.before.n.given.1) .1) (rw c.before.items-from.ensures at c.plain.ensures)
 
 pub count-spec : {M : Type 1} → statement M
 count-spec =

@@ -12,15 +12,19 @@ use Rattle.segments.proofs.Walk.operator.Tie as tie
 
 returns : tie.Need-returns
 unfolding operator
-returns c = cut-short 1 c.before.before.args.self.at c.before.before.args.body.now plain _ (omega arith)
+returns c = let s = c.before.before in cut-short 1 s.args.self.at s.args.body.now plain _ (omega arith)
 
 returns-2 : tie.Need-returns-2
 unfolding after ending codedThen remaining fieldThen
-returns-2 c = rw (operator-with c.before.before.before.before.before.before.before.before.before.args.self.at c.before.before.before.before.before.before.before.before.before.args.body.now _ (sym c.before.before.before.before.before.operand-of.ensures ∙ c.before.before.before.o.given.1)) (rw c.before.put.ensures at c.plain.ensures)
+returns-2 c =
+    let s = c.before.before.before.before.before.before.before.before.before in
+    rw (operator-with s.args.self.at s.args.body.now _ (sym c.before.before.before.before.before.operand-of.ensures ∙ c.before.before.before.o.given.1)) (rw c.before.put.ensures at c.plain.ensures)
 
 returns-3 : tie.Need-returns-3
 unfolding after ending codedThen remaining fieldThen
-returns-3 c = rw (operator-with c.before.before.before.before.before.before.before.before.args.self.at c.before.before.before.before.before.before.before.before.args.body.now _ (sym c.before.before.before.before.operand-of.ensures ∙ c.before.before.enum-told.given.1)) (rw c.before.popped.ensures at c.plain2.ensures)
+returns-3 c =
+    let s = c.before.before.before.before.before.before.before.before in
+    rw (operator-with s.args.self.at s.args.body.now _ (sym c.before.before.before.before.operand-of.ensures ∙ c.before.before.enum-told.given.1)) (rw c.before.popped.ensures at c.plain2.ensures)
 
 pub operator-spec : {M : Type 1} → statement M
 operator-spec =

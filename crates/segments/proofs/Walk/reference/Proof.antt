@@ -10,22 +10,36 @@ use Rattle.segments.proofs.Walk.reference.Statement.{statement}
 use Rattle.segments.proofs.Walk.reference.Tie as tie
 
 returns : tie.Need-returns
-returns c = reference-short _ _ _ (word-short (drop c.before.before.before.before.args.self.at c.before.before.before.before.args.body.now) c.before.before.read-word.result c.before.before.read-word.ensures c.enum-told.given.1)
+returns c =
+    let s = c.before.before.before.before in
+    reference-short _ _ _ (word-short (drop s.args.self.at s.args.body.now) c.before.before.read-word.result c.before.before.read-word.ensures c.enum-told.given.1)
 
 add-self : tie.Need-add-self
-add-self c = omega (arith, word-fits c.before.before.before.before.before.args.self.at c.before.before.before.before.before.args.body.now ((word-value (drop c.before.before.before.before.before.args.self.at c.before.before.before.before.before.args.body.now) c.before.before.before.read-word.result c.before.before.before.read-word.ensures c.before.n.given.1) .0))
+add-self c =
+    let s = c.before.before.before.before.before in
+    let read-word = c.before.before.before.read-word in
+    omega (arith, word-fits s.args.self.at s.args.body.now ((word-value (drop s.args.self.at s.args.body.now) read-word.result read-word.ensures c.before.n.given.1) .0))
 
 returns-2 : tie.Need-returns-2
 unfolding ahead remaining
-returns-2 c = rw c.enum-told2.given.1 (reference-at c.before.before.before.before.before.before.before.args.self.at c.before.before.before.before.before.before.before.args.body.now typeRef (remaining c.before.before.before.before.before.before.before.args.self) (word-value (drop c.before.before.before.before.before.before.before.args.self.at c.before.before.before.before.before.before.before.args.body.now) c.before.before.before.before.before.read-word.result c.before.before.before.before.before.read-word.ensures c.before.before.before.n.given.1))
+returns-2 c =
+    let s = c.before.before.before.before.before.before.before in
+    let read-word = c.before.before.before.before.before.read-word in
+    rw c.enum-told2.given.1 (reference-at s.args.self.at s.args.body.now typeRef (remaining s.args.self) (word-value (drop s.args.self.at s.args.body.now) read-word.result read-word.ensures c.before.before.before.n.given.1))
 
 returns-3 : tie.Need-returns-3
 unfolding ahead remaining
-returns-3 c = rw c.enum-told3.given.1 (reference-at c.before.before.before.before.before.before.before.args.self.at c.before.before.before.before.before.before.before.args.body.now funRef (remaining c.before.before.before.before.before.before.before.args.self) (word-value (drop c.before.before.before.before.before.before.before.args.self.at c.before.before.before.before.before.before.before.args.body.now) c.before.before.before.before.before.read-word.result c.before.before.before.before.before.read-word.ensures c.before.before.before.n.given.1))
+returns-3 c =
+    let s = c.before.before.before.before.before.before.before in
+    let read-word = c.before.before.before.before.before.read-word in
+    rw c.enum-told3.given.1 (reference-at s.args.self.at s.args.body.now funRef (remaining s.args.self) (word-value (drop s.args.self.at s.args.body.now) read-word.result read-word.ensures c.before.before.before.n.given.1))
 
 returns-4 : tie.Need-returns-4
 unfolding ahead remaining
-returns-4 c = rw c.enum-told4.given.1 (reference-at c.before.before.before.before.before.before.before.args.self.at c.before.before.before.before.before.before.before.args.body.now termRef (remaining c.before.before.before.before.before.before.before.args.self) (word-value (drop c.before.before.before.before.before.before.before.args.self.at c.before.before.before.before.before.before.before.args.body.now) c.before.before.before.before.before.read-word.result c.before.before.before.before.before.read-word.ensures c.before.before.before.n.given.1))
+returns-4 c =
+    let s = c.before.before.before.before.before.before.before in
+    let read-word = c.before.before.before.before.before.read-word in
+    rw c.enum-told4.given.1 (reference-at s.args.self.at s.args.body.now termRef (remaining s.args.self) (word-value (drop s.args.self.at s.args.body.now) read-word.result read-word.ensures c.before.before.before.n.given.1))
 
 pub reference-spec : {M : Type 1} → statement M
 reference-spec =

@@ -8,11 +8,15 @@ use Rattle.segments.proofs.Walk.rest.Tie as tie
 
 returns : tie.Need-returns
 unfolding ahead remaining
-returns c = (omega arith, rest-past c.before.args.self.at c.before.args.body.now (remaining c.before.args.self) (omega arith))
+returns c =
+    let s = c.before in
+    (omega arith, rest-past s.args.self.at s.args.body.now (remaining s.args.self) (omega arith))
 
 returns-2 : tie.Need-returns-2
 unfolding ahead remaining
-returns-2 c = (omega arith, rest-at c.before.args.self.at c.before.args.body.now (remaining c.before.args.self))
+returns-2 c =
+    let s = c.before in
+    (omega arith, rest-at s.args.self.at s.args.body.now (remaining s.args.self))
 
 pub rest-spec : {M : Type 1} → statement M
 rest-spec = tie.close (tie.spec returns returns-2)

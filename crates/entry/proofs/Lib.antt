@@ -1,0 +1,6 @@
+pub mod Inverse
+pub mod Places
+pub mod TypeEntries
+pub mod Rows
+pub mod Classes
+pub mod SymbolEntries

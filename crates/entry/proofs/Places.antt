@@ -1,0 +1,110 @@
+-- Laws of numbers at places, marks and bodies of records: where bytes are missing, a number is 0 and a body is empty.
+-- Assumes nothing.
+use mathlib.Core.Path.{_≡_, refl, sym, ap, _∙_, subst}
+use mathlib.Core.Bool.{Bool, true, false, _&&_}
+use mathlib.Core.List.{List, [], _∷_}
+use Prim.Native.Nat.{ℕ, zero, suc, _+_, _≤_, _<_}
+use native.Mathlib.Omega.{arith}
+use lib.Dec.{leb}
+use lib.ListN.{length, take, drop, length-take, length-drop, drop-of-length-le, getD}
+use lib.Seq.{take-nil, drop-drop}
+use borrow.Author.Tests.{leb-false}
+use Rattle.script_spec.specs.Base.{Bytes, bytes, same, any, firsts}
+use Rattle.script_spec.specs.Fields.{got, bad, _>>=_, pure, low, number, part, u32}
+use Rattle.field.specs.Reads.{value, refusal, asRead, Reads}
+use Rattle.index.specs.Standing.{markAt, sizeAt, bodyAt}
+use Rattle.field.proofs.Skims.{bind-got}
+use Rattle.index.proofs.Readers.{bad-not-got}
+use Rattle.term_file.specs.Marks.{Marked, MarkedAs, mark}
+use Rattle.term_file.specs.declared.mark.Kind.{Kind}
+use Rattle.term_file.specs.declared.mark.Kind.the-variants as kind
+use Rattle.term_file.proofs.Marked.{names, unmarked}
+use Rattle.entry.specs.Places.{numberAt, firstText, textSize, namedItems, texts, IsText}
+use Rattle.entry.proofs.Inverse.{u32-inverse}
+
+-- ---- numbers
+
+pub number-read : (s : Bytes) (at : ℕ) {n to : ℕ} → Reads u32 s at (value n to) → n ≡ numberAt s at
+unfolding numberAt asRead
+number-read s at r = u32-inverse (drop at s) (r .is) (λ e d. sym e)
+
+pub number-short : (s : Bytes) (at : ℕ) {m : ℕ} → Reads u32 s at (refusal m) → 0 ≡ numberAt s at
+unfolding numberAt asRead u32 number part _>>=_ pure
+number-short s at {m} r = go (leb 4 (length (drop at s))) refl (r .is)
+  where
+    go : (b : Bool) → leb 4 (length (drop at s)) ≡ b → u32 (drop at s) ≡ bad m → 0 ≡ numberAt s at
+    go true e h =
+        let p : part 4 (drop at s) ≡ got (take 4 (drop at s)) (drop 4 (drop at s)) = rw (part, e) in
+        absurd (bad-not-got m (low (take 4 (drop at s))) (drop 4 (drop at s)) (sym h ∙ bind-got {A = Bytes} {B = ℕ} (part 4) (λ (bs : Bytes). pure (low bs)) {s = drop at s} p))
+    go false e h = rw (numberAt, e)
+
+-- ---- records
+
+-- a body past the end is empty, whatever its size
+body-here : (file : Bytes) (o n : ℕ) → n ≡ numberAt file (o + 2) → take n (drop (o + 6) file) ≡ bodyAt file o
+unfolding bodyAt sizeAt numberAt
+body-here file o n h = go (leb 4 (length (drop (o + 2) file))) refl
+  where
+    go : (b : Bool) → leb 4 (length (drop (o + 2) file)) ≡ b → take n (drop (o + 6) file) ≡ take (low (take 4 (drop (o + 2) file))) (drop (o + 6) file)
+    go true l =
+        let v : n ≡ low (take 4 (drop (o + 2) file)) = h ∙ (rw (numberAt, l)) in
+        rw v
+    go false l =
+        let short : length (drop (o + 2) file) < 4 = leb-false 4 (length (drop (o + 2) file)) l in
+        let past : drop (o + 6) file ≡ [] = drop-of-length-le file {i = o + 6} (omega (arith, length-drop (o + 2) file)) in
+        rw past (take-nil n ∙ sym (take-nil (low (take 4 (drop (o + 2) file)))))
+
+pub body-as : (file : Bytes) (o at n m : ℕ) → at ≡ o → m ≡ numberAt file (at + 2) → n ≡ m → take n (drop (at + 6) file) ≡ bodyAt file o
+body-as file o at n m e h g = subst (λ (x : ℕ). n ≡ numberAt file (x + 2) → take n (drop (x + 6) file) ≡ bodyAt file o) (sym e) (body-here file o n) (g ∙ h)
+
+-- fewer than two bytes are no mark
+and-false : (b : Bool) → (b && false) ≡ false
+and-false true = refl
+and-false false = refl
+
+pub marked-short : (s : Bytes) → length s < 2 → Marked s kind.Unknown
+unfolding mark MarkedAs names any same bytes
+marked-short [] h = record { is = unmarked [] refl }
+marked-short (a ∷ []) h = record { is = unmarked (a ∷ []) (simp and-false) }
+marked-short (a ∷ b ∷ s) h = absurd (omega arith)
+
+pub marked-none : (file m : Bytes) (o : ℕ) {at : ℕ} → m ≡ take 2 (drop at file) → at ≡ o → length m < 2 → Marked (markAt file o) kind.Unknown
+unfolding markAt
+marked-none file m o e i h = rw (← i, ← e) (marked-short m h)
+
+-- two bytes by their places
+two-bytes : (s m : Bytes) → m ≡ take 2 s → 2 ≤ length m → m ≡ getD m 0 0 ∷ getD m 1 0 ∷ []
+two-bytes s [] e h = absurd (omega arith)
+two-bytes s (a ∷ []) e h = absurd (omega arith)
+two-bytes s (a ∷ b ∷ []) e h = refl
+two-bytes s (a ∷ b ∷ c ∷ m) e h = absurd (omega (arith, ap length e, length-take 2 s))
+
+pub marked-as : (file m : Bytes) (o : ℕ) {at : ℕ} {k : Kind} → m ≡ take 2 (drop at file) → at ≡ o → 2 ≤ length m → Marked (getD m 0 0 ∷ getD m 1 0 ∷ []) k → Marked (markAt file o) k
+unfolding markAt
+marked-as file m o {at} {k} e i h g =
+    subst (λ (s : Bytes). Marked s k) (sym (two-bytes (drop at file) m e h) ∙ e ∙ ap (λ (n : ℕ). take 2 (drop n file)) i) g
+
+-- ---- lists
+
+pub past-end : (s : Bytes) (at n : ℕ) → length s ≤ at + n → drop (length s) s ≡ drop n (drop at s)
+past-end s at n h =
+    drop-of-length-le s {i = length s} (omega arith) ∙ sym (drop-of-length-le (drop at s) {i = n} (rw length-drop (omega arith)))
+
+pub past-on : (s : Bytes) (at n : ℕ) → drop (at + n) s ≡ drop n (drop at s)
+past-on s at n = sym (drop-drop n at s)
+
+pub text-is : (s : Bytes) (at : ℕ) {n m start end : ℕ} → m ≡ numberAt s at → n ≡ m → drop start s ≡ drop 4 (drop at s) → drop end s ≡ drop n (drop start s)
+    → IsText s at (record { start = start; len = n; end = end })
+unfolding firstText textSize numberAt
+text-is s at {n} {m} {start} {end} e i a b =
+    let size : n ≡ numberAt (drop at s) 0 = i ∙ e in
+    record {
+      is = rw (a, size);
+      rest = b ∙ (rw (a, size)) ∙ drop-drop (numberAt (drop at s) 0) 4 (drop at s);
+    }
+
+-- the names of items that have a reference too
+pub texts-named : (n : ℕ) (s : Bytes) → firsts (namedItems n s) ≡ texts 4 n s
+unfolding firsts namedItems texts
+texts-named zero s = refl
+texts-named (suc n) s = ap (λ (l : List Bytes). firstText s ∷ l) (texts-named n (drop 4 (drop (textSize s) s)))

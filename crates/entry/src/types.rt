@@ -1,0 +1,76 @@
+// Types, by their marks and the fields of their bodies.
+use field::Cursor;
+use field::ReadNumber;
+use field::Span;
+use term_file::mark::Kind;
+ghost use mathlib.Core.Option.{some};
+ghost use Rattle.script_spec.specs.Base.{bytes};
+ghost use Rattle.term_file.specs.Marks.{mark};
+ghost use Rattle.entry.specs.Types.{IsType, TypeAt};
+
+// The extension types, in the order of `ExtType`.
+pub enum ExtType {
+    IPAddr,
+    Decimal,
+    Datetime,
+    Duration,
+}
+
+// A type as its record has it: parts by their numbers, a name as a part of the body, and of a record type how many attributes the
+// body has. `Unreadable` stands for what is no type.
+pub enum TypeEntry {
+    Bool,
+    String,
+    BitVec(u32),
+    Option(u32),
+    Set(u32),
+    Entity(Span),
+    Ext(ExtType),
+    Record(u32),
+    Unreadable,
+}
+
+// An extension type by its code.
+fn ext_type(body: &[u8]) -> TypeEntry
+    ensures { λ r. ⌜ IsType (some (bytes "TX")) (now (body .entry)) r ⌝ }
+{
+    let c = Cursor { at: 0 };
+    match c.byte(body) {
+        ReadNumber::Bad(_) => TypeEntry::Unreadable,
+        ReadNumber::Value(code, _) => match code {
+            0 => TypeEntry::Ext(ExtType::IPAddr),
+            1 => TypeEntry::Ext(ExtType::Decimal),
+            2 => TypeEntry::Ext(ExtType::Datetime),
+            3 => TypeEntry::Ext(ExtType::Duration),
+            _ => TypeEntry::Unreadable,
+        },
+    }
+}
+
+// The type of a body under a mark.
+fn type_of(kind: Kind, body: &[u8]) -> TypeEntry
+    ensures { λ r. ⌜ IsType (mark kind) (now (body .entry)) r ⌝ }
+{
+    match kind {
+        Kind::TB => TypeEntry::Bool,
+        Kind::TS => TypeEntry::String,
+        Kind::TV => TypeEntry::BitVec(crate::number_at(body, 0)),
+        Kind::TO => TypeEntry::Option(crate::number_at(body, 0)),
+        Kind::TC => TypeEntry::Set(crate::number_at(body, 0)),
+        Kind::TE => TypeEntry::Entity(Span {
+            start: 4,
+            len: crate::wide(crate::number_at(body, 0)),
+        }),
+        Kind::TX => ext_type(body),
+        Kind::TR => TypeEntry::Record(crate::number_at(body, 0)),
+        _ => TypeEntry::Unreadable,
+    }
+}
+
+// The type at an offset of the file.
+pub fn type_at(file: &[u8], offset: u32) -> TypeEntry
+    ensures { λ r. ⌜ TypeAt (now (file .entry)) offset r ⌝ }
+{
+    let kind = crate::kind_at(file, offset);
+    type_of(kind, crate::body_at(file, offset))
+}

@@ -1,0 +1,163 @@
+-- The tables of a state in memory: at the start, after a record is named, and a name from its entry. A store of a name keeps the
+-- other tables and the index.
+-- Assumes nothing.
+use mathlib.Core.Path.{_≡_, refl, sym, ap, _∙_}
+use mathlib.Core.Bool.{Bool, true, false}
+use mathlib.Core.List.{List, [], _∷_, _++_}
+use Prim.Native.Nat.{ℕ, zero, suc, _+_, _-_, _*_, _≤_, _<_}
+use native.Mathlib.Numerals.{add-one}
+use native.Mathlib.Omega.{arith}
+use lib.ListN.{length}
+use Rattle.script_spec.specs.Base.{Bytes, bytes, place}
+use Rattle.script_spec.specs.Tree.{eqTy}
+use Rattle.script_spec.specs.File.{TermFile, types, funs, terms, typeAt, funAt, termAt}
+use Rattle.script_spec.specs.Text.{decimal}
+use Rattle.script_spec.specs.Command.{Command}
+use Rattle.script_spec.specs.Walk.{State, start, enterType, enterFun, enterTerm, write, numbered, names}
+use Rattle.index.specs.Cells.{cell, store, typeFirst, funFirst, termFirst}
+use Rattle.index.specs.First.{firstType, firstFun, firstTerm}
+use Rattle.index.specs.Meaning.{Index}
+use Rattle.index.proofs.Cells.{length-store, cell-store-same, cell-store-other}
+use Rattle.index.proofs.Firsts.{FirstEqual, Equality, first-below, first-types, first-funs, first-terms, equal-types, equal-funs, equal-terms}
+use Rattle.naming.specs.Naming.{typeName, funName, termName, isName, nameAt, placeOf, Table, Numbers, Kept}
+use Rattle.naming.proofs.Tables.{table-start, table-same, table-place, table-enter}
+
+-- ---- memories that differ in names alone
+
+pub kept-refl : (work : List ℕ) (k : ℕ) → Kept work work k
+kept-refl work k = record { size = refl; others = λ column i h. refl }
+
+pub kept-trans : {work work′ work″ : List ℕ} {k : ℕ} → Kept work work′ k → Kept work′ work″ k → Kept work work″ k
+kept-trans p q = record { size = q .size ∙ p .size; others = λ column i h. q .others column i h ∙ p .others column i h }
+
+pub kept-store : (work : List ℕ) (k column i v : ℕ) → isName column ≡ true → Kept work (store work k column i v) k
+kept-store work k column i v h =
+    record {
+      size = length-store work k column i v;
+      others = λ column′ i′ n. cell-store-other work k column i v column′ i′ (λ e _. let z : _≡_ {A = Bool} true false = sym h ∙ ap isName e ∙ n in absurd (let o : _≡_ {A = ℕ} 0 1 = cc in omega arith));
+    }
+
+module _ {file : Bytes} {f : TermFile} {work work′ : List ℕ} {k : ℕ} (K : Kept work work′ k) where
+  -- the index speaks of no name
+  pub index-kept : Index file f work k → Index file f work′ k
+  unfolding isName
+  index-kept I =
+      record {
+        fits = rw (K .size) (I .fits);
+        type-row = λ n l. let r = I .type-row n l in record { stands = rw (K .others 0 n refl) (r .stands); first = K .others 1 n refl ∙ r .first };
+        fun-row = λ n l. let r = I .fun-row n l in record { stands = rw (K .others 3 n refl) (r .stands); first = K .others 4 n refl ∙ r .first };
+        term-row = λ n l. let r = I .term-row n l in
+            record {
+              stands = rw (K .others 6 n refl) (r .stands);
+              first = K .others 7 n refl ∙ r .first;
+              type-below = rw (K .others 8 n refl) (r .type-below);
+              type-is = rw (K .others 8 n refl) (r .type-is);
+              type-first = rw (K .others 8 n refl) (r .type-first);
+            };
+        enum-row = λ n l. record { stands = rw (K .others 10 n refl) (I .enum-row n l .stands) };
+        types-fit = I .types-fit;
+        funs-fit = I .funs-fit;
+        terms-fit = I .terms-fit;
+        enums-fit = I .enums-fit;
+      }
+
+-- ---- a store
+
+module _ {A : Type 0} {eq : A → A → Bool} {count : ℕ} {name : ℕ → A} {first : ℕ → ℕ} (E : Equality eq) (F : FirstEqual count name first) where
+  -- the record n is entered, and one more than the table's length is stored at the number of its first equal record
+  table-stored : (work : List ℕ) (k column : ℕ) {table : List A} → 12 * k ≤ length work → column < 12 → count ≤ k → (n v : ℕ) → n < count
+      → Table eq count name first k (cell work k column) table → cell work k column (first n) ≡ 0 → v ≡ length table + 1
+      → Table eq count name first k (cell (store work k column (first n) v) k column) (table ++ (name n ∷ []))
+  table-stored work k column {table} fits c le n v l t z e =
+      let inside : first n < k = omega (arith, first-below F n l) in
+      table-enter E F (cell (store work k column (first n) v) k column) n l inside t z
+      (cell-store-same work k column (first n) v (record { fits = fits; column-is = c; index-is = inside }) ∙ e ∙ add-one (length table))
+      (λ j h. cell-store-other work k column (first n) v column j (λ _ q. h (sym q)))
+
+-- a store in another column
+table-beside : {A : Type 0} {eq : A → A → Bool} {count : ℕ} {name : ℕ → A} {first : ℕ → ℕ} (work : List ℕ) (k column column′ i v : ℕ) {table : List A} → (column′ ≡ column → ⊥)
+    → Table eq count name first k (cell work k column) table → Table eq count name first k (cell (store work k column′ i v) k column) table
+table-beside work k column column′ i v h t =
+    table-same (cell (store work k column′ i v) k column) (λ j. cell-store-other work k column′ i v column j (λ e _. h e)) t
+
+-- ---- the tables of a state
+
+-- the start of the walk, over columns of zeros
+pub numbers-start : (f : TermFile) (work : List ℕ) (k : ℕ)
+    → ((i : ℕ) → cell work k typeName i ≡ 0) → ((i : ℕ) → cell work k funName i ≡ 0) → ((i : ℕ) → cell work k termName i ≡ 0) → Numbers f work k start
+unfolding start
+numbers-start f work k ty fn tm = record { type-table = table-start k _ ty; fun-table = table-start k _ fn; term-table = table-start k _ tm }
+
+-- commands are in no table
+pub numbers-write : {f : TermFile} {work : List ℕ} {k : ℕ} {S : State} (cs : List Command) → Numbers f work k S → Numbers f work k (write cs S)
+unfolding write
+numbers-write cs N = record { type-table = N .type-table; fun-table = N .fun-table; term-table = N .term-table }
+
+module _ {file : Bytes} {f : TermFile} {work : List ℕ} {k : ℕ} {S : State} (I : Index file f work k) (N : Numbers f work k S) (n v : ℕ) where
+  pub numbers-type : n < length (types f) → cell work k typeName (firstType f n) ≡ 0 → v ≡ length (S .types) + 1
+      → Numbers f (store work k typeName (firstType f n) v) k (enterType (typeAt f n) S)
+  unfolding enterType
+  numbers-type l z e =
+      record {
+        type-table = table-stored equal-types (first-types f) work k typeName (I .fits) (omega arith) (I .types-fit) n v l (N .type-table) z e;
+        fun-table = table-beside work k funName typeName (firstType f n) v (omega arith) (N .fun-table);
+        term-table = table-beside work k termName typeName (firstType f n) v (omega arith) (N .term-table);
+      }
+
+  pub numbers-fun : n < length (funs f) → cell work k funName (firstFun f n) ≡ 0 → v ≡ length (S .funs) + 1
+      → Numbers f (store work k funName (firstFun f n) v) k (enterFun (funAt f n) S)
+  unfolding enterFun
+  numbers-fun l z e =
+      record {
+        type-table = table-beside work k typeName funName (firstFun f n) v (omega arith) (N .type-table);
+        fun-table = table-stored equal-funs (first-funs f) work k funName (I .fits) (omega arith) (I .funs-fit) n v l (N .fun-table) z e;
+        term-table = table-beside work k termName funName (firstFun f n) v (omega arith) (N .term-table);
+      }
+
+  pub numbers-term : n < length (terms f) → cell work k termName (firstTerm f n) ≡ 0 → v ≡ length (S .terms) + 1
+      → Numbers f (store work k termName (firstTerm f n) v) k (enterTerm (termAt f n) S)
+  unfolding enterTerm
+  numbers-term l z e =
+      record {
+        type-table = table-beside work k typeName termName (firstTerm f n) v (omega arith) (N .type-table);
+        fun-table = table-beside work k funName termName (firstTerm f n) v (omega arith) (N .fun-table);
+        term-table = table-stored equal-terms (first-terms f) work k termName (I .fits) (omega arith) (I .terms-fit) n v l (N .term-table) z e;
+      }
+
+-- ---- names by numbers of records
+
+module _ {file : Bytes} {f : TermFile} {work : List ℕ} {k : ℕ} (I : Index file f work k) (n : ℕ) where
+  pub nameAt-type : n < length (types f) → nameAt work k typeFirst typeName n ≡ cell work k typeName (firstType f n)
+  unfolding nameAt
+  nameAt-type l = ap (cell work k typeName) (I .type-row n l .first)
+
+  pub nameAt-fun : n < length (funs f) → nameAt work k funFirst funName n ≡ cell work k funName (firstFun f n)
+  unfolding nameAt
+  nameAt-fun l = ap (cell work k funName) (I .fun-row n l .first)
+
+  pub nameAt-term : n < length (terms f) → nameAt work k termFirst termName n ≡ cell work k termName (firstTerm f n)
+  unfolding nameAt
+  nameAt-term l = ap (cell work k termName) (I .term-row n l .first)
+
+  module _ {S : State} (N : Numbers f work k S) where
+    pub place-type : n < length (types f) → place (eqTy (typeAt f n)) (S .types) ≡ placeOf (nameAt work k typeFirst typeName n)
+    place-type l = table-place (N .type-table) n l ∙ ap placeOf (sym (nameAt-type l))
+
+    pub name-fun : n < length (funs f) → names S .func (funAt f n) ≡ numbered (bytes "f") (placeOf (nameAt work k funFirst funName n))
+    unfolding names
+    name-fun l = ap (numbered (bytes "f")) (table-place (N .fun-table) n l ∙ ap placeOf (sym (nameAt-fun l)))
+
+    pub name-term : n < length (terms f) → names S .term (termAt f n) ≡ numbered (bytes "t") (placeOf (nameAt work k termFirst termName n))
+    unfolding names
+    name-term l = ap (numbered (bytes "t")) (table-place (N .term-table) n l ∙ ap placeOf (sym (nameAt-term l)))
+
+-- ---- writing a name
+
+pub numbered-none : (letter : Bytes) (name : ℕ) → name ≡ 0 → [] ≡ numbered letter (placeOf name)
+unfolding numbered placeOf
+numbered-none letter name e = rw e
+
+pub numbered-some : (letter : Bytes) (name : ℕ) → (name ≡ 0 → ⊥) → letter ++ decimal (name - 1) ≡ numbered letter (placeOf name)
+unfolding numbered placeOf
+numbered-some letter zero h = absurd (h refl)
+numbered-some letter (suc n) h = let e : suc n - 1 ≡ n = omega arith in rw e

@@ -1,0 +1,113 @@
+// Sorts of types.
+use entry::types::ExtType;
+use entry::types::TypeEntry;
+ghost use mathlib.Core.Path.{_≡_};
+ghost use Rattle.script_spec.specs.Spelling.{extName};
+ghost use Rattle.writer.specs.Writing.{Appends};
+ghost use Rattle.index.specs.Cells.{cell, typeOffset, typeFirst};
+ghost use Rattle.naming.specs.Naming.{nameAt, typeName};
+ghost use Rattle.entry.specs.Types.{extTypeOf, TypeAt};
+ghost use Rattle.spell.specs.Sorts.{overOf, opened, plainSort, SpellsSort};
+
+// What a type stands over: the part of a set, or else of an option, by its number.
+pub enum Over {
+    Part(bool, u32),
+    Nothing,
+}
+
+fn stands_over(ty: TypeEntry) -> Over
+    ensures { λ r. ⌜ r ≡ overOf ty ⌝ }
+{
+    match ty {
+        TypeEntry::Set(n) => Over::Part(true, n),
+        TypeEntry::Option(n) => Over::Part(false, n),
+        _ => Over::Nothing,
+    }
+}
+
+// The name of an extension type.
+fn put_ext_name(out: &mut [u8], at: usize, limit: usize, x: ExtType) -> usize
+    ensures { λ r. ⌜ Appends limit (now (out .entry)) at (now (out .exit)) r (extName (extTypeOf x)) ⌝ }
+{
+    match x {
+        ExtType::IPAddr => writer::put_at(out, at, limit, b"IPAddr"),
+        ExtType::Decimal => writer::put_at(out, at, limit, b"Decimal"),
+        ExtType::Datetime => writer::put_at(out, at, limit, b"Datetime"),
+        ExtType::Duration => writer::put_at(out, at, limit, b"Duration"),
+    }
+}
+
+// The sort of a type that stands over no part; `name` stands for its name in memory.
+fn put_plain_sort(out: &mut [u8], at: usize, limit: usize, ty: TypeEntry, name: u32) -> usize
+    ensures { λ r. ⌜ Appends limit (now (out .entry)) at (now (out .exit)) r (plainSort ty name) ⌝ }
+{
+    match ty {
+        TypeEntry::Bool => writer::put_at(out, at, limit, b"Bool"),
+        TypeEntry::String => writer::put_at(out, at, limit, b"String"),
+        TypeEntry::BitVec(n) => bitvec::spelling::put_bitvec_sort(out, at, limit, n),
+        TypeEntry::Option(_) => at,
+        TypeEntry::Set(_) => at,
+        TypeEntry::Entity(_) => naming::put_name(out, at, limit, b'E', name),
+        TypeEntry::Ext(x) => put_ext_name(out, at, limit, x),
+        TypeEntry::Record(_) => naming::put_name(out, at, limit, b'R', name),
+        TypeEntry::Unreadable => at,
+    }
+}
+
+// The type with number t.
+fn type_at(file: &[u8], work: &[u32], k: usize, t: u32) -> TypeEntry
+    ensures { λ r. ⌜ TypeAt (now (file .entry)) (cell (now (work .entry)) k typeOffset t) r ⌝ }
+{
+    let offset = index::get(work, k, index::TYPE_OFFSET, entry::wide(t));
+    entry::types::type_at(file, offset)
+}
+
+// What stands for the name of the type with number t.
+fn type_name(work: &[u32], k: usize, t: u32) -> u32
+    ensures { λ r. ⌜ r ≡ nameAt (now (work .entry)) k typeFirst typeName t ⌝ }
+{
+    naming::get(
+        work,
+        k,
+        index::TYPE_FIRST,
+        naming::TYPE_NAME,
+        entry::wide(t),
+    )
+}
+
+// What stands before the part of a set or of an option.
+fn put_opened(out: &mut [u8], at: usize, limit: usize, set: bool) -> usize
+    ensures { λ r. ⌜ Appends limit (now (out .entry)) at (now (out .exit)) r (opened set) ⌝ }
+{
+    if set {
+        return writer::put_at(out, at, limit, b"(Set ");
+    }
+    writer::put_at(out, at, limit, b"(Option ")
+}
+
+// Writes the sort of the type with number t. A part has a lower number.
+pub fn put_sort(
+    file: &[u8],
+    work: &[u32],
+    k: usize,
+    out: &mut [u8],
+    at: usize,
+    limit: usize,
+    t: u32,
+) -> usize
+    ensures { λ r.
+        ⌜ SpellsSort (now (file .entry)) (now (work .entry)) k t limit (now (out .entry)) at (now (out .exit)) r ⌝ }
+{
+    let ty = type_at(file, work, k, t);
+    match stands_over(ty) {
+        Over::Nothing => put_plain_sort(out, at, limit, ty, type_name(work, k, t)),
+        Over::Part(set, part) => {
+            if t <= part {
+                return at;
+            }
+            let a = put_opened(out, at, limit, set);
+            let b = put_sort(file, work, k, out, a, limit, part);
+            writer::put_byte(out, b, limit, b')')
+        }
+    }
+}
