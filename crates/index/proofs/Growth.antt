@@ -170,3 +170,32 @@ module _ (f : TermFile) (r : Named) where
 
   pub enums-grown : Grown (enums f) (enums (f ++ (r ∷ [])))
   enums-grown = grown-append (enums f) (enums (r ∷ [])) (lists-append f r .enums-are) (one-each r .3)
+
+-- ---- counts
+
+-- a file has no more types, functions, terms and enums than records
+pub record Counted (f : TermFile) : Type 0 where
+  pub types-fewer : length (types f) ≤ length f
+  pub funs-fewer : length (funs f) ≤ length f
+  pub terms-fewer : length (terms f) ≤ length f
+  pub enums-fewer : length (enums f) ≤ length f
+
+-- one list more
+counts-append : {A : Type 0} (xs ys : List A) {zs : List A} (n : ℕ) → zs ≡ xs ++ ys → length xs ≤ 1 → length ys ≤ n → length zs ≤ suc n
+counts-append xs ys n e one h = rw (e, length-append) (omega arith)
+
+counts-none : Counted []
+unfolding types funs terms enums collect
+counts-none = record { types-fewer = omega arith; funs-fewer = omega arith; terms-fewer = omega arith; enums-fewer = omega arith }
+
+pub counts-fewer : (f : TermFile) → Counted f
+unfolding types funs terms enums
+counts-fewer [] = counts-none
+counts-fewer (r ∷ f) =
+    let h = counts-fewer f in
+    record {
+      types-fewer = counts-append (types (r ∷ [])) (types f) (length f) (collect-append _ (r ∷ []) f) (one-each r .0) (h .types-fewer);
+      funs-fewer = counts-append (funs (r ∷ [])) (funs f) (length f) (collect-append _ (r ∷ []) f) (one-each r .1) (h .funs-fewer);
+      terms-fewer = counts-append (terms (r ∷ [])) (terms f) (length f) (collect-append _ (r ∷ []) f) (one-each r .2) (h .terms-fewer);
+      enums-fewer = counts-append (enums (r ∷ [])) (enums f) (length f) (collect-append _ (r ∷ []) f) (one-each r .3) (h .enums-fewer);
+    }

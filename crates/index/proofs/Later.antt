@@ -15,29 +15,32 @@ use Rattle.index.specs.First.{canonical, All, Below, OpInRange, MarkInRa
 use Rattle.index.proofs.Growth.{lists-append, types-kept, funs-kept, terms-kept}
 use Rattle.index.proofs.Renamed.{map-agree, renamed-agree, renumbered-agree, namedMark-renamed}
 
--- what may be referred to grows, and a type that is a `TE` stays one
-pub record Extends (e e′ : Earlier) : Type 0 where
+-- more may be referred to
+pub record More (e e′ : Earlier) : Type 0 where
   pub types-more : e .types ≤ e′ .types
   pub funs-more : e .funs ≤ e′ .funs
   pub terms-more : e .terms ≤ e′ .terms
+
+-- more may be referred to, and a type that is a `TE` stays one
+pub record Extends (e e′ : Earlier) : Type 0 where
+  pub more : More e e′
   pub entities-kept : (n : ℕ) → n < e .types → T (e .isEntity n) → T (e′ .isEntity n)
 
 pub extends-refl : (e : Earlier) → Extends e e
-extends-refl e = record { types-more = le-refl _; funs-more = le-refl _; terms-more = le-refl _; entities-kept = λ n h t. t }
+extends-refl e = record { more = record { types-more = le-refl _; funs-more = le-refl _; terms-more = le-refl _ }; entities-kept = λ n h t. t }
 
-length-more : {A : Type 0} (xs ys : List A) {zs : List A} → zs ≡ xs ++ ys → length xs ≤ length zs
+pub length-more : {A : Type 0} (xs ys : List A) {zs : List A} → zs ≡ xs ++ ys → length xs ≤ length zs
 length-more xs ys e = rw (e, length-append) (omega arith)
 
 module _ (f : TermFile) (r : Named) where
-  pub extends-append : Extends (earlier f) (earlier (f ++ (r ∷ [])))
+  pub more-append : More (earlier f) (earlier (f ++ (r ∷ [])))
   unfolding earlier
-  extends-append =
+  more-append =
       let l = lists-append f r in
       record {
         types-more = length-more (types f) (types (r ∷ [])) (l .types-are);
         funs-more = length-more (funs f) (funs (r ∷ [])) (l .funs-are);
         terms-more = length-more (terms f) (terms (r ∷ [])) (l .terms-are);
-        entities-kept = λ n h t. rw (types-kept f r .name-kept n h) t;
       }
 
 -- ---- references stay in range
@@ -47,7 +50,7 @@ unfolding All Below
 below-more a b l [] h = tt
 below-more a b l (n ∷ rs) h = (omega (arith, h .0), below-more a b l rs (h .1))
 
-module _ {e e′ : Earlier} (E : Extends e e′) where
+module _ {e e′ : Earlier} (E : More e e′) where
   type-more : (n : ℕ) → n < e .types → n < e′ .types
   type-more n h = omega (arith, E .types-more)
 

@@ -1,4 +1,7 @@
 pub mod Cells
+pub mod Stores
+pub mod Rows
+pub mod Entered
 pub mod Firsts
 pub mod Growth
 pub mod Renamed
@@ -8,3 +11,4 @@ pub mod Search
 pub mod Readers
 pub mod Ranges
 pub mod Rules
+pub mod Standing

@@ -66,14 +66,14 @@ module _ {e e′ : Earlier} (E : Extends e e′) where
       & gives-after text (λ a. gives-pure (RecordGet a) tt)
       & gives-plain SetInter & gives-plain SetMember & gives-plain SetSubset
       & gives-after (list element) (λ p. gives-pure (StringLike p) tt)
-      & gives-bind (gives-ref (E .funs-more)) (λ f h. gives-pure (Uuf f) h)
+      & gives-bind (gives-ref (E .more .funs-more)) (λ f h. gives-pure (Uuf f) h)
       & gives-after u32 (λ n. gives-pure (ZeroExtend n) tt)
       & tt)
 
   gives-entityRef : Gives (λ n. n < e .types) (entityRef e) (entityRef e′)
   unfolding entityRef
   gives-entityRef =
-      gives-bind (gives-ref (E .types-more)) (λ n h. gives-ensure 8 (e .isEntity n) (e′ .isEntity n) n (λ t. (h, E .entities-kept n h t)))
+      gives-bind (gives-ref (E .more .types-more)) (λ n h. gives-ensure 8 (e .isEntity n) (e′ .isEntity n) n (λ t. (h, E .entities-kept n h t)))
 
   -- a mark of the table, with its readers
   mark : {s : Bytes} {r r′ : Reader Entry} → Gives (InRange e) r r′ → (s ≡ s) × Gives (InRange e) r r′
@@ -86,25 +86,25 @@ module _ {e e′ : Earlier} (E : Extends e e′) where
       mark (gives-pure (type Bool· []) tt)
       & mark (gives-pure (type String· []) tt)
       & mark (gives-after width (λ n. gives-pure _ tt))
-      & mark (gives-bind (gives-ref (E .types-more)) (λ t h. gives-pure _ (h, tt)))
-      & mark (gives-bind (gives-ref (E .types-more)) (λ t h. gives-pure _ (h, tt)))
+      & mark (gives-bind (gives-ref (E .more .types-more)) (λ t h. gives-pure _ (h, tt)))
+      & mark (gives-bind (gives-ref (E .more .types-more)) (λ t h. gives-pure _ (h, tt)))
       & mark (gives-after text (λ n. gives-pure _ tt))
       & mark (gives-after extType (λ x. gives-pure _ tt))
-      & mark (gives-bind (gives-pairs (E .types-more)) (λ ps h. gives-pure _ h))
+      & mark (gives-bind (gives-pairs (E .more .types-more)) (λ ps h. gives-pure _ h))
       & mark (gives-after text (λ n. gives-after (list text) (λ ms. gives-pure _ tt)))
-      & mark (gives-after text (λ n. gives-bind (gives-ref (E .types-more)) (λ a h. gives-bind (gives-ref (E .types-more)) (λ r k. gives-pure _ (h, k)))))
-      & mark (gives-after text (λ n. gives-bind (gives-ref (E .types-more)) (λ t h. gives-pure _ (h, tt))))
+      & mark (gives-after text (λ n. gives-bind (gives-ref (E .more .types-more)) (λ a h. gives-bind (gives-ref (E .more .types-more)) (λ r k. gives-pure _ (h, k)))))
+      & mark (gives-after text (λ n. gives-bind (gives-ref (E .more .types-more)) (λ t h. gives-pure _ (h, tt))))
       & mark (gives-after _ (λ b. gives-pure _ (tt, tt)))
       & mark (gives-after width (λ n. gives-after (number 16) (λ v. gives-after _ (λ w. gives-pure _ (tt, tt)))))
       & mark (gives-after text (λ s. gives-pure _ (tt, tt)))
       & mark (gives-bind gives-entityRef (λ t h. gives-after text (λ i. gives-pure _ (h, tt))))
       & mark (gives-after value (λ v. gives-pure _ (tt, tt)))
-      & mark (gives-bind (gives-ref (E .types-more)) (λ t h. gives-pure _ (h, tt)))
-      & mark (gives-bind (gives-ref (E .terms-more)) (λ t h. gives-pure _ (tt, (h, tt))))
-      & mark (gives-bind (gives-ref (E .types-more)) (λ t h. gives-bind (gives-refs (E .terms-more)) (λ ts hs. gives-pure _ (h, hs))))
-      & mark (gives-bind (gives-pairs (E .terms-more)) (λ ps h. gives-pure _ (tt, h)))
-      & mark (gives-bind (gives-ref (E .types-more)) (λ t h. gives-bind gives-operator (λ o k. gives-bind (gives-refs (E .terms-more)) (λ ts hs. gives-pure _ ((h, k), hs)))))
-      & mark (gives-bind (gives-ref (E .terms-more)) (λ t h. gives-pure _ h))
+      & mark (gives-bind (gives-ref (E .more .types-more)) (λ t h. gives-pure _ (h, tt)))
+      & mark (gives-bind (gives-ref (E .more .terms-more)) (λ t h. gives-pure _ (tt, (h, tt))))
+      & mark (gives-bind (gives-ref (E .more .types-more)) (λ t h. gives-bind (gives-refs (E .more .terms-more)) (λ ts hs. gives-pure _ (h, hs))))
+      & mark (gives-bind (gives-pairs (E .more .terms-more)) (λ ps h. gives-pure _ (tt, h)))
+      & mark (gives-bind (gives-ref (E .more .types-more)) (λ t h. gives-bind gives-operator (λ o k. gives-bind (gives-refs (E .more .terms-more)) (λ ts hs. gives-pure _ ((h, k), hs)))))
+      & mark (gives-bind (gives-ref (E .more .terms-more)) (λ t h. gives-pure _ h))
       & tt
 
   -- an entry that is read has its references in range, and is read alike where more may be referred to

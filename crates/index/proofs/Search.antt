@@ -17,7 +17,7 @@ use Rattle.index.specs.First.{first, firstType, firstFun, firstTerm, can
 use Rattle.index.proofs.Firsts.{Equality, equal-types, equal-funs, equal-terms, place-first, place-none}
 use Rattle.index.proofs.Canonical.{canonical-equal, canonical-injective}
 use Rattle.index.proofs.Renamed.{Agree}
-use Rattle.index.proofs.Later.{extends-append, in-range-more, named-kept}
+use Rattle.index.proofs.Later.{more-append, in-range-more, named-kept}
 
 module _ (f : TermFile) {A : Type 0} (wrap : A → Named) where
   -- what a search over these entries finds for an entry e that names x: a record equal to x, or that there is none
@@ -30,7 +30,7 @@ pub entries-kept : (f : TermFile) (r : Named) {A : Type 0} {wrap : A → Named} 
     → Agree count ε′ ε → Agree count name′ name → Entries (f ++ (r ∷ [])) wrap count name′ ε′
 entries-kept f r {ε} {ε′} N same names =
     record {
-      in-range = λ n h. rw (same n h) (in-range-more (extends-append f r) (ε n) (N .in-range n h));
+      in-range = λ n h. rw (same n h) (in-range-more (more-append f r) (ε n) (N .in-range n h));
       names = λ n h. rw (same n h, named-kept f r (ε n) (N .in-range n h), names n h) (N .names n h);
     }
 

@@ -65,3 +65,8 @@ module _ (file : Bytes) (f : TermFile) (work : List ℕ) (k : ℕ) where
   pub record Depths : Type 0 where
     pub type-depth : (n : ℕ) → n < length (types f) → cell work k typeDepth n ≡ depth (typeAt f n)
     pub term-depth : (n : ℕ) → n < length (terms f) → cell work k termDepth n ≡ depth (termAt f n)
+
+-- the index of the records f, with the depths
+pub record Indexed (file : Bytes) (f : TermFile) (work : List ℕ) (k : ℕ) : Type 0 where
+  pub index : Index file f work k
+  pub depths : Depths file f work k

@@ -36,6 +36,6 @@ pub reads-entryOf : (e : Earlier) (mark body : Bytes) (x : Entry) → e .types �
     → entryOf mark body ≡ some x
 unfolding entryOf andThen entryRead loose
 reads-entryOf e mark body x types funs terms h =
-    let E : Extends e loose = record { types-more = types; funs-more = funs; terms-more = terms; entities-kept = λ n k t. tt } in
+    let E : Extends e loose = record { more = record { types-more = types; funs-more = funs; terms-more = terms }; entities-kept = λ n k t. tt } in
     let k = reads-kept E mark body x h .1 in
     rw (k .found, k .reads)

@@ -1,0 +1,5 @@
+pub mod FirstBroken
+pub mod Functions
+pub mod Types
+pub mod EnumRules
+pub mod TermRules

@@ -1,0 +1,269 @@
+-- A term is entered: the rules by its numbers, its type among those that are listed, and its row.
+-- Assumes nothing.
+use mathlib.Core.Path.{_≡_, refl, sym, ap, _∙_}
+use Prim.Native.Nat.{ℕ, zero, suc, _+_, _≤_, _<_}
+use native.Mathlib.Omega.{arith}
+use native.Mathlib.Numerals.{add-one}
+use borrow.Author.Tests.{lt-ltb, le-ltb, le-leb, lt-leb}
+use mathlib.Core.Bool.{Bool, true, false, _&&_}
+use mathlib.Core.List.{List, [], _∷_, _++_, map}
+use mathlib.Core.Option.{Option, none, some, Option·none-ne-some}
+use lib.Dec.{T, leb, ltb}
+use lib.ListN.{length, drop, getD}
+use Rattle.script_spec.specs.Base.{Bytes, isSome, place, placeFrom}
+use Rattle.script_spec.specs.Tree.{Tm, TermMark, eqTy, typeOf, depth, node, forest, Bool·, nil}
+use Rattle.script_spec.specs.Fields.{Entry}
+use Rattle.script_spec.specs.Fields as fields
+use Rattle.script_spec.specs.File.{TermFile, term, types, terms, typeAt, termAt, named, namedMark, earlier, Rule, rules, broken}
+use Rattle.script_spec.proofs.Laws.{eqTy-eq}
+use Rattle.index.specs.Cells.{cell, store, typeDepth, termOffset, termFirst, termType, termDepth}
+use Rattle.index.specs.First.{orElse, first, firstType, InRange}
+use Rattle.index.specs.Rules.{greatest, limits, listRulesBy, rulesBy, typeBy, typeNamed}
+use Rattle.index.specs.Standing.{markAt, sizeAt, bodyAt, entryAt}
+use Rattle.index.specs.Meaning.{Stands, Indexed}
+use Rattle.index.proofs.Growth.{counts-fewer}
+use Rattle.index.proofs.Renamed.{map-agree}
+use Rattle.index.proofs.Rules.{rules-numbers, depth-numbers, type-numbers}
+use Rattle.index.proofs.Stores.{term-stored}
+use Rattle.index.proofs.Entered.{indexed-term}
+use Rattle.segments.specs.Segment.{Segment, termRefs}
+use Rattle.segments.proofs.Prints.{Octets, octets-take, octets-drop}
+use Rattle.segments.proofs.Shown.{segments-shown}
+use Rattle.segments.proofs.Equal.{termRefs-term}
+use Rattle.compare.specs.View.{viewed, numbers, segmentsAt}
+use Rattle.compare.specs.declared.View.the-variants.{Depth}
+use Rattle.compare.proofs.Depths.{numbers-terms}
+use Rattle.search.specs.Found.{Finds}
+use Rattle.search.proofs.Numbers.{term-found}
+use Rattle.record_rules.specs.Terms.{ruleTold, TermRule}
+use Rattle.enter.specs.Entering.{typeCount}
+use Rattle.enter.specs.Terms.{termCount, TypeSought, StoresTerm, EntersTerm}
+use Rattle.enter.proofs.FirstBroken.{broken-here, broken-later, none-broken}
+use Rattle.enter.specs.declared.Entered.the-variants.{Done, Broken}
+
+pub term-row-stored : (file : Bytes) (work : List ℕ) (k count o ty deep : ℕ) {first : ℕ} {work₁ work₂ work₃ work₄ : List ℕ} → Finds file work k termOffset termFirst count o first
+    → work₁ ≡ store work k termOffset count o → work₂ ≡ store work₁ k termFirst count first → work₃ ≡ store work₂ k termType count ty → work₄ ≡ store work₃ k termDepth count deep
+    → StoresTerm file work work₄ k count o ty deep
+unfolding termCount
+term-row-stored file work k count o ty deep {first} F e₁ e₂ e₃ e₄ =
+    record {
+      go = λ f I c room t s below type-is type-first d.
+          rw (e₄, e₃, e₂, e₁, c)
+          (indexed-term I room (term-stored work k _ (I .index .fits) (omega (arith, counts-fewer f .terms-fewer)) o first ty deep) s (term-found (I .index) s (rw c at F)) below type-is type-first d);
+    }
+
+-- ---- the rules
+
+-- the first broken rule of two lists
+module _ (qs : List Rule) where
+  broken-first : (rs : List Rule) {n : ℕ} → broken rs ≡ some n → broken (rs ++ qs) ≡ some n
+  unfolding broken
+  broken-first [] {n} e = absurd (Option·none-ne-some n e)
+  broken-first (r ∷ rs) {n} e = from (r .1) e (λ k. broken-first rs k)
+    where
+      from : (b : Bool) → elim b as (λ x. Option ℕ) [ true ↦ broken rs | false ↦ some (r .0) ] ≡ some n → (broken rs ≡ some n → broken (rs ++ qs) ≡ some n)
+          → elim b as (λ x. Option ℕ) [ true ↦ broken (rs ++ qs) | false ↦ some (r .0) ] ≡ some n
+      from true k rest = rest k
+      from false k rest = k
+
+  broken-second : (rs : List Rule) → broken rs ≡ none → broken (rs ++ qs) ≡ broken qs
+  unfolding broken
+  broken-second [] e = refl
+  broken-second (r ∷ rs) e = from (r .1) e (λ k. broken-second rs k)
+    where
+      from : (b : Bool) → _≡_ {A = Option ℕ} (elim b as (λ x. Option ℕ) [ true ↦ broken rs | false ↦ some (r .0) ]) none → (broken rs ≡ none → broken (rs ++ qs) ≡ broken qs)
+          → elim b as (λ x. Option ℕ) [ true ↦ broken (rs ++ qs) | false ↦ some (r .0) ] ≡ broken qs
+      from true k rest = rest k
+      from false k rest = absurd (Option·none-ne-some (r .0) (sym k))
+
+-- the record of a term, by its mark and its numbers
+record Parts (file : Bytes) (f : TermFile) (o : ℕ) (t : Tm) : Type 0 where
+  m : TermMark ℕ ℕ
+  rs : List ℕ
+  reads : entryAt file o ≡ some (fields.term m rs)
+  in-range : InRange (earlier f) (fields.term m rs)
+  names : named f (fields.term m rs) ≡ term t
+
+parts : {file : Bytes} {f : TermFile} {o : ℕ} {t : Tm} → (x : Entry) → entryAt file o ≡ some x → InRange (earlier f) x → named f x ≡ term t → Parts file f o t
+unfolding named
+parts (fields.type m rs) e h q = let z : _≡_ {A = ℕ} 0 1 = cc in absurd (omega arith)
+parts (fields.enum n ms) e h q = let z : _≡_ {A = ℕ} 0 1 = cc in absurd (omega arith)
+parts (fields.func id a r) e h q = let z : _≡_ {A = ℕ} 0 1 = cc in absurd (omega arith)
+parts (fields.term m rs) e h q = record { m = m; rs = rs; reads = e; in-range = h; names = q }
+parts (fields.input n) e h q = let z : _≡_ {A = ℕ} 0 1 = cc in absurd (omega arith)
+
+term-value : {t u : Tm} → term t ≡ term u → t ≡ u
+term-value e = cc
+
+module _ {file : Bytes} {f : TermFile} {work : List ℕ} {k o : ℕ} {t : Tm} (I : Indexed file f work k) (P : Parts file f o t) where
+  -- the greatest depth of the children
+  deepest : ℕ
+  deepest = greatest (map (cell work k termDepth) (P .rs))
+
+  -- the place of the type among those that are listed
+  sought : Option ℕ
+  sought = place (eqTy (typeNamed f (typeBy (cell work k termType) (P .m) (P .rs)))) (types f)
+
+  term-rules : rules f (term t) ≡ listRulesBy f (cell work k termFirst) (P .m) (P .rs) ++ ((12, isSome sought) ∷ (13, ltb (length (terms f)) 60000 && leb (suc deepest) 256) ∷ [])
+  unfolding rulesBy limits deepest sought
+  term-rules =
+      sym (ap (rules f) (P .names))
+      ∙ rules-numbers f (cell work k typeDepth) (cell work k termFirst) (cell work k termType) (cell work k termDepth) (I .depths .type-depth) (λ n h. I .index .term-row n h .first)
+      (λ n h. I .index .term-row n h .type-is) (I .depths .term-depth) (fields.term (P .m) (P .rs)) (P .in-range)
+
+  term-depth : suc deepest ≡ depth t
+  unfolding named deepest InRange earlier
+  term-depth =
+      let same : node (namedMark f (P .m)) (forest (map (termAt f) (P .rs))) ≡ t = term-value (P .names) in
+      sym (depth-numbers (termAt f) (length (terms f)) (cell work k termDepth) (I .depths .term-depth) (namedMark f (P .m)) (P .rs) (P .in-range .1)) ∙ ap depth same
+
+  -- the greatest depth by the terms themselves, each of which has one
+  deepest-terms : deepest ≡ greatest (map (λ n. depth (termAt f n)) (P .rs))
+  unfolding deepest InRange earlier
+  deepest-terms = ap greatest (map-agree (I .depths .term-depth) (P .rs) (P .in-range .1))
+
+  -- the depth that the walk over the body gives
+  deepest-is : Octets file → greatest (numbers 4 (map (viewed work k Depth) (segmentsAt file o))) ≡ deepest
+  unfolding segmentsAt entryAt bodyAt deepest
+  deepest-is octets =
+      let body-octets : Octets (bodyAt file o) = octets-take (sizeAt file o) (drop (o + 6) file) (octets-drop (o + 6) file octets) in
+      ap greatest
+      (numbers-terms work k (segmentsAt file o)
+      ∙ ap (λ (l : List Segment). map (cell work k termDepth) (termRefs l)) (segments-shown (markAt file o) (bodyAt file o) body-octets (P .reads))
+      ∙ ap (map (cell work k termDepth)) (termRefs-term (P .m) (P .rs)))
+
+-- ---- the type
+
+-- a place is one of the list, and passes
+record PlaceFound {A : Type 0} (p : A → Bool) (d : A) (xs : List A) (n : ℕ) : Type 0 where
+  below : n < length xs
+  passes : T (p (getD xs n d))
+
+place-found : {A : Type 0} (p : A → Bool) (d : A) (xs : List A) (n : ℕ) → place p xs ≡ some n → PlaceFound p d xs n
+unfolding place placeFrom
+place-found p d [] n e = absurd (Option·none-ne-some n e)
+place-found p d (x ∷ xs) n e = from (p x) refl (place p xs) (λ m k. place-found p d xs m k) e
+  where
+    from : (b : Bool) → p x ≡ b → (o : Option ℕ) → ((m : ℕ) → o ≡ some m → PlaceFound p d xs m) → placeFrom b o ≡ some n → PlaceFound p d (x ∷ xs) n
+    from true q o later k = let z : n ≡ 0 = cc in rw z record { below = omega arith; passes = rw q tt }
+    from false q none later k = absurd (Option·none-ne-some n k)
+    from false q (some m) later k = let z : n ≡ suc m = cc in let h = later m refl in rw z record { below = omega (arith, h .below); passes = h .passes }
+
+-- what the number that was sought says of the place
+sought-none : (o : Option ℕ) (count r : ℕ) → r ≡ orElse count o → ((n : ℕ) → o ≡ some n → n < count) → count ≤ r → o ≡ none
+unfolding orElse
+sought-none none count r e h g = refl
+sought-none (some n) count r e h g = absurd (omega (arith, h n refl))
+
+sought-some : (o : Option ℕ) (count r : ℕ) → r ≡ orElse count o → r < count → o ≡ some r
+unfolding orElse
+sought-some none count r e g = absurd (omega arith)
+sought-some (some n) count r e g = ap some (sym e)
+
+-- the type of a term that has a place
+record TypeFound (f : TermFile) (t : Tm) (n : ℕ) : Type 0 where
+  below : n < length (types f)
+  type-is : typeAt f n ≡ typeOf t
+  type-first : firstType f n ≡ n
+
+module _ {file : Bytes} {f : TermFile} {work : List ℕ} {k o : ℕ} {t : Tm} (I : Indexed file f work k) (P : Parts file f o t) where
+  sought-below : (n : ℕ) → sought I P ≡ some n → n < length (types f)
+  unfolding sought
+  sought-below n e = place-found _ (node Bool· nil) (types f) n e .below
+
+  type-found : (n : ℕ) → sought I P ≡ some n → TypeFound f t n
+  unfolding sought named typeAt firstType first orElse InRange earlier
+  type-found n e =
+      let h = place-found _ (node Bool· nil) (types f) n e in
+      let τ = cell work k termType in
+      let X = typeNamed f (typeBy τ (P .m) (P .rs)) in
+      let q : X ≡ typeAt f n = eqTy-eq X (typeAt f n) (h .passes) in
+      let same : node (namedMark f (P .m)) (forest (map (termAt f) (P .rs))) ≡ t = term-value (P .names) in
+      record {
+        below = h .below;
+        type-is = sym q ∙ sym (type-numbers f τ (λ m l. I .index .term-row m l .type-is) (P .m) (P .rs) (P .in-range .1)) ∙ ap typeOf same;
+        type-first = rw (← q, e);
+      }
+
+-- ---- the answers
+
+depth-positive : (t : Tm) → 0 < depth t
+unfolding depth
+depth-positive (node a ts) = omega arith
+
+stands-parts : {file : Bytes} {f : TermFile} {o : ℕ} {t : Tm} → Stands file f (earlier f) o (term t) → Parts file f o t
+stands-parts s = parts (s .entry) (s .reads) (s .in-range) (s .names)
+
+told-some : (r : ℕ) → (r ≡ 0 → ⊥) → ruleTold r ≡ some r
+unfolding ruleTold
+told-some zero h = absurd (h refl)
+told-some (suc r) h = refl
+
+told-none : (r : ℕ) → r ≡ 0 → ruleTold r ≡ none
+unfolding ruleTold
+told-none r e = rw e
+
+module _ {file : Bytes} {work : List ℕ} {k o n r : ℕ} (octets : Octets file) (is : n ≡ greatest (numbers 4 (map (viewed work k Depth) (segmentsAt file o)))) (R : TermRule file work k o n r) where
+  -- rules 9 and 10
+  told : {f : TermFile} {t : Tm} (I : Indexed file f work k) (P : Parts file f o t) → ruleTold r ≡ broken (listRulesBy f (cell work k termFirst) (P .m) (P .rs))
+  told {f} I P = R .go f (P .m) (P .rs) (λ i. depth (termAt f i)) (λ i. depth-positive (termAt f i)) (is ∙ deepest-is I P octets ∙ deepest-terms I P) (P .reads)
+
+  module _ {work′ : List ℕ} {types count : ℕ} where
+    pub term-broken : (r ≡ 0 → ⊥) → EntersTerm file work work′ k types count o (Broken r)
+    term-broken h =
+        record { go = λ f I c c′ room t s. let P = stands-parts s in ap broken (term-rules I P) ∙ broken-first _ (listRulesBy f (cell work k termFirst) (P .m) (P .rs)) (sym (told I P) ∙ told-some r h) }
+
+  module _ {types ty : ℕ} (T : TypeSought file work k types o ty) (h : r ≡ 0) where
+    -- what is sought is the place of the type
+    sought-is : (f : TermFile) (I : Indexed file f work k) → types ≡ typeCount f → {t : Tm} (P : Parts file f o t) → ty ≡ orElse types (sought I P)
+    unfolding typeCount sought
+    sought-is f I c P = T .go f (I .index) c (P .m) (P .rs) (P .reads) (P .in-range)
+
+    -- rules 12 and 13 are left
+    rules-left : {f : TermFile} {t : Tm} (I : Indexed file f work k) (P : Parts file f o t) → broken (rules f (term t)) ≡ broken ((12, isSome (sought I P)) ∷ (13, ltb (length (terms f)) 60000 && leb (suc (deepest I P)) 256) ∷ [])
+    rules-left {f} I P = ap broken (term-rules I P) ∙ broken-second _ (listRulesBy f (cell work k termFirst) (P .m) (P .rs)) (sym (told I P) ∙ told-none r h)
+
+    -- rule 12 is kept
+    listed : ty < types → {f : TermFile} {t : Tm} (I : Indexed file f work k) → types ≡ typeCount f → (P : Parts file f o t) → broken (rules f (term t)) ≡ broken ((13, ltb (length (terms f)) 60000 && leb (suc (deepest I P)) 256) ∷ [])
+    unfolding isSome
+    listed g {f} I c P = rules-left I P ∙ broken-later 12 _ (ap isSome (sought-some (sought I P) types ty (sought-is f I c P) g))
+
+    module _ {work′ : List ℕ} {count : ℕ} where
+      pub term-unlisted : types ≤ ty → EntersTerm file work work′ k types count o (Broken 12)
+      unfolding typeCount isSome
+      term-unlisted g =
+          record {
+            go = λ f I c c′ room t s.
+                let P = stands-parts s in
+                let q = sought-none (sought I P) types ty (sought-is f I c P) (λ m e. rw c (sought-below I P m e)) g in
+                rules-left I P ∙ broken-here 12 _ (ap isSome q);
+          }
+
+      module _ (g : ty < types) where
+        pub term-many : 60000 ≤ count → EntersTerm file work work′ k types count o (Broken 13)
+        unfolding termCount
+        term-many d = record { go = λ f I c c′ room t s. let P = stands-parts s in listed g I c P ∙ broken-here 13 _ (rw (← c′, le-ltb count 60000 d)) }
+
+        pub term-deep : count < 60000 → 255 < n → EntersTerm file work work′ k types count o (Broken 13)
+        unfolding termCount
+        term-deep d e =
+            record {
+              go = λ f I c c′ room t s.
+                  let P = stands-parts s in
+                  let q : n ≡ deepest I P = is ∙ deepest-is I P octets in
+                  listed g I c P ∙ broken-here 13 _ (rw (← c′, lt-ltb count 60000 d, ← q, lt-leb (suc n) 256 (omega arith)));
+            }
+
+        pub term-entered : count < 60000 → n ≤ 255 → StoresTerm file work work′ k count o ty (n + 1) → EntersTerm file work work′ k types count o Done
+        unfolding termCount
+        term-entered d e S =
+            record {
+              go = λ f I c c′ room t s.
+                  let P = stands-parts s in
+                  let q : n ≡ deepest I P = is ∙ deepest-is I P octets in
+                  let F = type-found I P ty (sought-some (sought I P) types ty (sought-is f I c P) g) in
+                  record {
+                    kept = listed g I c P ∙ broken-later 13 _ (rw (← c′, lt-ltb count 60000 d, ← q, le-leb (suc n) 256 (omega arith))) ∙ none-broken;
+                    indexed = S .go f I c′ room t s (F .below) (F .type-is) (F .type-first) (add-one n ∙ ap suc q ∙ term-depth I P);
+                  };
+            }

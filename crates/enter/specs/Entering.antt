@@ -1,0 +1,38 @@
+-- What entering a record into the index promises.
+-- Assumes nothing.
+use mathlib.Core.Path.{_≡_}
+use Prim.Native.Nat.{ℕ, suc, _≤_}
+use mathlib.Core.List.{List, [], _∷_, _++_}
+use mathlib.Core.Option.{none, some}
+use lib.ListN.{length}
+use Rattle.script_spec.specs.Base.{Bytes}
+use Rattle.script_spec.specs.Tree.{Ty, depth}
+use Rattle.script_spec.specs.File.{TermFile, Named, type, types, funs, earlier, rules, broken}
+use Rattle.index.specs.Meaning.{Stands, Indexed}
+use Rattle.enter.specs.declared.Entered.{Entered}
+use Rattle.enter.specs.declared.Entered.the-variants.{Done, Broken}
+
+-- the counts of a file
+unfoldable pub typeCount : TermFile → ℕ
+typeCount f = length (types f)
+
+unfoldable pub funCount : TermFile → ℕ
+funCount f = length (funs f)
+
+-- the record x after the records f keeps the rules, and the memory is the index with it
+pub record Keeps (file : Bytes) (f : TermFile) (work : List ℕ) (k : ℕ) (x : Named) : Type 0 where
+  pub kept : broken (rules f x) ≡ none
+  pub indexed : Indexed file (f ++ (x ∷ [])) work k
+
+-- what the answer says
+abbrev pub Outcome : Bytes → TermFile → List ℕ → ℕ → Named → Entered → Type 0
+Outcome file f work k x Done = Keeps file f work k x
+Outcome file f work k x (Broken n) = broken (rules f x) ≡ some n
+
+-- a record of one kind at an offset is entered after the records f, of which `count` are of that kind
+pub record Enters {A : Type 0} (wrap : A → Named) (counted : TermFile → ℕ) (file : Bytes) (work work′ : List ℕ) (k count o : ℕ) (r : Entered) : Type 0 where
+  pub go : (f : TermFile) → Indexed file f work k → count ≡ counted f → suc (length f) ≤ k → (a : A) → Stands file f (earlier f) o (wrap a) → Outcome file f work′ k (wrap a) r
+
+-- the row of a type of this depth is stored
+pub record StoresType (file : Bytes) (work work′ : List ℕ) (k count o deep : ℕ) : Type 0 where
+  pub go : (f : TermFile) → Indexed file f work k → count ≡ typeCount f → suc (length f) ≤ k → (t : Ty) → Stands file f (earlier f) o (type t) → deep ≡ depth t → Indexed file (f ++ (type t ∷ [])) work′ k

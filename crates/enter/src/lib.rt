@@ -1,0 +1,66 @@
+// Entering a record into the index: the rules that it must keep, and its row.
+pub mod enums;
+pub mod terms;
+
+ghost use Rattle.script_spec.specs.File.{type, func};
+ghost use Rattle.enter.specs.Entering.{Enters, StoresType, typeCount, funCount};
+
+// The record is entered, or it breaks the rule of a number.
+pub enum Entered {
+    Done,
+    Broken(u32),
+}
+
+// Enters a function, of which there are `count` before it.
+pub fn enter_fun(file: &[u8], work: &mut [u32], k: usize, count: u32, o: u32) -> Entered
+    ensures { λ r. ⌜ Enters func funCount (now (file .entry)) (now (work .entry)) (now (work .exit)) k count o r ⌝ }
+{
+    let first = search::find(
+        file,
+        work,
+        k,
+        index::FUN_OFFSET,
+        index::FUN_FIRST,
+        count,
+        o as usize,
+    );
+    index::set(work, k, index::FUN_OFFSET, count as usize, o);
+    index::set(work, k, index::FUN_FIRST, count as usize, first);
+    Entered::Done
+}
+
+// Stores the row of a type.
+fn store_type(file: &[u8], work: &mut [u32], k: usize, count: u32, o: u32, depth: u32)
+    ensures { λ _. ⌜ StoresType (now (file .entry)) (now (work .entry)) (now (work .exit)) k count o depth ⌝ }
+{
+    let first = search::find(
+        file,
+        work,
+        k,
+        index::TYPE_OFFSET,
+        index::TYPE_FIRST,
+        count,
+        o as usize,
+    );
+    index::set(work, k, index::TYPE_OFFSET, count as usize, o);
+    index::set(work, k, index::TYPE_FIRST, count as usize, first);
+    index::set(work, k, index::TYPE_DEPTH, count as usize, depth);
+}
+
+// Enters a type, of which there are `count` before it.
+pub fn enter_type(file: &[u8], work: &mut [u32], k: usize, count: u32, o: u32) -> Entered
+    ensures { λ r. ⌜ Enters type typeCount (now (file .entry)) (now (work .entry)) (now (work .exit)) k count o r ⌝ }
+{
+    if record_rules::record::attributes_ascend(file, o as usize) {
+        if 60000 <= count {
+            return Entered::Broken(13);
+        }
+        let deepest = compare::greatest(file, work, k, o as usize, 2);
+        if 255 < deepest {
+            return Entered::Broken(13);
+        }
+        store_type(file, work, k, count, o, deepest + 1);
+        return Entered::Done;
+    }
+    Entered::Broken(9)
+}

@@ -1,0 +1,199 @@
+-- The index after a record of each kind is entered: its row is stored, and the index is that of the file with the record.
+-- Assumes nothing.
+use mathlib.Core.Path.{_≡_, sym, ap, _∙_, subst}
+use Prim.Native.Nat.{ℕ, suc, _*_, _≤_, _<_}
+use native.Mathlib.Nat.{not-suc-le-zero, le-refl}
+use native.Mathlib.Omega.{arith}
+use mathlib.Core.List.{List, [], _∷_, _++_}
+use mathlib.Core.Option.{some}
+use lib.ListN.{length, getD}
+use lib.Seq.{getD-append-seam}
+use Rattle.script_spec.specs.Base.{Bytes, place, collect}
+use Rattle.script_spec.specs.Tree.{Ty, Fun, Tm, eqTy, eqFun, eqTm, typeOf, depth}
+use Rattle.script_spec.specs.Fields.{Entry}
+use Rattle.script_spec.specs.Fields as fields
+use Rattle.script_spec.specs.File.{TermFile, Named, type, enum, func, term, input, types, funs, terms, enums, typeAt, named, earlier}
+use Rattle.index.specs.First.{orElse, firstType, InRange}
+use Rattle.index.specs.Meaning.{Stands, counted, Indexed}
+use Rattle.index.proofs.Growth.{lists-type, lists-func, lists-term, lists-enum, lists-input, type-added, fun-added, term-added, types-kept}
+use Rattle.index.proofs.Later.{more-append, in-range-more, named-kept}
+use Rattle.index.proofs.Stores.{changed-refl, TypeStored, FunStored, TermStored, EnumStored}
+use Rattle.index.proofs.Rows.{untouched, index-grown, depths-grown}
+
+-- any memory is the index of no records
+pub indexed-none : (file : Bytes) (work : List ℕ) (k : ℕ) → 12 * k ≤ length work → Indexed file [] work k
+unfolding types funs terms enums collect
+indexed-none file work k fits =
+    record {
+      index =
+          record {
+            fits = fits;
+            type-row = λ n l. absurd (not-suc-le-zero l);
+            fun-row = λ n l. absurd (not-suc-le-zero l);
+            term-row = λ n l. absurd (not-suc-le-zero l);
+            enum-row = λ n l. absurd (not-suc-le-zero l);
+            types-fit = omega arith;
+            funs-fit = omega arith;
+            terms-fit = omega arith;
+            enums-fit = omega arith;
+          };
+      depths = record { type-depth = λ n l. absurd (not-suc-le-zero l); term-depth = λ n l. absurd (not-suc-le-zero l) };
+    }
+
+-- ---- the new record's references
+
+-- what refers to types only
+OnlyTypes : Named → Type 0
+OnlyTypes (type t) = Unit {0}
+OnlyTypes (enum n ms) = Unit {0}
+OnlyTypes (func g) = Unit {0}
+OnlyTypes (term t) = ⊥
+OnlyTypes (input t) = ⊥
+
+types-in-range : (f : TermFile) (x : Entry) → InRange (earlier f) x → OnlyTypes (named f x) → InRange (counted (length (types f)) 0 0) x
+unfolding named InRange earlier counted OnlyTypes
+types-in-range f (fields.type m rs) h o = h
+types-in-range f (fields.enum n ms) h o = tt
+types-in-range f (fields.func id a r) h o = h
+types-in-range f (fields.term m rs) h o = absurd o
+types-in-range f (fields.input n) h o = absurd o
+
+-- the entry of an enum is its name and members
+pub enum-entry : (f : TermFile) (x : Entry) (name : Bytes) (members : List Bytes) → named f x ≡ enum name members → x ≡ fields.enum name members
+unfolding named
+enum-entry f (fields.type m rs) name members e = let z : _≡_ {A = ℕ} 0 1 = cc in absurd (omega arith)
+enum-entry f (fields.enum n ms) name members e = cc
+enum-entry f (fields.func id a r) name members e = let z : _≡_ {A = ℕ} 0 1 = cc in absurd (omega arith)
+enum-entry f (fields.term m rs) name members e = let z : _≡_ {A = ℕ} 0 1 = cc in absurd (omega arith)
+enum-entry f (fields.input n) name members e = let z : _≡_ {A = ℕ} 0 1 = cc in absurd (omega arith)
+
+-- the new record in the file that has it
+module _ {file : Bytes} {f : TermFile} {o : ℕ} {r : Named} (s : Stands file f (earlier f) o r) where
+  stands-types : (ty : ℕ) → length (types f) ≤ ty → OnlyTypes r → Stands file (f ++ (r ∷ [])) (counted ty 0 0) o r
+  unfolding counted
+  stands-types ty h only =
+      record {
+        entry = s .entry;
+        reads = s .reads;
+        in-range =
+            in-range-more (record { types-more = h; funs-more = le-refl _; terms-more = le-refl _ }) (s .entry)
+            (types-in-range f (s .entry) (s .in-range) (subst OnlyTypes (sym (s .names)) only));
+        names = named-kept f r (s .entry) (s .in-range) ∙ s .names;
+      }
+
+  stands-all : Stands file (f ++ (r ∷ [])) (counted (length (types (f ++ (r ∷ [])))) (length (funs (f ++ (r ∷ [])))) (length (terms f))) o r
+  unfolding earlier counted
+  stands-all =
+      record {
+        entry = s .entry;
+        reads = s .reads;
+        in-range = in-range-more (record { types-more = more-append f r .types-more; funs-more = more-append f r .funs-more; terms-more = le-refl _ }) (s .entry) (s .in-range);
+        names = named-kept f r (s .entry) (s .in-range) ∙ s .names;
+      }
+
+-- ---- each kind
+
+module _ {file : Bytes} {f : TermFile} {work work′ : List ℕ} {k : ℕ} (I : Indexed file f work k) (room : suc (length f) ≤ k) {o : ℕ} where
+  pub indexed-type : {m d : ℕ} {t : Ty} → TypeStored k (length (types f)) o m d work work′ → Stands file f (earlier f) o (type t) → m ≡ orElse (length (types f)) (place (eqTy t) (types f)) → d ≡ depth t
+      → Indexed file (f ++ (type t ∷ [])) work′ k
+  unfolding OnlyTypes
+  indexed-type {t} S s first-is depth-is =
+      let U = untouched f (S .changed) (record { no-type = λ a. le-refl _; no-fun = λ a b. omega arith; no-term = λ a b. omega arith; no-enum = λ a. omega arith }) in
+      let L = lists-type f t in
+      let A = type-added f t in
+      record {
+        index =
+            index-grown file f (type t) k U (I .index) room
+            (λ l. record { stands = rw (S .offset-is, A .name-added) (stands-types s _ (le-refl _) tt); first = S .first-is ∙ first-is ∙ sym (A .first-added) })
+            (λ l. absurd (omega (arith, ap length (L .funs-are))))
+            (λ l. absurd (omega (arith, ap length (L .terms-are))))
+            (λ l. absurd (omega (arith, ap length (L .enums-are))));
+        depths =
+            depths-grown file f (type t) k U (I .depths)
+            (λ l. S .depth-is ∙ depth-is ∙ ap depth (sym (A .name-added)))
+            (λ l. absurd (omega (arith, ap length (L .terms-are))));
+      }
+
+  pub indexed-func : {m : ℕ} {g : Fun} → FunStored k (length (funs f)) o m work work′ → Stands file f (earlier f) o (func g) → m ≡ orElse (length (funs f)) (place (eqFun g) (funs f))
+      → Indexed file (f ++ (func g ∷ [])) work′ k
+  unfolding OnlyTypes earlier
+  indexed-func {g} S s first-is =
+      let U = untouched f (S .changed) (record { no-type = λ a. omega arith; no-fun = λ a b. le-refl _; no-term = λ a b. omega arith; no-enum = λ a. omega arith }) in
+      let L = lists-func f g in
+      let A = fun-added f g in
+      record {
+        index =
+            index-grown file f (func g) k U (I .index) room
+            (λ l. absurd (omega (arith, ap length (L .types-are))))
+            (λ l. record { stands = rw (S .offset-is, A .name-added) (stands-types s _ (more-append f (func g) .types-more) tt); first = S .first-is ∙ first-is ∙ sym (A .first-added) })
+            (λ l. absurd (omega (arith, ap length (L .terms-are))))
+            (λ l. absurd (omega (arith, ap length (L .enums-are))));
+        depths =
+            depths-grown file f (func g) k U (I .depths)
+            (λ l. absurd (omega (arith, ap length (L .types-are))))
+            (λ l. absurd (omega (arith, ap length (L .terms-are))));
+      }
+
+  pub indexed-term : {m τ d : ℕ} {t : Tm} → TermStored k (length (terms f)) o m τ d work work′ → Stands file f (earlier f) o (term t) → m ≡ orElse (length (terms f)) (place (eqTm t) (terms f))
+      → τ < length (types f) → typeAt f τ ≡ typeOf t → firstType f τ ≡ τ → d ≡ depth t → Indexed file (f ++ (term t ∷ [])) work′ k
+  unfolding earlier
+  indexed-term {τ} {t} S s first-is below type-is type-first depth-is =
+      let U = untouched f (S .changed) (record { no-type = λ a. omega arith; no-fun = λ a b. omega arith; no-term = λ a b. le-refl _; no-enum = λ a. omega arith }) in
+      let L = lists-term f t in
+      let A = term-added f t in
+      let K = types-kept f (term t) in
+      record {
+        index =
+            index-grown file f (term t) k U (I .index) room
+            (λ l. absurd (omega (arith, ap length (L .types-are))))
+            (λ l. absurd (omega (arith, ap length (L .funs-are))))
+            (λ l. record {
+              stands = rw (S .offset-is, A .name-added) (stands-all s);
+              first = S .first-is ∙ first-is ∙ sym (A .first-added);
+              type-below = rw (S .type-is) (omega (arith, more-append f (term t) .types-more));
+              type-is = rw (S .type-is, A .name-added) (K .name-kept τ below ∙ type-is);
+              type-first = rw (S .type-is) (K .first-kept τ below ∙ type-first);
+            })
+            (λ l. absurd (omega (arith, ap length (L .enums-are))));
+        depths =
+            depths-grown file f (term t) k U (I .depths)
+            (λ l. absurd (omega (arith, ap length (L .types-are))))
+            (λ l. S .depth-is ∙ depth-is ∙ ap depth (sym (A .name-added)));
+      }
+
+  pub indexed-enum : {name : Bytes} {members : List Bytes} → EnumStored k (length (enums f)) o work work′ → Stands file f (earlier f) o (enum name members) → Indexed file (f ++ (enum name members ∷ [])) work′ k
+  indexed-enum {name} {members} S s =
+      let U = untouched f (S .changed) (record { no-type = λ a. omega arith; no-fun = λ a b. omega arith; no-term = λ a b. omega arith; no-enum = λ a. le-refl _ }) in
+      let L = lists-enum f name members in
+      let last : getD (enums (f ++ (enum name members ∷ []))) (length (enums f)) ([], []) ≡ (name, members) = rw (L .enums-are) (getD-append-seam (enums f) (name, members) [] ([], [])) in
+      record {
+        index =
+            index-grown file f (enum name members) k U (I .index) room
+            (λ l. absurd (omega (arith, ap length (L .types-are))))
+            (λ l. absurd (omega (arith, ap length (L .funs-are))))
+            (λ l. absurd (omega (arith, ap length (L .terms-are))))
+            (λ l. rw last record { stands = rw (S .offset-is) (s .reads ∙ ap some (enum-entry f (s .entry) name members (s .names))) });
+        depths =
+            depths-grown file f (enum name members) k U (I .depths)
+            (λ l. absurd (omega (arith, ap length (L .types-are))))
+            (λ l. absurd (omega (arith, ap length (L .terms-are))));
+      }
+
+-- an input has no row
+pub indexed-input : {file : Bytes} {f : TermFile} {work : List ℕ} {k : ℕ} → Indexed file f work k → suc (length f) ≤ k → (t : Tm) → Indexed file (f ++ (input t ∷ [])) work k
+indexed-input {file} {f} {work} {k} I room t =
+    let n = length (types f) in
+    let U = untouched f {n = n} (changed-refl k 0 0 n work) (record { no-type = λ a. le-refl _; no-fun = λ a b. omega arith; no-term = λ a b. omega arith; no-enum = λ a. omega arith }) in
+    let L = lists-input f t in
+    record {
+      index =
+          index-grown file f (input t) k U (I .index) room
+          (λ l. absurd (omega (arith, ap length (L .types-are))))
+          (λ l. absurd (omega (arith, ap length (L .funs-are))))
+          (λ l. absurd (omega (arith, ap length (L .terms-are))))
+          (λ l. absurd (omega (arith, ap length (L .enums-are))));
+      depths =
+          depths-grown file f (input t) k U (I .depths)
+          (λ l. absurd (omega (arith, ap length (L .types-are))))
+          (λ l. absurd (omega (arith, ap length (L .terms-are))));
+    }

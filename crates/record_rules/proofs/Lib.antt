@@ -1,0 +1,12 @@
+pub mod Texts
+pub mod Lists
+pub mod Decided
+pub mod Ordered
+pub mod Elements
+pub mod Marks
+pub mod Shapes
+pub mod RecordLaws
+pub mod Places
+pub mod EnumLaws
+pub mod Operators
+pub mod TermLaws

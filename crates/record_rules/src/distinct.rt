@@ -1,0 +1,53 @@
+// Terms of a list that differ, by the numbers of first equal terms.
+use field::Cursor;
+use field::ReadNumber;
+ghost use Rattle.script_spec.specs.Fields.{u32};
+ghost use Rattle.record_rules.specs.Decided.{Decides};
+ghost use Rattle.record_rules.specs.Tests.{anyFirst, differentTerms};
+
+// Whether one of so many references has a first equal number.
+fn any_first(body: &[u8], work: &[u32], k: usize, first: u32, from: usize, count: u32) -> bool
+    ensures { λ r. ⌜ Decides u32 (anyFirst (now (work .entry)) k first) (now (body .entry)) from count r ⌝ }
+{
+    let mut at = from;
+    let mut left = count;
+    while 0 < left {
+        match (Cursor { at }).u32_le(body) {
+            ReadNumber::Bad(_) => {
+                return false;
+            }
+            ReadNumber::Value(n, d) => {
+                if index::get(work, k, index::TERM_FIRST, n as usize) == first {
+                    return true;
+                }
+                at = d.at;
+            }
+        }
+        left -= 1;
+    }
+    false
+}
+
+// Whether no two of so many references from a place of the body on have the same first equal number.
+pub fn differ(body: &[u8], work: &[u32], k: usize, from: usize, count: u32) -> bool
+    ensures { λ r. ⌜ Decides u32 (differentTerms (now (work .entry)) k) (now (body .entry)) from count r ⌝ }
+{
+    let mut at = from;
+    let mut left = count;
+    while 0 < left {
+        match (Cursor { at }).u32_le(body) {
+            ReadNumber::Bad(_) => {
+                return true;
+            }
+            ReadNumber::Value(n, d) => {
+                let first = index::get(work, k, index::TERM_FIRST, n as usize);
+                if any_first(body, work, k, first, d.at, left - 1) {
+                    return false;
+                }
+                at = d.at;
+            }
+        }
+        left -= 1;
+    }
+    true
+}

@@ -1,0 +1,49 @@
+// Rules 9 and 10 of a term that stands at an offset of the file.
+use crate::record::body_at;
+use crate::record::letter;
+use crate::record::list_ascends;
+use crate::record::list_differs;
+ghost use mathlib.Core.Path.{_≡_};
+ghost use lib.ListN.{getD};
+ghost use Rattle.index.specs.Standing.{bodyAt};
+ghost use Rattle.record_rules.specs.Terms.{TermRule};
+
+// The code of an application's operator.
+fn code_at(file: &[u8], o: usize) -> u8
+    ensures { λ r. ⌜ r ≡ getD (bodyAt (now (file .entry)) o) 4 0 ⌝ }
+{
+    let body = body_at(file, o);
+    if body.len() <= 4 {
+        return 0;
+    }
+    body[4]
+}
+
+// The number of the rule of 9 and 10 that is broken, or 0; `depth` is the greatest of the arguments' depths, 0 where there are none.
+pub fn broken_rule(file: &[u8], work: &[u32], k: usize, o: usize, depth: u32) -> u32
+    ensures { λ r. ⌜ TermRule (now (file .entry)) (now (work .entry)) k o depth r ⌝ }
+{
+    let mark = letter(file, o);
+    if mark == b'C' {
+        if list_differs(body_at(file, o), work, k, 4) {
+            return 0;
+        }
+        return 9;
+    }
+    if mark == b'R' {
+        if list_ascends(body_at(file, o), true, 0) {
+            return 0;
+        }
+        return 9;
+    }
+    if mark == b'A' {
+        if depth != 0 {
+            return 0;
+        }
+        if code_at(file, o) == 26 {
+            return 0;
+        }
+        return 10;
+    }
+    0
+}

@@ -1,0 +1,2 @@
+pub mod Equal
+pub mod Numbers

@@ -1,0 +1,48 @@
+-- What a search among the records of one kind finds: a record equal to the one that is looked for, or that there is none.
+-- Assumes nothing.
+use mathlib.Core.Path.{_≡_}
+use mathlib.Core.Logic.{_⊎_}
+use Prim.Native.Nat.{ℕ, _<_}
+use mathlib.Core.Bool.{Bool}
+use mathlib.Core.List.{List}
+use mathlib.Core.Option.{some}
+use Rattle.script_spec.specs.Base.{Bytes}
+use Rattle.script_spec.specs.Fields.{Entry}
+use Rattle.script_spec.specs.File.{TermFile, earlier}
+use Rattle.index.specs.Cells.{cell}
+use Rattle.index.specs.First.{canonical, InRange}
+use Rattle.index.specs.Standing.{entryAt}
+use Rattle.index.specs.Meaning.{Index}
+use Rattle.compare.specs.View.{Decides}
+
+-- the entry x is read at an offset, and refers to records of f only
+pub record At (file : Bytes) (f : TermFile) (o : ℕ) (x : Entry) : Type 0 where
+  pub reads : entryAt file o ≡ some x
+  pub in-range : InRange (earlier f) x
+
+-- r is whether the entries at two offsets are equal with first equal numbers for their references
+pub record SameAt (file : Bytes) (work : List ℕ) (k o p : ℕ) (r : Bool) : Type 0 where
+  pub go : (f : TermFile) → Index file f work k → (x y : Entry) → At file f o x → At file f p y → Decides r (canonical f x ≡ canonical f y)
+
+-- what is looked for, and the entries ε among which it is, by their offsets in a column
+pub record Looks (file : Bytes) (work : List ℕ) (k offsets count o : ℕ) (f : TermFile) (x : Entry) (ε : ℕ → Entry) : Type 0 where
+  pub index : Index file f work k
+  pub sought : At file f o x
+  pub rows : (n : ℕ) → n < count → At file f (cell work k offsets n) (ε n)
+
+module _ (f : TermFile) (x : Entry) (ε : ℕ → Entry) (count : ℕ) where
+  -- an entry that is equal, with the number that its row has in the column of first numbers
+  pub record Hit (first : ℕ → ℕ) (r : ℕ) : Type 0 where
+    pub number : ℕ
+    pub below : number < count
+    pub equal : canonical f (ε number) ≡ canonical f x
+    pub is : r ≡ first number
+
+  -- no entry is equal
+  pub record Miss (r : ℕ) : Type 0 where
+    pub none : (n : ℕ) → n < count → canonical f (ε n) ≡ canonical f x → ⊥
+    pub is : r ≡ count
+
+-- what the search answers
+pub record Finds (file : Bytes) (work : List ℕ) (k offsets firsts count o r : ℕ) : Type 0 where
+  pub go : (f : TermFile) (x : Entry) (ε : ℕ → Entry) → Looks file work k offsets count o f x ε → Hit f x ε count (cell work k firsts) r ⊎ Miss f x ε count r
