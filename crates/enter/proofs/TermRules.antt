@@ -208,10 +208,10 @@ module _ {file : Bytes} {work : List ℕ} {k o n r : ℕ} (octets : Octets file)
   told : {f : TermFile} {t : Tm} (I : Indexed file f work k) (P : Parts file f o t) → ruleTold r ≡ broken (listRulesBy f (cell work k termFirst) (P .m) (P .rs))
   told {f} I P = R .go f (P .m) (P .rs) (λ i. depth (termAt f i)) (λ i. depth-positive (termAt f i)) (is ∙ deepest-is I P octets ∙ deepest-terms I P) (P .reads)
 
-  module _ {work′ : List ℕ} {types count : ℕ} where
-    pub term-broken : (r ≡ 0 → ⊥) → EntersTerm file work work′ k types count o (Broken r)
+  module _ {types count : ℕ} where
+    pub term-broken : (r ≡ 0 → ⊥) → EntersTerm file work work k types count o (Broken r)
     term-broken h =
-        record { go = λ f I c c′ room t s. let P = stands-parts s in ap broken (term-rules I P) ∙ broken-first _ (listRulesBy f (cell work k termFirst) (P .m) (P .rs)) (sym (told I P) ∙ told-some r h) }
+        record { go = λ f I c c′ room t s. let P = stands-parts s in record { rule = ap broken (term-rules I P) ∙ broken-first _ (listRulesBy f (cell work k termFirst) (P .m) (P .rs)) (sym (told I P) ∙ told-some r h); unchanged = refl } }
 
   module _ {types ty : ℕ} (T : TypeSought file work k types o ty) (h : r ≡ 0) where
     -- what is sought is the place of the type
@@ -228,33 +228,33 @@ module _ {file : Bytes} {work : List ℕ} {k o n r : ℕ} (octets : Octets file)
     unfolding isSome
     listed g {f} I c P = rules-left I P ∙ broken-later 12 _ (ap isSome (sought-some (sought I P) types ty (sought-is f I c P) g))
 
-    module _ {work′ : List ℕ} {count : ℕ} where
-      pub term-unlisted : types ≤ ty → EntersTerm file work work′ k types count o (Broken 12)
+    module _ {count : ℕ} where
+      pub term-unlisted : types ≤ ty → EntersTerm file work work k types count o (Broken 12)
       unfolding typeCount isSome
       term-unlisted g =
           record {
             go = λ f I c c′ room t s.
                 let P = stands-parts s in
                 let q = sought-none (sought I P) types ty (sought-is f I c P) (λ m e. rw c (sought-below I P m e)) g in
-                rules-left I P ∙ broken-here 12 _ (ap isSome q);
+                record { rule = rules-left I P ∙ broken-here 12 _ (ap isSome q); unchanged = refl };
           }
 
       module _ (g : ty < types) where
-        pub term-many : 60000 ≤ count → EntersTerm file work work′ k types count o (Broken 13)
+        pub term-many : 60000 ≤ count → EntersTerm file work work k types count o (Broken 13)
         unfolding termCount
-        term-many d = record { go = λ f I c c′ room t s. let P = stands-parts s in listed g I c P ∙ broken-here 13 _ (rw (← c′, le-ltb count 60000 d)) }
+        term-many d = record { go = λ f I c c′ room t s. let P = stands-parts s in record { rule = listed g I c P ∙ broken-here 13 _ (rw (← c′, le-ltb count 60000 d)); unchanged = refl } }
 
-        pub term-deep : count < 60000 → 255 < n → EntersTerm file work work′ k types count o (Broken 13)
+        pub term-deep : count < 60000 → 255 < n → EntersTerm file work work k types count o (Broken 13)
         unfolding termCount
         term-deep d e =
             record {
               go = λ f I c c′ room t s.
                   let P = stands-parts s in
                   let q : n ≡ deepest I P = is ∙ deepest-is I P octets in
-                  listed g I c P ∙ broken-here 13 _ (rw (← c′, lt-ltb count 60000 d, ← q, lt-leb (suc n) 256 (omega arith)));
+                  record { rule = listed g I c P ∙ broken-here 13 _ (rw (← c′, lt-ltb count 60000 d, ← q, lt-leb (suc n) 256 (omega arith))); unchanged = refl };
             }
 
-        pub term-entered : count < 60000 → n ≤ 255 → StoresTerm file work work′ k count o ty (n + 1) → EntersTerm file work work′ k types count o Done
+        pub term-entered : {work′ : List ℕ} → count < 60000 → n ≤ 255 → StoresTerm file work work′ k count o ty (n + 1) → EntersTerm file work work′ k types count o Done
         unfolding termCount
         term-entered d e S =
             record {

@@ -1,6 +1,6 @@
 -- A type is entered: the rules by its numbers, and its row.
 -- Assumes nothing.
-use mathlib.Core.Path.{_≡_, sym, ap, _∙_}
+use mathlib.Core.Path.{_≡_, refl, sym, ap, _∙_}
 use Prim.Native.Nat.{ℕ, suc, _+_, _≤_, _<_}
 use native.Mathlib.Omega.{arith}
 use native.Mathlib.Numerals.{add-one}
@@ -104,26 +104,26 @@ stands-parts s = parts (s .entry) (s .reads) (s .in-range) (s .names)
 ascends-is : {file : Bytes} {o : ℕ} {b : Bool} → TypeAscends file o b → {f : TermFile} {t : Ty} (P : Parts file f o t) → ifSome ascending (attributes (node (P .m) nil)) ≡ b
 ascends-is A P = sym (A .go (P .m) (P .rs) (P .reads))
 
-module _ (file : Bytes) (work : List ℕ) {work′ : List ℕ} (k count o : ℕ) {b : Bool} (A : TypeAscends file o b) where
-  pub type-unordered : b ≡ false → Enters type typeCount file work work′ k count o (Broken 9)
-  type-unordered h = record { go = λ f I c room t s. let P = stands-parts s in ap broken (type-rules I P) ∙ broken-here 9 _ (ascends-is A P ∙ h) }
+module _ (file : Bytes) (work : List ℕ) (k count o : ℕ) {b : Bool} (A : TypeAscends file o b) where
+  pub type-unordered : b ≡ false → Enters type typeCount file work work k count o (Broken 9)
+  type-unordered h = record { go = λ f I c room t s. let P = stands-parts s in record { rule = ap broken (type-rules I P) ∙ broken-here 9 _ (ascends-is A P ∙ h); unchanged = refl } }
 
-  pub type-many : b ≡ true → 60000 ≤ count → Enters type typeCount file work work′ k count o (Broken 13)
+  pub type-many : b ≡ true → 60000 ≤ count → Enters type typeCount file work work k count o (Broken 13)
   unfolding typeCount
-  type-many h g = record { go = λ f I c room t s. let P = stands-parts s in ap broken (type-rules I P) ∙ broken-later 9 _ (ascends-is A P ∙ h) ∙ broken-here 13 _ (rw (← c, le-ltb count 60000 g)) }
+  type-many h g = record { go = λ f I c room t s. let P = stands-parts s in record { rule = ap broken (type-rules I P) ∙ broken-later 9 _ (ascends-is A P ∙ h) ∙ broken-here 13 _ (rw (← c, le-ltb count 60000 g)); unchanged = refl } }
 
   module _ {n : ℕ} (octets : Octets file) (is : n ≡ greatest (numbers 2 (map (viewed work k Depth) (segmentsAt file o)))) where
-    pub type-deep : b ≡ true → count < 60000 → 255 < n → Enters type typeCount file work work′ k count o (Broken 13)
+    pub type-deep : b ≡ true → count < 60000 → 255 < n → Enters type typeCount file work work k count o (Broken 13)
     unfolding typeCount
     type-deep h g d =
         record {
           go = λ f I c room t s.
               let P = stands-parts s in
               let q : n ≡ deepest I P = is ∙ deepest-is I P octets in
-              ap broken (type-rules I P) ∙ broken-later 9 _ (ascends-is A P ∙ h) ∙ broken-here 13 _ (rw (← c, lt-ltb count 60000 g, ← q, lt-leb (suc n) 256 (omega arith)));
+              record { rule = ap broken (type-rules I P) ∙ broken-later 9 _ (ascends-is A P ∙ h) ∙ broken-here 13 _ (rw (← c, lt-ltb count 60000 g, ← q, lt-leb (suc n) 256 (omega arith))); unchanged = refl };
         }
 
-    pub type-entered : b ≡ true → count < 60000 → n ≤ 255 → StoresType file work work′ k count o (n + 1) → Enters type typeCount file work work′ k count o Done
+    pub type-entered : {work′ : List ℕ} → b ≡ true → count < 60000 → n ≤ 255 → StoresType file work work′ k count o (n + 1) → Enters type typeCount file work work′ k count o Done
     unfolding typeCount
     type-entered h g d S =
         record {

@@ -32,7 +32,7 @@ pub record StoresTerm (file : Bytes) (work work′ : List ℕ) (k count o ty dee
 
 -- a term at an offset is entered after the records f, of which `types` are types and `count` are terms
 pub record EntersTerm (file : Bytes) (work work′ : List ℕ) (k types count o : ℕ) (r : Entered) : Type 0 where
-  pub go : (f : TermFile) → Indexed file f work k → types ≡ typeCount f → count ≡ termCount f → suc (length f) ≤ k → (t : Tm) → Stands file f (earlier f) o (term t) → Outcome file f work′ k (term t) r
+  pub go : (f : TermFile) → Indexed file f work k → types ≡ typeCount f → count ≡ termCount f → suc (length f) ≤ k → (t : Tm) → Stands file f (earlier f) o (term t) → Outcome file f work work′ k (term t) r
 
 -- it is entered where `ty` is the number of its type
 pub record EntersTyped (file : Bytes) (work work′ : List ℕ) (k types count o ty : ℕ) (r : Entered) : Type 0 where
