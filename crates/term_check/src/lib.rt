@@ -1,4 +1,5 @@
 // Check: a file's records one after the other, with refusals 1 to 13, and the index that this fills.
+pub mod kinds;
 pub mod next;
 
 // Check's answer: acceptance, or a refusal's number and place.
