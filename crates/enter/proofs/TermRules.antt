@@ -36,8 +36,9 @@ use Rattle.compare.proofs.Depths.{numbers-terms}
 use Rattle.search.specs.Found.{Finds}
 use Rattle.search.proofs.Numbers.{term-found}
 use Rattle.record_rules.specs.Terms.{ruleTold, TermRule}
+use Rattle.term_type.specs.Sought.{TypeSought}
 use Rattle.enter.specs.Entering.{typeCount}
-use Rattle.enter.specs.Terms.{termCount, TypeSought, StoresTerm, EntersTerm}
+use Rattle.enter.specs.Terms.{termCount, StoresTerm, EntersTerm}
 use Rattle.enter.proofs.FirstBroken.{broken-here, broken-later, none-broken}
 use Rattle.enter.specs.declared.Entered.the-variants.{Done, Broken}
 
