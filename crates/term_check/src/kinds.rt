@@ -90,3 +90,23 @@ pub fn next_fun(file: &[u8], work: &mut [u32], at: usize, to: usize, c: Counts) 
         ),
     }
 }
+
+// Enters a term.
+pub fn next_term(file: &[u8], work: &mut [u32], at: usize, to: usize, c: Counts) -> Step
+    ensures { λ r. ⌜ StepsOver 88 (now (file .entry)) (now (work .entry)) (now (work .exit)) at to c r ⌝ }
+{
+    let k = index::capacity(file.len());
+    let terms = more(c.terms);
+    match enter::terms::enter_term(file, work, k, c.types, c.terms, narrow(at)) {
+        Entered::Broken(n) => Step::Bad(n),
+        Entered::Done => Step::To(
+            to,
+            Counts {
+                types: c.types,
+                funs: c.funs,
+                terms,
+                enums: c.enums,
+            },
+        ),
+    }
+}
