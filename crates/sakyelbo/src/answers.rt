@@ -1,0 +1,44 @@
+// Answers as numbers.
+use term_check::Checked;
+use writer::Written;
+ghost use mathlib.Core.Path.{_≡_};
+ghost use Prim.Native.Nat.{_+_, _*_};
+ghost use Rattle.writer.specs.Writing.{answer};
+ghost use Rattle.sakyelbo.specs.Answers.{checkedCode, Says};
+
+// A refusal as one number.
+fn refusal(number: u32, place: u32) -> u64
+    ensures { λ r. ⌜ r ≡ number * 4294967296 + place ⌝ }
+{
+    (number as u64) * 4294967296 + (place as u64)
+}
+
+// Check's answer as one number.
+pub fn of_check(checked: Checked) -> u64
+    ensures { λ r. ⌜ r ≡ checkedCode checked ⌝ }
+{
+    match checked {
+        Checked::Accepted => 0,
+        Checked::Refused(number, place) => refusal(number, place),
+    }
+}
+
+// The answer of a call that writes: the length behind `size`, and the number.
+pub fn of_write(written: Written, size: &mut usize) -> u64
+    ensures { λ r. ⌜ Says (answer written) (now (size .exit)) r ⌝ }
+{
+    match written {
+        Written::Length(n) => {
+            *size = n;
+            0
+        }
+        Written::NotUtf8 => {
+            *size = 0;
+            refusal(6, 0)
+        }
+        Written::NoRoom => {
+            *size = 0;
+            refusal(20, 0)
+        }
+    }
+}
