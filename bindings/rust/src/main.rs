@@ -1,0 +1,83 @@
+//! The command `sakyelbo`: checks term files.
+use std::fs::File;
+use std::io::{stdin, Read, Result};
+use std::process::ExitCode;
+
+const HELP: &str = "\
+Checks term files of Cedar's terms.
+
+    sakyelbo check FILE     says `accepted`, or why the file is refused
+    sakyelbo --help         says this
+
+FILE is a term file of at most 1,048,576 bytes; `-` is standard input. tools/termfile writes one from a readable text.
+A refusal is written to standard error as `refused N record P`, with what is wrong behind it.
+
+The exit status is 0, or 1 for a refusal, or 2 for bad usage and files that cannot be read.
+";
+
+/// What the arguments ask for.
+enum Request {
+    Help,
+    Check(String),
+}
+
+/// Reads the arguments; nothing where they ask for nothing that there is.
+fn request(args: &[String]) -> Option<Request> {
+    match args.iter().map(String::as_str).collect::<Vec<_>>()[..] {
+        ["--help" | "-h" | "help"] => Some(Request::Help),
+        ["check", file] => Some(Request::Check(file.to_string())),
+        _ => None,
+    }
+}
+
+/// The bytes of a file or of standard input, cut at one byte more than a file may have.
+fn read(name: &str) -> Result<Vec<u8>> {
+    let most = sakyelbo::LONGEST_FILE as u64 + 1;
+    let mut bytes = Vec::new();
+    match name {
+        "-" => stdin().lock().take(most).read_to_end(&mut bytes)?,
+        _ => File::open(name)?.take(most).read_to_end(&mut bytes)?,
+    };
+    Ok(bytes)
+}
+
+/// Says a refusal.
+fn refused(refusal: sakyelbo::Refusal) -> ExitCode {
+    eprintln!("refused {} record {}: {refusal}", refusal.number, refusal.place);
+    ExitCode::from(1)
+}
+
+/// Says what went wrong outside the library.
+fn failed(what: &str, why: &dyn std::fmt::Display) -> ExitCode {
+    eprintln!("sakyelbo: {what}: {why}");
+    ExitCode::from(2)
+}
+
+fn check(name: &str) -> ExitCode {
+    let file = match read(name) {
+        Ok(bytes) => bytes,
+        Err(why) => return failed(name, &why),
+    };
+    match sakyelbo::check(&file) {
+        Ok(()) => {
+            println!("accepted");
+            ExitCode::SUCCESS
+        }
+        Err(refusal) => refused(refusal),
+    }
+}
+
+fn main() -> ExitCode {
+    let args: Vec<String> = std::env::args_os().skip(1).map(|a| a.to_string_lossy().into_owned()).collect();
+    match request(&args) {
+        Some(Request::Help) => {
+            print!("{HELP}");
+            ExitCode::SUCCESS
+        }
+        Some(Request::Check(name)) => check(&name),
+        None => {
+            eprint!("{HELP}");
+            ExitCode::from(2)
+        }
+    }
+}
