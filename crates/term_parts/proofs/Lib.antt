@@ -1,3 +1,3 @@
 pub mod Sound
 pub mod Rows
-pub mod AtomLaws
+pub mod Numbered

@@ -1,4 +1,4 @@
-// Terms as they are spelled where they are used: literals, members of enums and the `false` of a `Bvnego` in full, others by name.
+// Parts of the lines of terms: names, truth values, texts, and the names of members and attributes.
 use field::Span;
 use term_entry::TermEntry;
 ghost use mathlib.Core.Path.{_≡_};
@@ -9,7 +9,7 @@ ghost use Rattle.field.specs.Answers.{spanned};
 ghost use Rattle.index.specs.Cells.{cell, termOffset};
 ghost use Rattle.index.specs.Standing.{bodyAt};
 ghost use Rattle.term_entry.specs.Terms.{TermAt};
-ghost use Rattle.atom.specs.Atoms.{truth, nameOf, SpellsNumbered};
+ghost use Rattle.term_parts.specs.Parts.{truth, nameOf, SpellsNumbered};
 
 // The term with number n.
 pub fn term_at(file: &[u8], work: &[u32], k: usize, n: u32) -> TermEntry
@@ -49,7 +49,7 @@ pub fn put_term_name(
 }
 
 // Writes a truth value.
-fn put_bool(out: &mut [u8], at: usize, limit: usize, b: bool) -> usize
+pub fn put_bool(out: &mut [u8], at: usize, limit: usize, b: bool) -> usize
     ensures { λ r. ⌜ Appends limit (now (out .entry)) at (now (out .exit)) r (truth b) ⌝ }
 {
     if b {

@@ -1,10 +1,10 @@
--- `atom::put_string` meets its contract.
+-- `term_parts::put_string` meets its contract.
 -- Assumes nothing.
 use Rattle.writer.proofs.Laws.{says}
 use Rattle.field.specs.Answers.{spanned}
 use borrow.Author.Needs.{needs}
-use Rattle.atom.proofs.put_string.Statement.{statement}
-use Rattle.atom.proofs.put_string.Tie as tie
+use Rattle.term_parts.proofs.put_string.Statement.{statement}
+use Rattle.term_parts.proofs.put_string.Tie as tie
 
 returns : tie.Need-returns
 unfolding spanned

@@ -4,37 +4,20 @@ use mathlib.Core.Path.{_≡_, sym, subst}
 use mathlib.Core.List.{List, map}
 use mathlib.Core.Option.{Option, none, some}
 use Prim.Native.Nat.{ℕ, _<_}
-use native.Mathlib.Omega.{arith}
 use lib.ListN.{length}
 use Rattle.script_spec.specs.Base.{Bytes}
-use Rattle.script_spec.specs.Tree.{Tm, TermMark, node, forest}
+use Rattle.script_spec.specs.Tree.{TermMark, node, forest}
 use Rattle.script_spec.specs.Fields as fields
-use Rattle.script_spec.specs.Fields.{Entry, Earlier}
-use Rattle.script_spec.specs.File as file
-use Rattle.script_spec.specs.File.{TermFile, types, funs, terms, termAt, namedMark, named}
+use Rattle.script_spec.specs.Fields.{Entry}
+use Rattle.script_spec.specs.File.{TermFile, types, funs, terms, termAt, namedMark}
 use Rattle.index.specs.Cells.{cell, termOffset}
-use Rattle.index.specs.First.{InRange, MarkInRange, Below}
-use Rattle.index.specs.Standing.{bodyAt, entryAt}
-use Rattle.index.specs.Meaning.{Stands, Index, counted}
+use Rattle.index.specs.First.{MarkInRange, Below}
+use Rattle.index.specs.Standing.{bodyAt}
+use Rattle.index.specs.Meaning.{Index, counted}
+use Rattle.entry.proofs.TermRows.{term-stands}
 use Rattle.term_entry.specs.Terms.{termSaid, TermAt}
 use Rattle.term_entry.specs.declared.TermEntry.{TermEntry}
-use Rattle.atom.proofs.Sound.{Sound, TermSound, sound-at}
-
-never : {A : Type 0} → _≡_ {A = ℕ} 0 1 → A
-never h = absurd (omega arith)
-
--- what a record that names a term is
-pub term-stands : {P : Type 0} {s : Bytes} {f : TermFile} {e : Earlier} {o : ℕ} {t : Tm} → Stands s f e o (file.term t)
-    → ((m : TermMark ℕ ℕ) (rs : List ℕ) → entryAt s o ≡ some (fields.term m rs) → MarkInRange e m → Below (e .terms) rs → node (namedMark f m) (forest (map (termAt f) rs)) ≡ t → P) → P
-unfolding named InRange
-term-stands {P} {s} {f} {e} {o} {t} row next = go (row .entry) (row .reads) (row .in-range) (row .names)
-  where
-    go : (x : Entry) → entryAt s o ≡ some x → InRange e x → named f x ≡ file.term t → P
-    go (fields.type m rs) reads below names = never (cc)
-    go (fields.enum n ms) reads below names = never (cc)
-    go (fields.func id a r) reads below names = never (cc)
-    go (fields.term m rs) reads below names = next m rs reads (below .0) (below .1) (cc)
-    go (fields.input n) reads below names = never (cc)
+use Rattle.term_parts.proofs.Sound.{Sound, TermSound, sound-at}
 
 -- the term with number n has this mark and these children
 pub record TermIs (f : TermFile) (n : ℕ) (m : TermMark ℕ ℕ) (rs : List ℕ) : Type 0 where

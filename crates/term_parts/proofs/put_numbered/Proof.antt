@@ -1,9 +1,9 @@
--- `atom::put_numbered` meets its contract.
+-- `term_parts::put_numbered` meets its contract.
 -- Assumes nothing.
-use Rattle.atom.proofs.AtomLaws.{spells-numbered}
+use Rattle.term_parts.proofs.Numbered.{spells-numbered}
 use borrow.Author.Needs.{needs}
-use Rattle.atom.proofs.put_numbered.Statement.{statement}
-use Rattle.atom.proofs.put_numbered.Tie as tie
+use Rattle.term_parts.proofs.put_numbered.Statement.{statement}
+use Rattle.term_parts.proofs.put_numbered.Tie as tie
 
 pub put-numbered-spec : {M : Type 1} → statement M
 put-numbered-spec =

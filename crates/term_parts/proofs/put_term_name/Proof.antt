@@ -1,11 +1,11 @@
--- `atom::put_term_name` meets its contract.
+-- `term_parts::put_term_name` meets its contract.
 -- Assumes nothing.
 use Rattle.script_spec.specs.Base.{bytes}
 use Rattle.writer.proofs.Laws.{says}
-use Rattle.atom.specs.Atoms.{nameOf}
+use Rattle.term_parts.specs.Parts.{nameOf}
 use borrow.Author.Needs.{needs}
-use Rattle.atom.proofs.put_term_name.Statement.{statement}
-use Rattle.atom.proofs.put_term_name.Tie as tie
+use Rattle.term_parts.proofs.put_term_name.Statement.{statement}
+use Rattle.term_parts.proofs.put_term_name.Tie as tie
 
 returns : tie.Need-returns
 unfolding bytes nameOf

@@ -1,11 +1,11 @@
--- `atom::put_bool` meets its contract.
+-- `term_parts::put_bool` meets its contract.
 -- Assumes nothing.
 use Rattle.script_spec.specs.Base.{bytes}
 use Rattle.writer.proofs.Laws.{says}
-use Rattle.atom.specs.Atoms.{truth}
+use Rattle.term_parts.specs.Parts.{truth}
 use borrow.Author.Needs.{needs}
-use Rattle.atom.proofs.put_bool.Statement.{statement}
-use Rattle.atom.proofs.put_bool.Tie as tie
+use Rattle.term_parts.proofs.put_bool.Statement.{statement}
+use Rattle.term_parts.proofs.put_bool.Tie as tie
 
 returns : tie.Need-returns
 unfolding bytes truth
