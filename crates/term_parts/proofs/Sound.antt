@@ -4,14 +4,14 @@
 use Prim.Native.Nat.{ℕ, _≤_}
 use mathlib.Core.Path.{_≡_, refl}
 use mathlib.Core.Bool.{true}
-use mathlib.Core.List.{List, [], _∷_}
+use mathlib.Core.List.{[]}
 use mathlib.Core.Option.{Option, none, some, Option·none-ne-some}
 use lib.Dec.{leb, leb→le}
 use Rattle.script_spec.specs.Base.{Bytes, between, lookup, andThen}
 use Rattle.script_spec.specs.Utf8.{isUtf8}
 use Rattle.script_spec.specs.Tree.{TypeMark, Bool·, String·, Option·, Set·, BitVec·, Declared}
 use Rattle.script_spec.specs.Tree.{TermMark, Var, BoolLit, BitVecLit, StringLit, Entity, ExtLit, None, Some, Set, Record, App}
-use Rattle.script_spec.specs.Fields.{Entry, type, enum, func, term, input, Reader, _>>=_, u32, part, text, width, list, pair, ref, number, extType, value, entityRef, operator, marks, leaf, whole}
+use Rattle.script_spec.specs.Fields.{Entry, type, enum, func, term, input, Reader, u32, part, text, width, list, pair, ref, number, extType, value, entityRef, operator, marks, leaf, whole}
 use Rattle.script_spec.proofs.Laws.{and-parts, is-true}
 use Rattle.index.specs.Standing.{loose, entryRead, entryOf, entryAt}
 use Rattle.index.proofs.Readers.{Gives, Pairwise, Line, _&_, gives-pure, gives-bind, gives-after, gives-ensure, lookup-pairwise}
