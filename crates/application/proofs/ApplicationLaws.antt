@@ -30,7 +30,7 @@ use Rattle.term_entry.specs.declared.Children.{Children}
 use Rattle.query.specs.Negations.{negationSaid, NegationOf}
 use Rattle.query.specs.declared.Negated.{Negated}
 use Rattle.query.specs.declared.Negated.the-variants as answer
-use Rattle.term_parts.proofs.Rows.{TermIs}
+use Rattle.term_parts.specs.Records.{TermIs}
 use Rattle.term_value.specs.Arguments.{atoms, SpellsArguments, SpellsClosed}
 use Rattle.application.specs.Applications.{typesAt, headOf, patternBytes, PatternIs, SpellsHead, SpellsApplied, SpellsOperator, SpellsComparison, SpellsLike, SpellsApplication}
 use Rattle.term_value.proofs.ArgumentLaws.{headed-closed, headed-last}

@@ -13,7 +13,7 @@ use Rattle.index.specs.First.{All, Below}
 use Rattle.index.specs.Meaning.{Index}
 use Rattle.entry.proofs.Rows.{type-stands}
 use Rattle.term_parts.proofs.Sound.{Sound, TypeSound, sound-at}
-use Rattle.term_parts.proofs.Rows.{TermIs}
+use Rattle.term_parts.specs.Records.{TermIs}
 
 never : {A : Type 0} → _≡_ {A = ℕ} 0 1 → A
 never h = absurd (omega arith)

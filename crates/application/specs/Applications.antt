@@ -21,7 +21,7 @@ use Rattle.operator.specs.Operators.{opOf}
 use Rattle.operator.specs.declared.Op as operator
 use Rattle.term_entry.specs.Terms.{childrenIn}
 use Rattle.term_entry.specs.declared.Children.{Children}
-use Rattle.term_parts.proofs.Rows.{TermIs}
+use Rattle.term_parts.specs.Records.{TermIs}
 use Rattle.term_value.specs.Arguments.{atoms, SpellsOver}
 
 -- the types of the terms with these numbers

@@ -41,8 +41,8 @@ use Rattle.query.specs.Searches.{MemberSaid, FindsMember}
 use Rattle.query.specs.declared.Member.{Member}
 use Rattle.query.specs.declared.Member.the-variants as member
 use Rattle.query.proofs.Member as query
-use Rattle.term_parts.proofs.Sound.{TermSound}
-use Rattle.term_parts.proofs.Rows.{TermIs, EntryIs, term-here, entry-is}
+use Rattle.term_parts.specs.Records.{TermSound, TermIs}
+use Rattle.term_parts.proofs.Rows.{EntryIs, term-here, entry-is}
 use Rattle.atom.specs.Atoms.{SpellsAtom}
 use Rattle.atom.proofs.AtomLaws.{inlined-is}
 use Rattle.term_value.specs.Arguments.{atoms}

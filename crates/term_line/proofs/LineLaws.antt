@@ -28,7 +28,7 @@ use Rattle.term_entry.specs.declared.TermEntry.{TermEntry}
 use Rattle.term_entry.specs.declared.TermEntry.the-variants as entry
 use Rattle.term_entry.proofs.TermEntry.{the-type}
 use Rattle.term_parts.specs.Parts.{nameOf}
-use Rattle.term_parts.proofs.Sound.{TermSound}
+use Rattle.term_parts.specs.Records.{TermSound}
 use Rattle.term_parts.proofs.Rows.{EntryIs, term-here, entry-is}
 use Rattle.term_parts.proofs.Numbered.{name-is}
 use Rattle.atom.specs.Atoms.{SpellsAtom}

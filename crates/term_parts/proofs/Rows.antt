@@ -1,30 +1,23 @@
 -- A row of the index has the entry of a term: what the term that is read again says of the tree.
 -- Assumes nothing.
 use mathlib.Core.Path.{_≡_, sym, subst}
-use mathlib.Core.List.{List, map}
+use mathlib.Core.List.{List}
 use mathlib.Core.Option.{Option, none, some}
 use Prim.Native.Nat.{ℕ, _<_}
 use lib.ListN.{length}
 use Rattle.script_spec.specs.Base.{Bytes}
-use Rattle.script_spec.specs.Tree.{TermMark, node, forest}
+use Rattle.script_spec.specs.Tree.{TermMark}
 use Rattle.script_spec.specs.Fields as fields
 use Rattle.script_spec.specs.Fields.{Entry}
-use Rattle.script_spec.specs.File.{TermFile, types, funs, terms, termAt, namedMark}
+use Rattle.script_spec.specs.File.{TermFile, terms}
 use Rattle.index.specs.Cells.{cell, termOffset}
-use Rattle.index.specs.First.{MarkInRange, Below}
 use Rattle.index.specs.Standing.{bodyAt}
 use Rattle.index.specs.Meaning.{Index, counted}
 use Rattle.entry.proofs.TermRows.{term-stands}
 use Rattle.term_entry.specs.Terms.{termSaid, TermAt}
 use Rattle.term_entry.specs.declared.TermEntry.{TermEntry}
-use Rattle.term_parts.proofs.Sound.{Sound, TermSound, sound-at}
-
--- the term with number n has this mark and these children
-pub record TermIs (f : TermFile) (n : ℕ) (m : TermMark ℕ ℕ) (rs : List ℕ) : Type 0 where
-  pub tree : node (namedMark f m) (forest (map (termAt f) rs)) ≡ termAt f n
-  pub in-range : MarkInRange (counted (length (types f)) (length (funs f)) n) m
-  pub below : Below n rs
-  pub sound : TermSound m
+use Rattle.term_parts.specs.Records.{TermIs}
+use Rattle.term_parts.proofs.Sound.{Sound, sound-at}
 
 -- an entry is that of a term, which has its mark and its children
 abbrev pub EntryIs : TermFile → ℕ → Option Entry → Type 0

@@ -10,9 +10,9 @@ use lib.Dec.{leb, leb→le}
 use Rattle.script_spec.specs.Base.{Bytes, between, lookup, andThen}
 use Rattle.script_spec.specs.Utf8.{isUtf8}
 use Rattle.script_spec.specs.Tree.{TypeMark, Bool·, String·, Option·, Set·, BitVec·, Declared}
-use Rattle.script_spec.specs.Tree.{TermMark, Var, BoolLit, BitVecLit, StringLit, Entity, ExtLit, None, Some, Set, Record, App}
 use Rattle.script_spec.specs.Fields.{Entry, type, enum, func, term, input, Reader, u32, part, text, width, list, pair, ref, number, extType, value, entityRef, operator, marks, leaf, whole}
 use Rattle.script_spec.proofs.Laws.{and-parts, is-true}
+use Rattle.term_parts.specs.Records.{TermSound}
 use Rattle.index.specs.Standing.{loose, entryRead, entryOf, entryAt}
 use Rattle.index.proofs.Readers.{Gives, Pairwise, Line, _&_, gives-pure, gives-bind, gives-after, gives-ensure, lookup-pairwise}
 use Rattle.entry.proofs.Inverse.{entry-whole}
@@ -26,20 +26,7 @@ TypeSound Set· = Unit {0}
 TypeSound (BitVec· n) = n ≤ 128
 TypeSound (Declared d) = Unit {0}
 
--- the text of a variable, a literal or an entity
-unfoldable pub TermSound : TermMark ℕ ℕ → Type 0
-TermSound (Var id n) = isUtf8 id ≡ true
-TermSound (BoolLit b) = Unit {0}
-TermSound (BitVecLit n v) = Unit {0}
-TermSound (StringLit s) = isUtf8 s ≡ true
-TermSound (Entity n id) = isUtf8 id ≡ true
-TermSound (ExtLit v) = Unit {0}
-TermSound (None n) = Unit {0}
-TermSound Some = Unit {0}
-TermSound (Set n) = Unit {0}
-TermSound (Record names) = Unit {0}
-TermSound (App n op) = Unit {0}
-
+-- a record
 unfoldable pub Sound : Entry → Type 0
 Sound (type m rs) = TypeSound m
 Sound (enum n ms) = Unit {0}
