@@ -1,13 +1,24 @@
 // The terms of an accepted file, read again by their offsets.
 use bitvec::halves::Halves;
+use entry::lists;
 use field::Span;
 use operator::Op;
+ghost use mathlib.Core.Path.{_≡_};
+ghost use Prim.Native.Nat.{_+_, _<_};
+ghost use lib.ListN.{drop};
+ghost use Rattle.term_entry.specs.Children.{ahead, TakesChild};
 
 // The terms that a record refers to: so many numbers from a place of the body on, each after a text where `named`.
 pub struct Children {
     pub from: usize,
     pub left: u32,
     pub named: bool,
+}
+
+// The first of the terms that a record refers to, by its number, and the others.
+pub struct Child {
+    pub number: u32,
+    pub rest: Children,
 }
 
 // An extension value: an address and its prefix, or 64 bits.
@@ -34,4 +45,39 @@ pub enum TermEntry {
     Record(Children),
     App(u32, Op, Children),
     Unreadable,
+}
+
+// Where the number of the first child stands: after its name, where it has one.
+fn place_of_child(body: &[u8], from: usize, named: bool) -> usize
+    ensures { λ r. ⌜ drop r (now (body .entry)) ≡ ahead named (drop from (now (body .entry))) ⌝ }
+{
+    if named {
+        let name = lists::text_at(body, from);
+        return name.end;
+    }
+    from
+}
+
+fn one_less(n: u32) -> u32
+    ensures { λ r. ⌜ (0 < n → r + 1 ≡ n) ⌝ }
+{
+    if n == 0 {
+        return 0;
+    }
+    n - 1
+}
+
+// The first child and the others, where there is one.
+pub fn take_child(body: &[u8], c: Children) -> Child
+    ensures { λ r. ⌜ TakesChild (now (body .entry)) c r ⌝ }
+{
+    let named = c.named;
+    let at = place_of_child(body, c.from, named);
+    let number = entry::number_at(body, at);
+    let from = lists::past(body, at, 4);
+    let left = one_less(c.left);
+    Child {
+        number,
+        rest: Children { from, left, named },
+    }
 }
