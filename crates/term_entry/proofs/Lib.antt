@@ -1,1 +1,5 @@
 pub mod ChildLaws
+pub mod LeafEntries
+pub mod ValueEntries
+pub mod ParentEntries
+pub mod TermEntries

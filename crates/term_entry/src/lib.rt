@@ -1,11 +1,18 @@
 // The terms of an accepted file, read again by their offsets.
+mod leaves;
+mod parents;
+mod values;
+
 use bitvec::halves::Halves;
 use entry::lists;
 use field::Span;
 use operator::Op;
+use term_file::mark::Kind;
 ghost use mathlib.Core.Path.{_≡_};
 ghost use Prim.Native.Nat.{_+_, _<_};
 ghost use lib.ListN.{drop};
+ghost use Rattle.term_file.specs.Marks.{mark};
+ghost use Rattle.term_entry.specs.Terms.{IsTerm, TermAt};
 ghost use Rattle.term_entry.specs.Children.{ahead, TakesChild};
 
 // The terms that a record refers to: so many numbers from a place of the body on, each after a text where `named`.
@@ -80,4 +87,32 @@ pub fn take_child(body: &[u8], c: Children) -> Child
         number,
         rest: Children { from, left, named },
     }
+}
+
+// The term of a body under a mark.
+fn term_of(kind: Kind, body: &[u8]) -> TermEntry
+    ensures { λ r. ⌜ IsTerm (mark kind) (now (body .entry)) r ⌝ }
+{
+    match kind {
+        Kind::XV => leaves::variable(body),
+        Kind::XB => leaves::bool_lit(body),
+        Kind::XN => leaves::bit_vec_lit(body),
+        Kind::XS => leaves::string_lit(body),
+        Kind::XE => leaves::entity_lit(body),
+        Kind::XX => values::ext_lit(body),
+        Kind::X0 => leaves::none_of(body),
+        Kind::X1 => parents::some_of(body),
+        Kind::XC => parents::set_of(body),
+        Kind::XR => parents::record_of(body),
+        Kind::XA => parents::app_of(body),
+        _ => TermEntry::Unreadable,
+    }
+}
+
+// The term at an offset of the file.
+pub fn term_at(file: &[u8], offset: u32) -> TermEntry
+    ensures { λ r. ⌜ TermAt (now (file .entry)) offset r ⌝ }
+{
+    let kind = entry::kind_at(file, offset);
+    term_of(kind, entry::body_at(file, offset))
 }
