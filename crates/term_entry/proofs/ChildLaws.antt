@@ -1,11 +1,11 @@
 -- Laws of the terms that a record refers to: the first and the others, and that there are none.
 -- Assumes nothing.
-use Prim.Native.Nat.{ℕ, suc, _+_, _<_}
+use Prim.Native.Nat.{ℕ, zero, suc, _+_, _<_}
 use native.Mathlib.Omega.{arith}
 use mathlib.Core.Path.{_≡_, refl, sym, ap, _∙_}
 use mathlib.Core.Bool.{Bool, true, false}
 use mathlib.Core.List.{List, [], _∷_}
-use lib.ListN.{drop}
+use lib.ListN.{length, drop}
 use Rattle.script_spec.specs.Base.{Bytes, seconds}
 use Rattle.entry.specs.Places.{numberAt, namedItems, IsText}
 use Rattle.entry.specs.declared.lists.Text.{Text}
@@ -30,6 +30,17 @@ listed-first : (b : Bool) (n : ℕ) (s : Bytes) → listed b (suc n) s ≡ numbe
 unfolding references namedItems seconds ahead
 listed-first true n s = refl
 listed-first false n s = refl
+
+listed-length : (b : Bool) (n : ℕ) (s : Bytes) → length (listed b n s) ≡ n
+unfolding references namedItems seconds
+listed-length true zero s = refl
+listed-length true (suc n) s = ap suc (listed-length true n _)
+listed-length false zero s = refl
+listed-length false (suc n) s = ap suc (listed-length false n _)
+
+pub length-children : (body : Bytes) (c : Children) → length (childrenIn body c) ≡ c .left
+unfolding childrenIn
+length-children body c = listed-length (c .named) (c .left) (drop (c .from) body)
 
 -- ---- the first child
 

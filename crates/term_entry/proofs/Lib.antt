@@ -3,3 +3,4 @@ pub mod LeafEntries
 pub mod ValueEntries
 pub mod ParentEntries
 pub mod TermEntries
+pub mod ChildEntries

@@ -4,12 +4,12 @@ use Prim.Native.Nat.{ℕ, _+_, _<_}
 use mathlib.Core.Path.{_≡_}
 use mathlib.Core.Bool.{Bool, true, false}
 use mathlib.Core.List.{List, _∷_}
-use mathlib.Core.Option.{some}
+use mathlib.Core.Option.{Option, some}
 use lib.ListN.{drop}
 use Rattle.script_spec.specs.Base.{Bytes}
 use Rattle.script_spec.specs.Tree.{TermMark}
 use Rattle.script_spec.specs.Fields.{term}
-use Rattle.index.specs.Standing.{bodyAt, entryAt}
+use Rattle.index.specs.Standing.{bodyAt, entryOf, entryAt}
 use Rattle.entry.specs.Places.{textSize}
 use Rattle.term_entry.specs.Terms.{childrenIn}
 use Rattle.term_entry.specs.declared.Children.{Children}
@@ -24,6 +24,10 @@ ahead false s = s
 pub record TakesChild (body : Bytes) (c : Children) (r : Child) : Type 0 where
   pub splits : 0 < c .left → childrenIn body c ≡ r .number ∷ childrenIn body (r .rest)
   pub fewer : 0 < c .left → r .rest .left + 1 ≡ c .left
+
+-- a body that is a term under a mark has these children
+pub record IsChildren (mark : Option Bytes) (body : Bytes) (r : Children) : Type 0 where
+  pub go : (m : Bytes) (t : TermMark ℕ ℕ) (rs : List ℕ) → mark ≡ some m → entryOf m body ≡ some (term t rs) → childrenIn body r ≡ rs
 
 -- a record that is a term at an offset of a file has these children
 pub record ChildrenAt (file : Bytes) (offset : ℕ) (r : Children) : Type 0 where

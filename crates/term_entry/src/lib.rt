@@ -13,7 +13,7 @@ ghost use Prim.Native.Nat.{_+_, _<_};
 ghost use lib.ListN.{drop};
 ghost use Rattle.term_file.specs.Marks.{mark};
 ghost use Rattle.term_entry.specs.Terms.{IsTerm, TermAt};
-ghost use Rattle.term_entry.specs.Children.{ahead, TakesChild};
+ghost use Rattle.term_entry.specs.Children.{ahead, TakesChild, IsChildren, ChildrenAt};
 
 // The terms that a record refers to: so many numbers from a place of the body on, each after a text where `named`.
 pub struct Children {
@@ -115,4 +115,41 @@ pub fn term_at(file: &[u8], offset: u32) -> TermEntry
 {
     let kind = entry::kind_at(file, offset);
     term_of(kind, entry::body_at(file, offset))
+}
+
+// The children of a body under a mark.
+fn children_of(kind: Kind, body: &[u8]) -> Children
+    ensures { λ r. ⌜ IsChildren (mark kind) (now (body .entry)) r ⌝ }
+{
+    match kind {
+        Kind::X1 => Children {
+            from: 0,
+            left: 1,
+            named: false,
+        },
+        Kind::XC => Children {
+            from: 8,
+            left: entry::number_at(body, 4),
+            named: false,
+        },
+        Kind::XR => Children {
+            from: 4,
+            left: entry::number_at(body, 0),
+            named: true,
+        },
+        Kind::XA => parents::arguments(body),
+        _ => Children {
+            from: 0,
+            left: 0,
+            named: false,
+        },
+    }
+}
+
+// The children of the term at an offset of the file.
+pub fn children_at(file: &[u8], offset: u32) -> Children
+    ensures { λ r. ⌜ ChildrenAt (now (file .entry)) offset r ⌝ }
+{
+    let kind = entry::kind_at(file, offset);
+    children_of(kind, entry::body_at(file, offset))
 }

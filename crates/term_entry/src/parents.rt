@@ -13,6 +13,7 @@ ghost use Rattle.script_spec.specs.Fields.{operator};
 ghost use Rattle.field.specs.Reads.{Reads};
 ghost use Rattle.operator.specs.Operators.{opTold, uninterpreted};
 ghost use Rattle.term_entry.specs.Terms.{IsTerm};
+ghost use Rattle.term_entry.specs.Children.{IsChildren};
 
 // An option that has a value.
 pub fn some_of(body: &[u8]) -> TermEntry
@@ -95,6 +96,30 @@ pub fn app_of(body: &[u8]) -> TermEntry
                     named: false,
                 },
             )
+        }
+    }
+}
+
+// The arguments of an application.
+pub fn arguments(body: &[u8]) -> Children
+    ensures { λ r. ⌜ IsChildren (some (bytes "XA")) (now (body .entry)) r ⌝ }
+{
+    let c = Cursor { at: 4 };
+    match any_operator(c, body) {
+        ReadOp::Bad(_) => Children {
+            from: 0,
+            left: 0,
+            named: false,
+        },
+        ReadOp::Is(_, d) => {
+            let at = d.at;
+            let left = entry::number_at(body, at);
+            let from = lists::past(body, at, 4);
+            Children {
+                from,
+                left,
+                named: false,
+            }
         }
     }
 }

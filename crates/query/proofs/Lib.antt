@@ -1,0 +1,2 @@
+pub mod NegoLaws
+pub mod NegationLaws
