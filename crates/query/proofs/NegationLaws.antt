@@ -80,7 +80,7 @@ module _ (body : Bytes) {m : TypeMark} {rs : List ℕ} where
   not-bits-said entry.Unreadable h e = never (cc)
 
 module _ {file : Bytes} {work : List ℕ} {k t : ℕ} {r : TypeEntry} (T : TypeAt file (cell work k typeOffset t) r) where
-  type-here : {A : Type 0} (f : TermFile) → Index file f work k → t < length (types f)
+  pub type-here : {A : Type 0} (f : TermFile) → Index file f work k → t < length (types f)
       → ((m : TypeMark) (rs : List ℕ) → typeSaid (bodyAt file (cell work k typeOffset t)) r ≡ some (fields.type m rs) → node m (forest (map (typeAt f) rs)) ≡ typeAt f t → A) → A
   type-here f I l next = type-stands (I .type-row t l .stands) (λ m rs reads below tree. next m rs (T .go m rs reads) tree)
 

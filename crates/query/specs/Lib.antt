@@ -1,1 +1,2 @@
 pub mod Negations
+pub mod Searches
