@@ -1,4 +1,9 @@
-// Steps of the walk over one term whose type and children have been encoded.
+// Entering a term, and what its text, its pattern, its attribute or its operator asks for.
+pub mod attributes;
+pub mod operators;
+pub mod patterns;
+pub mod texts;
+
 use progress::Progress;
 ghost use mathlib.Core.Path.{_≡_};
 ghost use Rattle.term_step.specs.Steps.{Enters};
