@@ -56,7 +56,7 @@ went-write {limit = limit} {o = o} {out′ = out′} {S = S} {r = r} cs A W =
 -- ---- steps
 
 -- walks that are equal at every state
-sticky-same : (w v : Walk) (x : Step) → ((S : State) → w S ≡ v S) → sticky w x ≡ sticky v x
+pub sticky-same : (w v : Walk) (x : Step) → ((S : State) → w S ≡ v S) → sticky w x ≡ sticky v x
 unfolding sticky
 sticky-same w v (went S) h = h S
 sticky-same w v (stopped n t) h = refl
