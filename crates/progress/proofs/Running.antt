@@ -1,7 +1,7 @@
 -- One step of the walk: after a refusal nothing is left to do; a step that went may refuse, write commands, or be told in other words.
 -- Assumes nothing.
 use Prim.Native.Nat.{ℕ, _+_, _^_, _<_}
-use mathlib.Core.Path.{_≡_, sym, ap, subst}
+use mathlib.Core.Path.{_≡_, refl, sym, ap, subst}
 use mathlib.Core.List.{List, [], _∷_, _++_, append-nil}
 use native.Mathlib.Omega.{arith}
 use lib.ListN.{length}
@@ -55,6 +55,12 @@ went-write {limit = limit} {o = o} {out′ = out′} {S = S} {r = r} cs A W =
 
 -- ---- steps
 
+-- walks that are equal at every state
+pub sticky-same : (w v : Walk) (x : Step) → ((S : State) → w S ≡ v S) → sticky w x ≡ sticky v x
+unfolding sticky
+sticky-same w v (went S) h = h S
+sticky-same w v (stopped n t) h = refl
+
 module _ {file : Bytes} {k many limit : ℕ} {ready : TermFile → Step → Type 0} {walk : TermFile → Walk} {work : List ℕ} {out : Bytes} {p : Progress} where
   -- after a refusal nothing is done
   pub advances-refused : (p .refused ≡ 0 → ⊥) → Advances file k many limit ready walk work out p work out p
@@ -88,6 +94,18 @@ module _ {file : Bytes} {k many limit : ℕ} {ready : TermFile → Step → Type
           kept = A .kept;
           go = λ f o x I small n r H.
               subst (λ (w : Walk). Holds f k limit o work′ out′ p′ (sticky w x)) (sym (h f x I r .1)) (A .go f o x I small n (h f x I r .0) H);
+        }
+
+    -- the same step by its states, where the number of enums decides
+    pub advances-by : {ready′ : TermFile → Step → Type 0} {walk′ : TermFile → Walk}
+        → ((f : TermFile) (x : Step) → Index file f work k → many ≡ length (enums f) → ready′ f x → ready f x × ((S : State) → walk′ f S ≡ walk f S))
+        → Advances file k many limit ready walk work out p work′ out′ p′ → Advances file k many limit ready′ walk′ work out p work′ out′ p′
+    advances-by {ready′} {walk′} h A =
+        record {
+          kept = A .kept;
+          go = λ f o x I small n r H.
+              let g = h f x I n r in
+              subst (Holds f k limit o work′ out′ p′) (sym (sticky-same (walk′ f) (walk f) x (g .1))) (A .go f o x I small n (g .0) H);
         }
 
   -- the walk goes on with nothing done

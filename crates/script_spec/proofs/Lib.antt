@@ -29,6 +29,7 @@ pub mod Agree
 pub mod Invariant
 pub mod Steps
 pub mod Entered
+pub mod EnteredTerms
 pub mod TypeLog
 pub mod NewLog
 pub mod TermLog
