@@ -1,0 +1,33 @@
+-- What the parts of encode promise: a refusal, the end of a script, the end of the walk, and the records of an accepted file.
+-- Assumes nothing.
+use mathlib.Core.Path.{_≡_}
+use Prim.Native.Nat.{ℕ}
+use mathlib.Core.List.{List, _++_}
+use lib.ListN.{length, replicate}
+use Rattle.script_spec.specs.Base.{Bytes, Answer, refused}
+use Rattle.script_spec.specs.File.{TermFile, members, inputs}
+use Rattle.script_spec.specs.Command.{script, fitting, left}
+use Rattle.script_spec.specs.Walk.{Step, went, stopped, names, assertions, firstEqual}
+use Rattle.writer.specs.Writing.{Wrote, lengthOf}
+use Rattle.encoder.specs.declared.Encoded.{Encoded}
+use Rattle.encoder.specs.Promise.{encodedAs}
+
+-- a script's buffer x has become y and a call says r, as an answer of document 01 has them
+pub record Gives (x y : Bytes) (r : Encoded) (w : Answer Bytes) : Type 0 where
+  pub says : encodedAs r ≡ lengthOf w
+  pub holds : y ≡ left w (length x)
+
+-- a refusal clears the script and the working memory
+pub record Refuses (work : List ℕ) (x : Bytes) (n p : ℕ) (work′ : List ℕ) (y : Bytes) (r : Encoded) : Type 0 where
+  pub cleared : work′ ≡ replicate (length work) 0
+  pub gives : Gives x y r (refused n p)
+
+-- a script s that was written into a buffer o is ended: its length or refusal 20
+pub record Finishes (work : List ℕ) (x : Bytes) (at : ℕ) (work′ : List ℕ) (y : Bytes) (r : Encoded) : Type 0 where
+  pub cleared : work′ ≡ replicate (length work) 0
+  pub go : (o s : Bytes) → Wrote (length o) o x at s → Gives o y r (fitting s (length o))
+
+-- the answer after the walk over the inputs of f
+unfoldable pub walked : TermFile → ℕ → Step → Answer Bytes
+walked f room (went S) = fitting (script (S .commands ++ assertions (members f) (names S) (inputs f))) room
+walked f room (stopped n t) = refused n (firstEqual f t)
