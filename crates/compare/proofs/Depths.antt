@@ -1,4 +1,4 @@
--- The greatest number of a kind among segments, taken one by one.
+-- The greatest and the first number of a kind among segments, taken one by one.
 -- Assumes nothing.
 use Prim.Native.Nat.{ℕ, max, _≤_, _<_}
 use native.Mathlib.Omega.{arith}
@@ -8,6 +8,7 @@ use mathlib.Core.Bool.{Bool, true, false}
 use mathlib.Core.List.{List, [], _∷_, map}
 use lib.Dec.{eqb}
 use borrow.Author.Tests.{eq-eqb, ne-eqb}
+use lib.ListN.{getD}
 use Rattle.script_spec.specs.Base.{Bytes, collect}
 use Rattle.index.specs.Cells.{cell, typeDepth, termDepth}
 use Rattle.index.specs.Rules.{greatest}
@@ -63,6 +64,25 @@ module _ {body : Bytes} {g : Segment → Segment} {l : List Segment} {s : Seen} 
       let split = numbers-after kind (map g l) found in
       larger-kind (eqb (s .kind) kind) (s .number) most (numbers kind (map g (ahead body (s .next))))
       ∙ ap (λ (ns : List ℕ). max most (greatest ns)) ((rw (S .kind, S .number, S .next h)) ∙ sym split)
+
+-- ---- the first of a kind
+
+module _ {body : Bytes} {g : Segment → Segment} {l : List Segment} {s : Seen} (S : Sees body g l s) (kind : ℕ) where
+  pub first-end : s .kind ≡ 0 → 0 ≡ getD (numbers kind (map g l)) 0 0
+  unfolding numbers
+  first-end h = rw (kind-none (map g l) (sym (S .kind) ∙ h))
+
+  pub first-here : 0 < s .kind → s .kind ≡ kind → s .number ≡ getD (numbers kind (map g l)) 0 0
+  unfolding ofKind
+  first-here p h =
+      let found : 0 < kindOf (map g l) = rw (← S .kind) p in
+      rw (numbers-after kind (map g l) found, eq-eqb (kindOf (map g l)) kind (sym (S .kind) ∙ h)) (S .number)
+
+  pub first-next : 0 < s .kind → s .kind ≢ kind → getD (numbers kind (map g (ahead body (s .next)))) 0 0 ≡ getD (numbers kind (map g l)) 0 0
+  unfolding ofKind
+  first-next p h =
+      let found : 0 < kindOf (map g l) = rw (← S .kind) p in
+      rw (numbers-after kind (map g l) found, ne-eqb (kindOf (map g l)) kind (λ q. h (S .kind ∙ q)), S .next p)
 
 -- ---- types and terms
 

@@ -256,3 +256,28 @@ pub fn greatest(file: &[u8], work: &[u32], k: usize, o: usize, kind: u32) -> u32
     let w = walk_of(file, o);
     greatest_ahead(body_of(file, o), w, work, k, kind)
 }
+
+// The first number ahead of a walk that stands for a type where types are listed, 0 where there is none.
+fn first_ahead(body: &[u8], w: Walk, work: &[u32], k: usize) -> u32
+    ensures { λ r. ⌜ r ≡ getD (numbers 2 (map (viewed (now (work .entry)) k View.Listed) (ahead (now (body .entry)) w))) 0 0 ⌝ }
+{
+    let mut x = w;
+    loop {
+        let s = head(x, body, work, k, View::Listed);
+        if s.kind == 0 {
+            return 0;
+        }
+        if s.kind == 2 {
+            return s.number;
+        }
+        x = s.next;
+    }
+}
+
+// The first type that a record refers to, or that a term has to which it refers, by the number of the first equal type; 0 where there is none.
+pub fn first_reference(file: &[u8], work: &[u32], k: usize, o: usize) -> u32
+    ensures { λ r. ⌜ r ≡ getD (numbers 2 (map (viewed (now (work .entry)) k View.Listed) (segmentsAt (now (file .entry)) o))) 0 0 ⌝ }
+{
+    let w = walk_of(file, o);
+    first_ahead(body_of(file, o), w, work, k)
+}

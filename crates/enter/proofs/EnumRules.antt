@@ -87,24 +87,28 @@ module _ {file : Bytes} {f : TermFile} {o : ℕ} (p : Bytes × List Bytes) (s : 
   unfolding enumNamed rules members
   enum-rules e e′ e″ = rw (e, e′, e″)
 
-module _ (file : Bytes) (work : List ℕ) {work′ : List ℕ} (k count o : ℕ) {a : Bool} (A : EnumAscends file o a) where
-  pub enum-unordered : a ≡ false → Enters enumNamed enumCount file work work′ k count o (Broken 9)
-  enum-unordered h = record { go = λ f I c room p s. enum-rules p s (A .go (p .0) (p .1) (enum-reads p s)) refl refl ∙ broken-here 9 _ h }
+module _ (file : Bytes) (work : List ℕ) (k count o : ℕ) {a : Bool} (A : EnumAscends file o a) where
+  pub enum-unordered : a ≡ false → Enters enumNamed enumCount file work work k count o (Broken 9)
+  enum-unordered h = record { go = λ f I c room p s. record { rule = enum-rules p s (A .go (p .0) (p .1) (enum-reads p s)) refl refl ∙ broken-here 9 _ h; unchanged = refl } }
 
   module _ {b : Bool} (B : EnumGiven file o b) where
-    pub enum-empty : a ≡ true → b ≡ false → Enters enumNamed enumCount file work work′ k count o (Broken 10)
-    enum-empty h g = record { go = λ f I c room p s. enum-rules p s (A .go (p .0) (p .1) (enum-reads p s)) (B .go (p .0) (p .1) (enum-reads p s)) refl ∙ broken-later 9 _ h ∙ broken-here 10 _ g }
+    pub enum-empty : a ≡ true → b ≡ false → Enters enumNamed enumCount file work work k count o (Broken 10)
+    enum-empty h g = record { go = λ f I c room p s. record { rule = enum-rules p s (A .go (p .0) (p .1) (enum-reads p s)) (B .go (p .0) (p .1) (enum-reads p s)) refl ∙ broken-later 9 _ h ∙ broken-here 10 _ g; unchanged = refl } }
 
     module _ {t : Bool} (T : Taken file work k count o 0 t) where
-      pub enum-taken : a ≡ true → b ≡ true → t ≡ true → Enters enumNamed enumCount file work work′ k count o (Broken 11)
+      pub enum-taken : a ≡ true → b ≡ true → t ≡ true → Enters enumNamed enumCount file work work k count o (Broken 11)
       enum-taken h g q =
           record {
             go = λ f I c room p s.
-                enum-rules p s (A .go (p .0) (p .1) (enum-reads p s)) (B .go (p .0) (p .1) (enum-reads p s)) (T .go f (I .index) c (p .0) (p .1) (enum-reads p s))
-                ∙ broken-later 9 _ h ∙ broken-later 10 _ g ∙ broken-here 11 _ (ap not q);
+                record {
+                  rule =
+                      enum-rules p s (A .go (p .0) (p .1) (enum-reads p s)) (B .go (p .0) (p .1) (enum-reads p s)) (T .go f (I .index) c (p .0) (p .1) (enum-reads p s))
+                      ∙ broken-later 9 _ h ∙ broken-later 10 _ g ∙ broken-here 11 _ (ap not q);
+                  unchanged = refl;
+                };
           }
 
-      pub enum-entered : a ≡ true → b ≡ true → t ≡ false → work′ ≡ store work k enumOffset count o → Enters enumNamed enumCount file work work′ k count o Done
+      pub enum-entered : {work′ : List ℕ} → a ≡ true → b ≡ true → t ≡ false → work′ ≡ store work k enumOffset count o → Enters enumNamed enumCount file work work′ k count o Done
       unfolding enumCount enumNamed
       enum-entered h g q e =
           record {

@@ -1,4 +1,5 @@
 pub mod FirstBroken
+pub mod Parts
 pub mod Functions
 pub mod Types
 pub mod EnumRules

@@ -9,35 +9,31 @@ use mathlib.Core.Bool.{Bool, true, false, _&&_}
 use mathlib.Core.List.{List, [], _∷_, _++_, map}
 use mathlib.Core.Option.{Option, none, some, Option·none-ne-some}
 use lib.Dec.{T, leb, ltb}
-use lib.ListN.{length, drop, getD}
+use lib.ListN.{length, getD}
 use Rattle.script_spec.specs.Base.{Bytes, isSome, place, placeFrom}
-use Rattle.script_spec.specs.Tree.{Tm, TermMark, eqTy, typeOf, depth, node, forest, Bool·, nil}
-use Rattle.script_spec.specs.Fields.{Entry}
-use Rattle.script_spec.specs.Fields as fields
+use Rattle.script_spec.specs.Tree.{Tm, eqTy, typeOf, depth, node, forest, Bool·, nil}
 use Rattle.script_spec.specs.File.{TermFile, term, types, terms, typeAt, termAt, named, namedMark, earlier, Rule, rules, broken}
 use Rattle.script_spec.proofs.Laws.{eqTy-eq}
-use Rattle.index.specs.Cells.{cell, store, typeDepth, termOffset, termFirst, termType, termDepth}
+use Rattle.index.specs.Cells.{cell, store, termOffset, termFirst, termType, termDepth}
 use Rattle.index.specs.First.{orElse, first, firstType, InRange}
 use Rattle.index.specs.Rules.{greatest, limits, listRulesBy, rulesBy, typeBy, typeNamed}
-use Rattle.index.specs.Standing.{markAt, sizeAt, bodyAt, entryAt}
-use Rattle.index.specs.Meaning.{Stands, Indexed}
+use Rattle.index.specs.Meaning.{Indexed}
 use Rattle.index.proofs.Growth.{counts-fewer}
 use Rattle.index.proofs.Renamed.{map-agree}
-use Rattle.index.proofs.Rules.{rules-numbers, depth-numbers, type-numbers}
+use Rattle.index.proofs.Rules.{type-numbers}
 use Rattle.index.proofs.Stores.{term-stored}
 use Rattle.index.proofs.Entered.{indexed-term}
-use Rattle.segments.specs.Segment.{Segment, termRefs}
-use Rattle.segments.proofs.Prints.{Octets, octets-take, octets-drop}
-use Rattle.segments.proofs.Shown.{segments-shown}
-use Rattle.segments.proofs.Equal.{termRefs-term}
+use Rattle.segments.proofs.Prints.{Octets}
 use Rattle.compare.specs.View.{viewed, numbers, segmentsAt}
 use Rattle.compare.specs.declared.View.the-variants.{Depth}
-use Rattle.compare.proofs.Depths.{numbers-terms}
+use Rattle.compare.proofs.Listed.{greatest-term}
 use Rattle.search.specs.Found.{Finds}
 use Rattle.search.proofs.Numbers.{term-found}
 use Rattle.record_rules.specs.Terms.{ruleTold, TermRule}
+use Rattle.term_type.specs.Sought.{TypeSought}
 use Rattle.enter.specs.Entering.{typeCount}
-use Rattle.enter.specs.Terms.{termCount, TypeSought, StoresTerm, EntersTerm}
+use Rattle.enter.specs.Terms.{termCount, StoresTerm, EntersTerm}
+use Rattle.enter.proofs.Parts.{TermParts, term-parts, deepest, term-value, rules-by, term-depth}
 use Rattle.enter.proofs.FirstBroken.{broken-here, broken-later, none-broken}
 use Rattle.enter.specs.declared.Entered.the-variants.{Done, Broken}
 
@@ -76,61 +72,24 @@ module _ (qs : List Rule) where
       from true k rest = rest k
       from false k rest = absurd (Option·none-ne-some (r .0) (sym k))
 
--- the record of a term, by its mark and its numbers
-record Parts (file : Bytes) (f : TermFile) (o : ℕ) (t : Tm) : Type 0 where
-  m : TermMark ℕ ℕ
-  rs : List ℕ
-  reads : entryAt file o ≡ some (fields.term m rs)
-  in-range : InRange (earlier f) (fields.term m rs)
-  names : named f (fields.term m rs) ≡ term t
-
-parts : {file : Bytes} {f : TermFile} {o : ℕ} {t : Tm} → (x : Entry) → entryAt file o ≡ some x → InRange (earlier f) x → named f x ≡ term t → Parts file f o t
-unfolding named
-parts (fields.type m rs) e h q = let z : _≡_ {A = ℕ} 0 1 = cc in absurd (omega arith)
-parts (fields.enum n ms) e h q = let z : _≡_ {A = ℕ} 0 1 = cc in absurd (omega arith)
-parts (fields.func id a r) e h q = let z : _≡_ {A = ℕ} 0 1 = cc in absurd (omega arith)
-parts (fields.term m rs) e h q = record { m = m; rs = rs; reads = e; in-range = h; names = q }
-parts (fields.input n) e h q = let z : _≡_ {A = ℕ} 0 1 = cc in absurd (omega arith)
-
-term-value : {t u : Tm} → term t ≡ term u → t ≡ u
-term-value e = cc
-
-module _ {file : Bytes} {f : TermFile} {work : List ℕ} {k o : ℕ} {t : Tm} (I : Indexed file f work k) (P : Parts file f o t) where
-  -- the greatest depth of the children
-  deepest : ℕ
-  deepest = greatest (map (cell work k termDepth) (P .rs))
-
+module _ {file : Bytes} {f : TermFile} {work : List ℕ} {k o : ℕ} {t : Tm} (I : Indexed file f work k) (P : TermParts file f o t) where
   -- the place of the type among those that are listed
   sought : Option ℕ
   sought = place (eqTy (typeNamed f (typeBy (cell work k termType) (P .m) (P .rs)))) (types f)
 
-  term-rules : rules f (term t) ≡ listRulesBy f (cell work k termFirst) (P .m) (P .rs) ++ ((12, isSome sought) ∷ (13, ltb (length (terms f)) 60000 && leb (suc deepest) 256) ∷ [])
+  term-rules : rules f (term t) ≡ listRulesBy f (cell work k termFirst) (P .m) (P .rs) ++ ((12, isSome sought) ∷ (13, ltb (length (terms f)) 60000 && leb (suc (deepest work k termDepth P)) 256) ∷ [])
   unfolding rulesBy limits deepest sought
-  term-rules =
-      sym (ap (rules f) (P .names))
-      ∙ rules-numbers f (cell work k typeDepth) (cell work k termFirst) (cell work k termType) (cell work k termDepth) (I .depths .type-depth) (λ n h. I .index .term-row n h .first)
-      (λ n h. I .index .term-row n h .type-is) (I .depths .term-depth) (fields.term (P .m) (P .rs)) (P .in-range)
-
-  term-depth : suc deepest ≡ depth t
-  unfolding named deepest InRange earlier
-  term-depth =
-      let same : node (namedMark f (P .m)) (forest (map (termAt f) (P .rs))) ≡ t = term-value (P .names) in
-      sym (depth-numbers (termAt f) (length (terms f)) (cell work k termDepth) (I .depths .term-depth) (namedMark f (P .m)) (P .rs) (P .in-range .1)) ∙ ap depth same
+  term-rules = rules-by I P
 
   -- the greatest depth by the terms themselves, each of which has one
-  deepest-terms : deepest ≡ greatest (map (λ n. depth (termAt f n)) (P .rs))
+  deepest-terms : deepest work k termDepth P ≡ greatest (map (λ n. depth (termAt f n)) (P .rs))
   unfolding deepest InRange earlier
   deepest-terms = ap greatest (map-agree (I .depths .term-depth) (P .rs) (P .in-range .1))
 
   -- the depth that the walk over the body gives
-  deepest-is : Octets file → greatest (numbers 4 (map (viewed work k Depth) (segmentsAt file o))) ≡ deepest
-  unfolding segmentsAt entryAt bodyAt deepest
-  deepest-is octets =
-      let body-octets : Octets (bodyAt file o) = octets-take (sizeAt file o) (drop (o + 6) file) (octets-drop (o + 6) file octets) in
-      ap greatest
-      (numbers-terms work k (segmentsAt file o)
-      ∙ ap (λ (l : List Segment). map (cell work k termDepth) (termRefs l)) (segments-shown (markAt file o) (bodyAt file o) body-octets (P .reads))
-      ∙ ap (map (cell work k termDepth)) (termRefs-term (P .m) (P .rs)))
+  deepest-is : Octets file → greatest (numbers 4 (map (viewed work k Depth) (segmentsAt file o))) ≡ deepest work k termDepth P
+  unfolding deepest
+  deepest-is octets = greatest-term file work k o octets (P .reads)
 
 -- ---- the type
 
@@ -166,7 +125,7 @@ record TypeFound (f : TermFile) (t : Tm) (n : ℕ) : Type 0 where
   type-is : typeAt f n ≡ typeOf t
   type-first : firstType f n ≡ n
 
-module _ {file : Bytes} {f : TermFile} {work : List ℕ} {k o : ℕ} {t : Tm} (I : Indexed file f work k) (P : Parts file f o t) where
+module _ {file : Bytes} {f : TermFile} {work : List ℕ} {k o : ℕ} {t : Tm} (I : Indexed file f work k) (P : TermParts file f o t) where
   sought-below : (n : ℕ) → sought I P ≡ some n → n < length (types f)
   unfolding sought
   sought-below n e = place-found _ (node Bool· nil) (types f) n e .below
@@ -191,9 +150,6 @@ depth-positive : (t : Tm) → 0 < depth t
 unfolding depth
 depth-positive (node a ts) = omega arith
 
-stands-parts : {file : Bytes} {f : TermFile} {o : ℕ} {t : Tm} → Stands file f (earlier f) o (term t) → Parts file f o t
-stands-parts s = parts (s .entry) (s .reads) (s .in-range) (s .names)
-
 told-some : (r : ℕ) → (r ≡ 0 → ⊥) → ruleTold r ≡ some r
 unfolding ruleTold
 told-some zero h = absurd (h refl)
@@ -205,62 +161,62 @@ told-none r e = rw e
 
 module _ {file : Bytes} {work : List ℕ} {k o n r : ℕ} (octets : Octets file) (is : n ≡ greatest (numbers 4 (map (viewed work k Depth) (segmentsAt file o)))) (R : TermRule file work k o n r) where
   -- rules 9 and 10
-  told : {f : TermFile} {t : Tm} (I : Indexed file f work k) (P : Parts file f o t) → ruleTold r ≡ broken (listRulesBy f (cell work k termFirst) (P .m) (P .rs))
+  told : {f : TermFile} {t : Tm} (I : Indexed file f work k) (P : TermParts file f o t) → ruleTold r ≡ broken (listRulesBy f (cell work k termFirst) (P .m) (P .rs))
   told {f} I P = R .go f (P .m) (P .rs) (λ i. depth (termAt f i)) (λ i. depth-positive (termAt f i)) (is ∙ deepest-is I P octets ∙ deepest-terms I P) (P .reads)
 
-  module _ {work′ : List ℕ} {types count : ℕ} where
-    pub term-broken : (r ≡ 0 → ⊥) → EntersTerm file work work′ k types count o (Broken r)
+  module _ {types count : ℕ} where
+    pub term-broken : (r ≡ 0 → ⊥) → EntersTerm file work work k types count o (Broken r)
     term-broken h =
-        record { go = λ f I c c′ room t s. let P = stands-parts s in ap broken (term-rules I P) ∙ broken-first _ (listRulesBy f (cell work k termFirst) (P .m) (P .rs)) (sym (told I P) ∙ told-some r h) }
+        record { go = λ f I c c′ room t s. let P = term-parts s in record { rule = ap broken (term-rules I P) ∙ broken-first _ (listRulesBy f (cell work k termFirst) (P .m) (P .rs)) (sym (told I P) ∙ told-some r h); unchanged = refl } }
 
   module _ {types ty : ℕ} (T : TypeSought file work k types o ty) (h : r ≡ 0) where
     -- what is sought is the place of the type
-    sought-is : (f : TermFile) (I : Indexed file f work k) → types ≡ typeCount f → {t : Tm} (P : Parts file f o t) → ty ≡ orElse types (sought I P)
+    sought-is : (f : TermFile) (I : Indexed file f work k) → types ≡ typeCount f → {t : Tm} (P : TermParts file f o t) → ty ≡ orElse types (sought I P)
     unfolding typeCount sought
     sought-is f I c P = T .go f (I .index) c (P .m) (P .rs) (P .reads) (P .in-range)
 
     -- rules 12 and 13 are left
-    rules-left : {f : TermFile} {t : Tm} (I : Indexed file f work k) (P : Parts file f o t) → broken (rules f (term t)) ≡ broken ((12, isSome (sought I P)) ∷ (13, ltb (length (terms f)) 60000 && leb (suc (deepest I P)) 256) ∷ [])
+    rules-left : {f : TermFile} {t : Tm} (I : Indexed file f work k) (P : TermParts file f o t) → broken (rules f (term t)) ≡ broken ((12, isSome (sought I P)) ∷ (13, ltb (length (terms f)) 60000 && leb (suc (deepest work k termDepth P)) 256) ∷ [])
     rules-left {f} I P = ap broken (term-rules I P) ∙ broken-second _ (listRulesBy f (cell work k termFirst) (P .m) (P .rs)) (sym (told I P) ∙ told-none r h)
 
     -- rule 12 is kept
-    listed : ty < types → {f : TermFile} {t : Tm} (I : Indexed file f work k) → types ≡ typeCount f → (P : Parts file f o t) → broken (rules f (term t)) ≡ broken ((13, ltb (length (terms f)) 60000 && leb (suc (deepest I P)) 256) ∷ [])
+    listed : ty < types → {f : TermFile} {t : Tm} (I : Indexed file f work k) → types ≡ typeCount f → (P : TermParts file f o t) → broken (rules f (term t)) ≡ broken ((13, ltb (length (terms f)) 60000 && leb (suc (deepest work k termDepth P)) 256) ∷ [])
     unfolding isSome
     listed g {f} I c P = rules-left I P ∙ broken-later 12 _ (ap isSome (sought-some (sought I P) types ty (sought-is f I c P) g))
 
-    module _ {work′ : List ℕ} {count : ℕ} where
-      pub term-unlisted : types ≤ ty → EntersTerm file work work′ k types count o (Broken 12)
+    module _ {count : ℕ} where
+      pub term-unlisted : types ≤ ty → EntersTerm file work work k types count o (Broken 12)
       unfolding typeCount isSome
       term-unlisted g =
           record {
             go = λ f I c c′ room t s.
-                let P = stands-parts s in
+                let P = term-parts s in
                 let q = sought-none (sought I P) types ty (sought-is f I c P) (λ m e. rw c (sought-below I P m e)) g in
-                rules-left I P ∙ broken-here 12 _ (ap isSome q);
+                record { rule = rules-left I P ∙ broken-here 12 _ (ap isSome q); unchanged = refl };
           }
 
       module _ (g : ty < types) where
-        pub term-many : 60000 ≤ count → EntersTerm file work work′ k types count o (Broken 13)
+        pub term-many : 60000 ≤ count → EntersTerm file work work k types count o (Broken 13)
         unfolding termCount
-        term-many d = record { go = λ f I c c′ room t s. let P = stands-parts s in listed g I c P ∙ broken-here 13 _ (rw (← c′, le-ltb count 60000 d)) }
+        term-many d = record { go = λ f I c c′ room t s. let P = term-parts s in record { rule = listed g I c P ∙ broken-here 13 _ (rw (← c′, le-ltb count 60000 d)); unchanged = refl } }
 
-        pub term-deep : count < 60000 → 255 < n → EntersTerm file work work′ k types count o (Broken 13)
+        pub term-deep : count < 60000 → 255 < n → EntersTerm file work work k types count o (Broken 13)
         unfolding termCount
         term-deep d e =
             record {
               go = λ f I c c′ room t s.
-                  let P = stands-parts s in
-                  let q : n ≡ deepest I P = is ∙ deepest-is I P octets in
-                  listed g I c P ∙ broken-here 13 _ (rw (← c′, lt-ltb count 60000 d, ← q, lt-leb (suc n) 256 (omega arith)));
+                  let P = term-parts s in
+                  let q : n ≡ deepest work k termDepth P = is ∙ deepest-is I P octets in
+                  record { rule = listed g I c P ∙ broken-here 13 _ (rw (← c′, lt-ltb count 60000 d, ← q, lt-leb (suc n) 256 (omega arith))); unchanged = refl };
             }
 
-        pub term-entered : count < 60000 → n ≤ 255 → StoresTerm file work work′ k count o ty (n + 1) → EntersTerm file work work′ k types count o Done
+        pub term-entered : {work′ : List ℕ} → count < 60000 → n ≤ 255 → StoresTerm file work work′ k count o ty (n + 1) → EntersTerm file work work′ k types count o Done
         unfolding termCount
         term-entered d e S =
             record {
               go = λ f I c c′ room t s.
-                  let P = stands-parts s in
-                  let q : n ≡ deepest I P = is ∙ deepest-is I P octets in
+                  let P = term-parts s in
+                  let q : n ≡ deepest work k termDepth P = is ∙ deepest-is I P octets in
                   let F = type-found I P ty (sought-some (sought I P) types ty (sought-is f I c P) g) in
                   record {
                     kept = listed g I c P ∙ broken-later 13 _ (rw (← c′, lt-ltb count 60000 d, ← q, le-leb (suc n) 256 (omega arith))) ∙ none-broken;

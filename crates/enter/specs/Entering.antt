@@ -24,14 +24,19 @@ pub record Keeps (file : Bytes) (f : TermFile) (work : List ℕ) (k : ℕ) (x : 
   pub kept : broken (rules f x) ≡ none
   pub indexed : Indexed file (f ++ (x ∷ [])) work k
 
+-- the record x after the records f breaks the rule of a number, the first that it breaks, and the memory is as it was
+pub record Breaks (f : TermFile) (work work′ : List ℕ) (x : Named) (n : ℕ) : Type 0 where
+  pub rule : broken (rules f x) ≡ some n
+  pub unchanged : work′ ≡ work
+
 -- what the answer says
-abbrev pub Outcome : Bytes → TermFile → List ℕ → ℕ → Named → Entered → Type 0
-Outcome file f work k x Done = Keeps file f work k x
-Outcome file f work k x (Broken n) = broken (rules f x) ≡ some n
+abbrev pub Outcome : Bytes → TermFile → List ℕ → List ℕ → ℕ → Named → Entered → Type 0
+Outcome file f work work′ k x Done = Keeps file f work′ k x
+Outcome file f work work′ k x (Broken n) = Breaks f work work′ x n
 
 -- a record of one kind at an offset is entered after the records f, of which `count` are of that kind
 pub record Enters {A : Type 0} (wrap : A → Named) (counted : TermFile → ℕ) (file : Bytes) (work work′ : List ℕ) (k count o : ℕ) (r : Entered) : Type 0 where
-  pub go : (f : TermFile) → Indexed file f work k → count ≡ counted f → suc (length f) ≤ k → (a : A) → Stands file f (earlier f) o (wrap a) → Outcome file f work′ k (wrap a) r
+  pub go : (f : TermFile) → Indexed file f work k → count ≡ counted f → suc (length f) ≤ k → (a : A) → Stands file f (earlier f) o (wrap a) → Outcome file f work work′ k (wrap a) r
 
 -- the row of a type of this depth is stored
 pub record StoresType (file : Bytes) (work work′ : List ℕ) (k count o deep : ℕ) : Type 0 where

@@ -1,6 +1,6 @@
-// Entering a term whose type is known.
+// Entering a term.
 use crate::Entered;
-ghost use Rattle.enter.specs.Terms.{StoresTerm, EntersTyped};
+ghost use Rattle.enter.specs.Terms.{StoresTerm, EntersTerm, EntersTyped};
 
 // Stores the row of a term at an offset, of which there are `count` before it, with the number of its type and its depth.
 fn store_term(file: &[u8], work: &mut [u32], k: usize, count: u32, o: u32, ty: u32, depth: u32)
@@ -49,4 +49,19 @@ pub fn enter_typed(
     }
     store_term(file, work, k, count, o, ty, deepest + 1);
     Entered::Done
+}
+
+// Enters a term, before which there are so many types and terms.
+pub fn enter_term(
+    file: &[u8],
+    work: &mut [u32],
+    k: usize,
+    types: u32,
+    count: u32,
+    o: u32,
+) -> Entered
+    ensures { λ r. ⌜ EntersTerm (now (file .entry)) (now (work .entry)) (now (work .exit)) k types count o r ⌝ }
+{
+    let ty = term_type::type_of(file, work, k, types, o as usize);
+    enter_typed(file, work, k, types, count, o, ty)
 }

@@ -89,3 +89,12 @@ kind-of (input n) =
       a-term = λ e. absurd (omega arith);
       an-input = λ e. (n, refl);
     }
+
+-- a record of no other kind is an input
+pub input-byte : (x : Entry) → (getD (markOf x) 0 0 ≡ 84 → ⊥) → (getD (markOf x) 0 0 ≡ 69 → ⊥) → (getD (markOf x) 0 0 ≡ 85 → ⊥) → (getD (markOf x) 0 0 ≡ 88 → ⊥) → getD (markOf x) 0 0 ≡ 73
+unfolding markOf Computes.base
+input-byte (type m rs) a b c d = absurd (a (type-byte m))
+input-byte (enum name members) a b c d = absurd (b refl)
+input-byte (func id t r) a b c d = absurd (c refl)
+input-byte (term m rs) a b c d = absurd (d (term-byte m))
+input-byte (input n) a b c d = refl

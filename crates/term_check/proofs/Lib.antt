@@ -2,6 +2,10 @@ pub mod Records
 pub mod Reading
 pub mod Loop
 pub mod Entities
-pub mod Step
+pub mod Kept
 pub mod FirstByte
 pub mod Following
+pub mod Over
+pub mod Stepping
+pub mod Filling
+pub mod Checking

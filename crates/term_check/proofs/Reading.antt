@@ -106,15 +106,16 @@ readRecord-reads e s x rest h = six (leb 6 (length s)) h
     six false k = let z : _≡_ {A = ℕ} 0 1 = cc in absurd (omega arith)
     six true k = middle (lookup (take 2 s) (marks e)) refl k
 
--- a record that was read after the records f stands at its place
-pub read-stands : (file : Bytes) (f : TermFile) (at : ℕ) (x : Entry) (rest : Bytes) → length (types f) ≤ 2 ^ 32 → length (funs f) ≤ 2 ^ 32 → length (terms f) ≤ 2 ^ 32
-    → readRecord (earlier f) (drop at file) ≡ got x rest → Stands file f (earlier f) at (named f x)
-unfolding entryAt bodyAt sizeAt markAt earlier
-read-stands file f at x rest a b c e =
-    let R : Reads (earlier f) (markAt file at) (bodyAt file at) x = simp drop-drop at (readRecord-reads (earlier f) (drop at file) x rest e) in
-    record {
-      entry = x;
-      reads = entryOf-read (earlier f) (extends-loose (earlier f) a b c) (markAt file at) (bodyAt file at) x R;
-      in-range = reads-in-range (earlier f) (markAt file at) (bodyAt file at) x R;
-      names = refl;
-    }
+module _ (file : Bytes) (f : TermFile) (at : ℕ) (x : Entry) (rest : Bytes) (ty : length (types f) ≤ 2 ^ 32) (fn : length (funs f) ≤ 2 ^ 32) (tm : length (terms f) ≤ 2 ^ 32) (read : readRecord (earlier f) (drop at file) ≡ got x rest) where
+  read-there : Reads (earlier f) (markAt file at) (bodyAt file at) x
+  unfolding bodyAt sizeAt markAt
+  read-there = simp drop-drop at (readRecord-reads (earlier f) (drop at file) x rest read)
+
+  -- a record that was read after the records f is read again
+  pub read-entry : entryAt file at ≡ some x
+  unfolding entryAt earlier
+  read-entry = entryOf-read (earlier f) (extends-loose (earlier f) ty fn tm) (markAt file at) (bodyAt file at) x read-there
+
+  -- and it stands at its place
+  pub read-stands : Stands file f (earlier f) at (named f x)
+  read-stands = record { entry = x; reads = read-entry; in-range = reads-in-range (earlier f) (markAt file at) (bodyAt file at) x read-there; names = refl }

@@ -1,2 +1,4 @@
 pub mod Promise
 pub mod Reading
+pub mod Stepping
+pub mod Clearing

@@ -1,5 +1,11 @@
 // Check: a file's records one after the other, with refusals 1 to 13, and the index that this fills.
+pub mod kinds;
 pub mod next;
+pub mod step;
+
+use kinds::Step;
+ghost use Rattle.term_check.specs.Promise.{Fills, Checks};
+ghost use Rattle.term_check.specs.Clearing.{Refusing, Accepting};
 
 // Check's answer: acceptance, or a refusal's number and place.
 pub enum Checked {
@@ -19,4 +25,63 @@ pub struct Counts {
 pub enum Filled {
     Done(Counts),
     Refused(u32, u32),
+}
+
+// Refuses: clears the memory.
+fn refuse(work: &mut [u32], n: u32, place: u32) -> Filled
+    ensures { λ r. ⌜ Refusing (now (work .entry)) (now (work .exit)) n place r ⌝ }
+{
+    writer::clear_words(work);
+    Filled::Refused(n, place)
+}
+
+// Enters the records of a file one after the other; the memory is their index, or all zero where one is refused.
+pub fn fill(file: &[u8], work: &mut [u32]) -> Filled
+    ensures { λ r. ⌜ Fills (now (file .entry)) (now (work .entry)) (now (work .exit)) r ⌝ }
+{
+    if 1048576 < file.len() {
+        return refuse(work, 1, 0);
+    }
+    if work.len() < 2 * file.len() {
+        return refuse(work, 2, 0);
+    }
+    let mut at = 0;
+    let mut place = 0;
+    let mut c = Counts {
+        types: 0,
+        funs: 0,
+        terms: 0,
+        enums: 0,
+    };
+    while at < file.len() {
+        match step::step(file, work, at, c) {
+            Step::Bad(n) => {
+                return refuse(work, n, place);
+            }
+            Step::To(to, d) => {
+                at = to;
+                c = d;
+            }
+        }
+        place += 1;
+    }
+    Filled::Done(c)
+}
+
+// Accepts: clears the memory.
+fn accept(memory: &mut [u32]) -> Checked
+    ensures { λ r. ⌜ Accepting (now (memory .entry)) (now (memory .exit)) r ⌝ }
+{
+    writer::clear_words(memory);
+    Checked::Accepted
+}
+
+// Checks a file; the memory is all zero afterwards.
+pub fn check(file: &[u8], work: &mut [u32]) -> Checked
+    ensures { λ r. ⌜ Checks (now (file .entry)) (now (work .entry)) (now (work .exit)) r ⌝ }
+{
+    match fill(file, work) {
+        Filled::Refused(n, place) => Checked::Refused(n, place),
+        Filled::Done(_) => accept(work),
+    }
 }

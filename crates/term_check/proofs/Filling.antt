@@ -1,0 +1,75 @@
+-- Filling the index: the loop's invariant, and each way out of it.
+-- Assumes nothing.
+use mathlib.Core.Path.{_≡_, refl, sym, ap, _∙_, subst}
+use Prim.Native.Nat.{ℕ, _+_, _*_, _≤_, _<_}
+use native.Mathlib.Omega.{arith}
+use mathlib.Core.List.{List, [], _∷_, _++_}
+use lib.ListN.{length, replicate, length-append}
+use Rattle.script_spec.specs.Base.{Bytes, collect}
+use Rattle.script_spec.specs.File.{TermFile, types, funs, terms, enums}
+use Rattle.term_check.specs.Promise.{countsOf, Fills}
+use Rattle.term_check.specs.Clearing.{Refusing}
+use Rattle.term_check.specs.Stepping.{Stepped, Stepping, Steps}
+use Rattle.term_check.specs.declared.Counts.{Counts}
+use Rattle.term_check.specs.declared.Filled.{Filled}
+use Rattle.term_check.specs.declared.Filled.the-variants as fill
+use Rattle.term_check.specs.declared.kinds.Step.{Step}
+use Rattle.term_check.specs.declared.kinds.Step.the-variants as step
+use Rattle.term_check.proofs.Loop.{Reached, reached-start, reached-next, reached-end, reached-bad, refuses-long, refuses-narrow}
+
+-- ---- refusals before the first record
+
+module _ (file : Bytes) {work work′ : List ℕ} {r : Filled} where
+  fills-refused : {n p : ℕ} → Refusing work work′ n p r → Fills file work work′ (fill.Refused n p) → Fills file work work′ r
+  fills-refused Z F = subst (λ (r : Filled). Fills file work work′ r) (sym (Z .answer)) F
+
+  pub fills-long : 1048576 < length file → Refusing work work′ 1 0 r → Fills file work work′ r
+  fills-long h Z = fills-refused Z (refuses-long file work h (Z .cleared))
+
+  pub fills-narrow : length file ≤ 1048576 → length work < 2 * length file → Refusing work work′ 2 0 r → Fills file work work′ r
+  fills-narrow g h Z = fills-refused Z (refuses-narrow file work g h (Z .cleared))
+
+-- ---- the loop
+
+-- some records have been entered, `place` of them
+pub record Going (file : Bytes) (work₀ work : List ℕ) (at place : ℕ) (c : Counts) : Type 0 where
+  pub records : TermFile
+  pub reached : Reached file (length work₀) records work at c
+  pub place-is : place ≡ length records
+  pub same-size : length work ≡ length work₀
+
+pub going-start : (file : Bytes) (work : List ℕ) → length file ≤ 1048576 → 2 * length file ≤ length work → Going file work work 0 0 (record { types = 0; funs = 0; terms = 0; enums = 0 })
+unfolding countsOf types funs terms enums collect
+going-start file work g h = record { records = []; reached = reached-start file work _ g h refl; place-is = refl; same-size = refl }
+
+module _ {file : Bytes} {work₀ work : List ℕ} {at place : ℕ} {c : Counts} (G : Going file work₀ work at place c) where
+  -- the place of a record has six bytes before it for each earlier one
+  pub going-few : place ≤ 1048576
+  going-few = omega (arith, G .place-is, G .reached .before .places, G .reached .before .short, G .reached .within)
+
+  pub going-end : length file ≤ at → Fills file work₀ work (fill.Done c)
+  going-end h = reached-end (G .reached) work₀ refl h
+
+  module _ {work′ : List ℕ} {s : Step} (S : Steps file work work′ at c s) where
+    stepping : {t : Step} → s ≡ t → Stepping file (G .records) work′ at t
+    stepping e = subst (λ (s : Step). Stepping file (G .records) work′ at s) e (S .go (G .records) (G .reached .before))
+
+    pub going-further : {to : ℕ} {d : Counts} → s ≡ step.To to d → (at < to) × (to ≤ length file)
+    going-further {to} {d} e =
+        let D : Stepped file (G .records) work′ at to d = stepping e in
+        (omega (arith, D .further), D .within)
+
+    pub going-on : {to : ℕ} {d : Counts} → s ≡ step.To to d → length work′ ≡ length work → Going file work₀ work′ to (place + 1) d
+    going-on {to} {d} e l =
+        let D : Stepped file (G .records) work′ at to d = stepping e in
+        record {
+          records = G .records ++ (D .record-got ∷ []);
+          reached = reached-next (G .reached) D;
+          place-is = rw length-append (omega (arith, G .place-is));
+          same-size = l ∙ G .same-size;
+        }
+
+    pub going-bad : {n : ℕ} {work″ : List ℕ} {r : Filled} → at < length file → s ≡ step.Bad n → length work′ ≡ length work → Refusing work′ work″ n place r → Fills file work₀ work″ r
+    going-bad {n} {work″} h e l Z =
+        subst (λ (r : Filled). Fills file work₀ work″ r) (ap (λ (p : ℕ). fill.Refused n p) (sym (G .place-is)) ∙ sym (Z .answer))
+        (reached-bad (G .reached) work₀ refl h (stepping e) (Z .cleared ∙ ap (λ (m : ℕ). replicate m 0) (l ∙ G .same-size)))

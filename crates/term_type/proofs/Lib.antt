@@ -1,0 +1,5 @@
+pub mod Letters
+pub mod Numbers
+pub mod Read
+pub mod Same
+pub mod Search
