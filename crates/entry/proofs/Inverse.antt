@@ -15,7 +15,7 @@ use Rattle.index.specs.Standing.{entryRead}
 use Rattle.index.proofs.Readers.{bad-not-got, got-value}
 use Rattle.entry.specs.Places.{numberAt, firstText, textSize, namedItems}
 
-got-rest : {A : Type 0} (a b : A) (s rest : Bytes) → got a s ≡ got b rest → s ≡ rest
+pub got-rest : {A : Type 0} (a b : A) (s rest : Bytes) → got a s ≡ got b rest → s ≡ rest
 got-rest a b s rest e = cc
 
 -- an entry that was read has read the whole body
@@ -42,7 +42,7 @@ ensure-inverse n true a s {b} {rest} h next = next (got-value a b s rest h) (got
 ensure-inverse n false a s {b} {rest} h next = absurd (bad-not-got n b rest h)
 
 -- k bytes
-part-inverse : {P : Type 0} (k : ℕ) (s : Bytes) {p rest : Bytes} → part k s ≡ got p rest → (leb k (length s) ≡ true → take k s ≡ p → drop k s ≡ rest → P) → P
+pub part-inverse : {P : Type 0} (k : ℕ) (s : Bytes) {p rest : Bytes} → part k s ≡ got p rest → (leb k (length s) ≡ true → take k s ≡ p → drop k s ≡ rest → P) → P
 unfolding part
 part-inverse {P} k s {p} {rest} h next = go (leb k (length s)) refl h
   where

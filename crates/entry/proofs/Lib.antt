@@ -2,5 +2,6 @@ pub mod Inverse
 pub mod Places
 pub mod TypeEntries
 pub mod Rows
+pub mod TermRows
 pub mod Classes
 pub mod SymbolEntries

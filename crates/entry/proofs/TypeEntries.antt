@@ -32,17 +32,17 @@ use Rattle.entry.proofs.Inverse.{entry-whole, bind-inverse, tested-inve
 
 -- a code that a table has, and one that it has not
 module _ {A : Type 0} (s : Bytes) (table : List (Reader A)) {code : ℕ} {mid : Bytes} (b : byte s ≡ got code mid) where
-  coded-by : coded table s ≡ _>>=_ (present 7 (at code table)) (λ r. r) mid
+  pub coded-by : coded table s ≡ _>>=_ (present 7 (at code table)) (λ r. r) mid
   unfolding coded
   coded-by = bind-got byte (λ c. _>>=_ (present 7 (at c table)) (λ r. r)) b
 
-  coded-at : (r : Reader A) (i : ℕ) → code ≡ i → at i table ≡ some r → coded table s ≡ r mid
+  pub coded-at : (r : Reader A) (i : ℕ) → code ≡ i → at i table ≡ some r → coded table s ≡ r mid
   unfolding present
   coded-at r i e h =
       let p : present 7 (at code table) mid ≡ got r mid = rw (e, h) in
       coded-by ∙ bind-got (present 7 (at code table)) (λ r. r) p
 
-  coded-none : at code table ≡ none → coded table s ≡ bad 7
+  pub coded-none : at code table ≡ none → coded table s ≡ bad 7
   unfolding present
   coded-none h =
       let p : present 7 (at code table) mid ≡ bad 7 = rw h in

@@ -1,13 +1,31 @@
 // The terms of an accepted file, read again by their offsets.
+mod leaves;
+mod parents;
+mod values;
+
 use bitvec::halves::Halves;
+use entry::lists;
 use field::Span;
 use operator::Op;
+use term_file::mark::Kind;
+ghost use mathlib.Core.Path.{_≡_};
+ghost use Prim.Native.Nat.{_+_, _<_};
+ghost use lib.ListN.{drop};
+ghost use Rattle.term_file.specs.Marks.{mark};
+ghost use Rattle.term_entry.specs.Terms.{IsTerm, TermAt};
+ghost use Rattle.term_entry.specs.Children.{ahead, TakesChild, IsChildren, ChildrenAt};
 
 // The terms that a record refers to: so many numbers from a place of the body on, each after a text where `named`.
 pub struct Children {
     pub from: usize,
     pub left: u32,
     pub named: bool,
+}
+
+// The first of the terms that a record refers to, by its number, and the others.
+pub struct Child {
+    pub number: u32,
+    pub rest: Children,
 }
 
 // An extension value: an address and its prefix, or 64 bits.
@@ -34,4 +52,104 @@ pub enum TermEntry {
     Record(Children),
     App(u32, Op, Children),
     Unreadable,
+}
+
+// Where the number of the first child stands: after its name, where it has one.
+fn place_of_child(body: &[u8], from: usize, named: bool) -> usize
+    ensures { λ r. ⌜ drop r (now (body .entry)) ≡ ahead named (drop from (now (body .entry))) ⌝ }
+{
+    if named {
+        let name = lists::text_at(body, from);
+        return name.end;
+    }
+    from
+}
+
+fn one_less(n: u32) -> u32
+    ensures { λ r. ⌜ (0 < n → r + 1 ≡ n) ⌝ }
+{
+    if n == 0 {
+        return 0;
+    }
+    n - 1
+}
+
+// The first child and the others, where there is one.
+pub fn take_child(body: &[u8], c: Children) -> Child
+    ensures { λ r. ⌜ TakesChild (now (body .entry)) c r ⌝ }
+{
+    let named = c.named;
+    let at = place_of_child(body, c.from, named);
+    let number = entry::number_at(body, at);
+    let from = lists::past(body, at, 4);
+    let left = one_less(c.left);
+    Child {
+        number,
+        rest: Children { from, left, named },
+    }
+}
+
+// The term of a body under a mark.
+fn term_of(kind: Kind, body: &[u8]) -> TermEntry
+    ensures { λ r. ⌜ IsTerm (mark kind) (now (body .entry)) r ⌝ }
+{
+    match kind {
+        Kind::XV => leaves::variable(body),
+        Kind::XB => leaves::bool_lit(body),
+        Kind::XN => leaves::bit_vec_lit(body),
+        Kind::XS => leaves::string_lit(body),
+        Kind::XE => leaves::entity_lit(body),
+        Kind::XX => values::ext_lit(body),
+        Kind::X0 => leaves::none_of(body),
+        Kind::X1 => parents::some_of(body),
+        Kind::XC => parents::set_of(body),
+        Kind::XR => parents::record_of(body),
+        Kind::XA => parents::app_of(body),
+        _ => TermEntry::Unreadable,
+    }
+}
+
+// The term at an offset of the file.
+pub fn term_at(file: &[u8], offset: u32) -> TermEntry
+    ensures { λ r. ⌜ TermAt (now (file .entry)) offset r ⌝ }
+{
+    let kind = entry::kind_at(file, offset);
+    term_of(kind, entry::body_at(file, offset))
+}
+
+// The children of a body under a mark.
+fn children_of(kind: Kind, body: &[u8]) -> Children
+    ensures { λ r. ⌜ IsChildren (mark kind) (now (body .entry)) r ⌝ }
+{
+    match kind {
+        Kind::X1 => Children {
+            from: 0,
+            left: 1,
+            named: false,
+        },
+        Kind::XC => Children {
+            from: 8,
+            left: entry::number_at(body, 4),
+            named: false,
+        },
+        Kind::XR => Children {
+            from: 4,
+            left: entry::number_at(body, 0),
+            named: true,
+        },
+        Kind::XA => parents::arguments(body),
+        _ => Children {
+            from: 0,
+            left: 0,
+            named: false,
+        },
+    }
+}
+
+// The children of the term at an offset of the file.
+pub fn children_at(file: &[u8], offset: u32) -> Children
+    ensures { λ r. ⌜ ChildrenAt (now (file .entry)) offset r ⌝ }
+{
+    let kind = entry::kind_at(file, offset);
+    children_of(kind, entry::body_at(file, offset))
 }

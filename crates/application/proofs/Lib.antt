@@ -1,0 +1,4 @@
+pub mod HeadLaws
+pub mod WidthLaws
+pub mod ApplicationLaws
+pub mod PatternLaws

@@ -1,0 +1,21 @@
+-- `application::put_selector` meets its contract.
+-- Assumes nothing.
+use mathlib.Core.Path.{_∙_}
+use Rattle.script_spec.specs.Base.{bytes}
+use Rattle.application.proofs.HeadLaws.{selector-none, selector-at, selector-nowhere}
+use native.Mathlib.Omega.{arith}
+use borrow.Author.Needs.{needs}
+use Rattle.application.proofs.put_selector.Statement.{statement}
+use Rattle.application.proofs.put_selector.Tie as tie
+
+returns-2 : tie.Need-returns-2
+unfolding bytes
+returns-2 c = selector-at (omega (arith, c.before.before.before.before.before.before.before.before.before.before.before.before.if1.left)) c.before.before.before.before.before.before.before.before.before.before.before.take-child.ensures (c.before.before.before.before.before.before.before.before.before.get.ensures ∙ (rw (c.before.before.before.before.before.before.before.before.before.before.wide.ensures .0))) c.before.before.before.before.before.before.before.before.find-attribute.ensures c.before.before.before.before.before.before.i.given.1 c.before.before.put-numbered.ensures
+
+pub put-selector-spec : {M : Type 1} → statement M
+put-selector-spec =
+    tie.close
+    (tie.spec
+    (λ c. selector-none c.if1.taken) (λ c κs. search needs) (λ c κs. search needs) (λ c κs. search needs) (λ c κs. search needs) (λ c. search needs) (λ c. search needs) (λ c κs. search needs) (λ c. search needs)
+    returns-2
+    (λ c. selector-nowhere (omega (arith, c.before.before.before.before.before.if1.left)) c.before.before.before.before.take-child.ensures (c.before.before.get.ensures ∙ (rw (c.before.before.before.wide.ensures .0))) c.before.find-attribute.ensures c.match.keys2))

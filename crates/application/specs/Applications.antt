@@ -1,0 +1,89 @@
+-- The heads of applications, and what writing an application promises.
+-- Assumes nothing.
+use Prim.Native.Nat.{ℕ, _+_, _-_, _*_, _^_, _%_, _<_}
+use mathlib.Core.Path.{_≡_}
+use mathlib.Core.List.{List, [], _∷_, _++_, map}
+use lib.ListN.{length, take, drop}
+use Rattle.script_spec.specs.Base.{Bytes, bytes}
+use Rattle.script_spec.specs.Tree.{Fun, TypeMark, Forest, forest, typesOf, Op, Plain, Ext, RecordGet, StringLike, Uuf, ZeroExtend, App}
+use Rattle.script_spec.specs.File.{TermFile, types, funs, terms, enums, termAt, namedOp, members}
+use Rattle.script_spec.specs.Text.{decimal}
+use Rattle.script_spec.specs.Command.{headed}
+use Rattle.script_spec.specs.Spelling.{Names, plainName, extOpName, bitVec, pattern, selector, application, body}
+use Rattle.script_spec.specs.Walk.{State, names}
+use Rattle.writer.specs.Writing.{Appends}
+use Rattle.pattern.specs.Elements.{elements}
+use Rattle.index.specs.First.{OpInRange, Below}
+use Rattle.index.specs.Meaning.{Index, counted}
+use Rattle.naming.specs.Naming.{Numbers}
+use Rattle.entry.specs.Places.{numberAt}
+use Rattle.operator.specs.Operators.{opOf}
+use Rattle.operator.specs.declared.Op as operator
+use Rattle.term_entry.specs.Terms.{childrenIn}
+use Rattle.term_entry.specs.declared.Children.{Children}
+use Rattle.term_parts.proofs.Rows.{TermIs}
+use Rattle.term_value.specs.Arguments.{atoms, SpellsOver}
+
+-- the types of the terms with these numbers
+unfoldable pub typesAt : TermFile → List ℕ → Forest TypeMark
+typesAt f ns = typesOf (forest (map (termAt f) ns))
+
+-- what stands before the arguments of an operator of these types; a pattern stands after them
+unfoldable pub headOf : Names → Op Fun → Forest TypeMark → Bytes
+headOf ν (Plain o) tys = plainName o
+headOf ν (Ext o) tys = extOpName o
+headOf ν (RecordGet a) tys = selector ν a tys
+headOf ν (StringLike p) tys = []
+headOf ν (Uuf g) tys = ν .func g
+headOf ν (ZeroExtend n) tys = headed (bytes "_") (bytes "zero_extend" ∷ decimal n ∷ [])
+
+-- the bytes of the pattern in the body of an application of `StringLike`: after the type, the operator and the count
+unfoldable pub patternBytes : Bytes → Bytes
+patternBytes body = take (4 * numberAt body 5) (drop 9 body)
+
+-- a pattern is what they say
+unfoldable pub PatternIs : {F : Type 0} → Bytes → Op F → Type 0
+PatternIs body (Plain o) = Unit {0}
+PatternIs body (Ext o) = Unit {0}
+PatternIs body (RecordGet a) = Unit {0}
+PatternIs body (StringLike p) = elements (patternBytes body) ≡ p
+PatternIs body (Uuf g) = Unit {0}
+PatternIs body (ZeroExtend n) = Unit {0}
+
+-- the selector of an attribute is written, whatever file was accepted and whatever names were given
+pub record SpellsSelector (file : Bytes) (work : List ℕ) (k : ℕ) (body : Bytes) (c : Children) (name : Bytes) (limit : ℕ) (x : Bytes) (at : ℕ) (y : Bytes) (r : ℕ) : Type 0 where
+  pub go : (f : TermFile) (S : State) → Index file f work k → Numbers f work k S → Below (length (terms f)) (childrenIn body c)
+      → Appends limit x at y r (selector (names S) name (typesAt f (childrenIn body c)))
+
+-- the head of an application is written
+pub record SpellsHead (file : Bytes) (work : List ℕ) (k : ℕ) (body : Bytes) (o : operator.Op) (c : Children) (limit : ℕ) (x : Bytes) (at : ℕ) (y : Bytes) (r : ℕ) : Type 0 where
+  pub go : (f : TermFile) (S : State) → Index file f work k → Numbers f work k S → (n : ℕ) → OpInRange (counted (length (types f)) (length (funs f)) n) (opOf body o)
+      → Below (length (terms f)) (childrenIn body c) → Appends limit x at y r (headOf (names S) (namedOp f (opOf body o)) (typesAt f (childrenIn body c)))
+
+module _ (file : Bytes) (work : List ℕ) (k many : ℕ) (body : Bytes) where
+  module _ (o : operator.Op) (c : Children) (limit : ℕ) (x : Bytes) (at : ℕ) (y : Bytes) (r : ℕ) where
+    -- the head before the arguments is written
+    pub record SpellsApplied : Type 0 where
+      pub go : (f : TermFile) (S : State) → Index file f work k → Numbers f work k S → many ≡ length (enums f) → (n : ℕ) → OpInRange (counted (length (types f)) (length (funs f)) n) (opOf body o)
+          → Below (length (terms f)) (childrenIn body c) → Appends limit x at y r (headed (headOf (names S) (namedOp f (opOf body o)) (typesAt f (childrenIn body c))) (atoms f S (childrenIn body c)))
+
+    -- an application of an operator is written
+    pub record SpellsOperator : Type 0 where
+      pub go : (f : TermFile) (S : State) → Index file f work k → Numbers f work k S → many ≡ length (enums f) → (n : ℕ) → OpInRange (counted (length (types f)) (length (funs f)) n) (opOf body o)
+          → Below (length (terms f)) (childrenIn body c) → PatternIs body (opOf body o)
+          → Appends limit x at y r (application (names S) (namedOp f (opOf body o)) (typesAt f (childrenIn body c)) (atoms f S (childrenIn body c)))
+
+  module _ (c : Children) (limit : ℕ) (x : Bytes) (at : ℕ) (y : Bytes) (r : ℕ) where
+    -- the comparison with the least signed number of w bits is written
+    abbrev pub SpellsComparison : ℕ → Type 0
+    SpellsComparison w = SpellsOver file work k many body c limit x at y r (λ f S xs. headed (bytes "=") (xs ++ (bitVec w (2 ^ (w - 1) % 2 ^ 128) ∷ [])))
+
+    -- the match with the pattern of the body is written
+    abbrev pub SpellsLike : Type 0
+    SpellsLike = SpellsOver file work k many body c limit x at y r (λ f S xs. headed (bytes "str.in_re") (xs ++ (pattern (elements (patternBytes body)) ∷ [])))
+
+-- the term with number n, an application, is written in full
+pub record SpellsApplication (file : Bytes) (work : List ℕ) (k many n : ℕ) (s : Bytes) (o : operator.Op) (c : Children) (limit : ℕ) (x : Bytes) (at : ℕ) (y : Bytes) (r : ℕ) : Type 0 where
+  pub go : (f : TermFile) (S : State) → Index file f work k → Numbers f work k S → many ≡ length (enums f) → n < length (terms f)
+      → (t : ℕ) → TermIs f n (App t (opOf s o)) (childrenIn s c) → PatternIs s (opOf s o)
+      → Appends limit x at y r (body (members f) (names S) (termAt f n) (atoms f S (childrenIn s c)))

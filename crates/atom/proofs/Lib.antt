@@ -1,0 +1,2 @@
+pub mod AtomLaws
+pub mod QueryLaws

@@ -1,0 +1,4 @@
+pub mod NegoLaws
+pub mod NegationLaws
+pub mod SearchLaws
+pub mod MemberLaws

@@ -1,0 +1,11 @@
+-- `query::type_at` meets its contract.
+-- Assumes nothing.
+use borrow.Author.Needs.{needs}
+use Rattle.query.proofs.type_at.Statement.{statement}
+use Rattle.query.proofs.type_at.Tie as tie
+
+returns : tie.Need-returns
+returns c = rw (← (c.before.before.wide.ensures .0), ← c.before.get.ensures) c.type-at.ensures
+
+pub type-at-spec : {M : Type 1} → statement M
+type-at-spec = tie.close (tie.spec (λ c κs. search needs) (λ c κs. search needs) (λ c κs. search needs) returns)

@@ -1,0 +1,2 @@
+pub mod Negations
+pub mod Searches

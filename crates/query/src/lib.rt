@@ -1,0 +1,176 @@
+// What the encoder asks of types and terms: what a `Bvnego` is written as, and where an attribute or a member stands.
+use entry::lists;
+use entry::types::TypeEntry;
+use operator::Op;
+use term_entry::Children;
+use term_entry::TermEntry;
+ghost use Rattle.index.specs.Cells.{cell, typeOffset};
+ghost use Rattle.entry.specs.Types.{TypeAt};
+ghost use Rattle.query.specs.Searches.{FindsText, FindsAttribute, IsEnum, FindsIn, FindsMember};
+ghost use Rattle.query.specs.Negations.{IsNego, IsBool, NegationOver, Negates, NegationOf};
+
+// What a term is as a `Bvnego`: over an argument of so many bits a comparison, over any other `false`.
+pub enum Negated {
+    Ordinary,
+    Falsehood,
+    Comparison(u32),
+}
+
+// Where a text stands in a list.
+enum Found {
+    At(u32),
+    Nowhere,
+}
+
+// Where an attribute stands in a type, if the type is a record type.
+pub enum Attribute {
+    NotRecord,
+    Missing,
+    At(u32),
+}
+
+// Where a member stands in a type, if the type is an enum.
+pub enum Member {
+    NoEnum,
+    NotMember,
+    At(u32),
+}
+
+// The type with number t.
+fn type_at(file: &[u8], work: &[u32], k: usize, t: u32) -> TypeEntry
+    ensures { λ r. ⌜ TypeAt (now (file .entry)) (cell (now (work .entry)) k typeOffset t) r ⌝ }
+{
+    let offset = index::get(work, k, index::TYPE_OFFSET, entry::wide(t));
+    entry::types::type_at(file, offset)
+}
+
+fn is_nego(op: Op) -> bool
+    ensures { λ r. ⌜ IsNego op r ⌝ }
+{
+    match op {
+        Op::Bvnego => true,
+        _ => false,
+    }
+}
+
+// Whether the type with number t is Bool.
+fn is_bool(file: &[u8], work: &[u32], k: usize, t: u32) -> bool
+    ensures { λ r. ⌜ IsBool (now (file .entry)) (now (work .entry)) k t r ⌝ }
+{
+    match type_at(file, work, k, t) {
+        TypeEntry::Bool => true,
+        _ => false,
+    }
+}
+
+// What a `Bvnego` with result Bool is over one argument of the type with number t.
+fn negation_over(file: &[u8], work: &[u32], k: usize, t: u32) -> Negated
+    ensures { λ r. ⌜ NegationOver (now (file .entry)) (now (work .entry)) k t r ⌝ }
+{
+    match type_at(file, work, k, t) {
+        TypeEntry::BitVec(n) => Negated::Comparison(n),
+        _ => Negated::Falsehood,
+    }
+}
+
+// What a `Bvnego` is whose result has the type with number t.
+fn negation_with(file: &[u8], work: &[u32], k: usize, t: u32, body: &[u8], c: Children) -> Negated
+    ensures { λ r. ⌜ Negates (now (file .entry)) (now (work .entry)) k t (now (body .entry)) c r ⌝ }
+{
+    if c.left != 1 {
+        return Negated::Ordinary;
+    }
+    if is_bool(file, work, k, t) {
+        let child = term_entry::take_child(body, c);
+        let part = index::get(work, k, index::TERM_TYPE, entry::wide(child.number));
+        return negation_over(file, work, k, part);
+    }
+    Negated::Ordinary
+}
+
+// What the term with number n is as a `Bvnego`.
+pub fn negation_of(file: &[u8], work: &[u32], k: usize, n: u32) -> Negated
+    ensures { λ r. ⌜ NegationOf (now (file .entry)) (now (work .entry)) k n r ⌝ }
+{
+    let offset = index::get(work, k, index::TERM_OFFSET, entry::wide(n));
+    match term_entry::term_at(file, offset) {
+        TermEntry::App(t, op, c) => {
+            if is_nego(op) {
+                return negation_with(file, work, k, t, entry::body_at(file, offset), c);
+            }
+            Negated::Ordinary
+        }
+        _ => Negated::Ordinary,
+    }
+}
+
+// Where a text stands among so many texts from a place of the body on, with so many bytes after each.
+fn find_text(body: &[u8], from: usize, count: u32, skip: usize, name: &[u8]) -> Found
+    ensures { λ r. ⌜ FindsText (now (body .entry)) from count skip (now (name .entry)) r ⌝ }
+{
+    let mut at = from;
+    let mut i: u32 = 0;
+    while i < count {
+        let text = lists::text_at(body, at);
+        if check::same(name, field::part_of(body, text.start, text.len)) {
+            return Found::At(i);
+        }
+        at = lists::past(body, text.end, skip);
+        i += 1;
+    }
+    Found::Nowhere
+}
+
+// Where an attribute stands in the type with number t.
+pub fn find_attribute(file: &[u8], work: &[u32], k: usize, t: u32, name: &[u8]) -> Attribute
+    ensures { λ r. ⌜ FindsAttribute (now (file .entry)) (now (work .entry)) k t (now (name .entry)) r ⌝ }
+{
+    let offset = index::get(work, k, index::TYPE_OFFSET, entry::wide(t));
+    match entry::types::type_at(file, offset) {
+        TypeEntry::Record(n) => match find_text(entry::body_at(file, offset), 4, n, 4, name) {
+            Found::At(i) => Attribute::At(i),
+            Found::Nowhere => Attribute::Missing,
+        },
+        _ => Attribute::NotRecord,
+    }
+}
+
+// The number of the enum that the type with number t is, among so many; their number where it is none.
+fn enum_of(file: &[u8], work: &[u32], k: usize, many: u32, t: u32) -> u32
+    ensures { λ r. ⌜ IsEnum (now (file .entry)) (now (work .entry)) k many t r ⌝ }
+{
+    let offset = index::get(work, k, index::TYPE_OFFSET, entry::wide(t));
+    match entry::types::type_at(file, offset) {
+        TypeEntry::Entity(name) => enum_table::find(
+            file,
+            work,
+            k,
+            many,
+            field::part_of(entry::body_at(file, offset), name.start, name.len),
+        ),
+        _ => many,
+    }
+}
+
+// Where a member stands in the enum with number e.
+fn find_in(file: &[u8], work: &[u32], k: usize, e: u32, id: &[u8]) -> Found
+    ensures { λ r. ⌜ FindsIn (now (file .entry)) (now (work .entry)) k e (now (id .entry)) r ⌝ }
+{
+    let offset = index::get(work, k, index::ENUM_OFFSET, entry::wide(e));
+    let x = entry::symbols::enum_at(file, offset);
+    find_text(entry::body_at(file, offset), x.from, x.members, 0, id)
+}
+
+// Where a member stands in the type with number t, among so many enums.
+pub fn find_member(file: &[u8], work: &[u32], k: usize, many: u32, t: u32, id: &[u8]) -> Member
+    ensures { λ r. ⌜ FindsMember (now (file .entry)) (now (work .entry)) k many t (now (id .entry)) r ⌝ }
+{
+    let e = enum_of(file, work, k, many, t);
+    if many <= e {
+        return Member::NoEnum;
+    }
+    match find_in(file, work, k, e, id) {
+        Found::At(i) => Member::At(i),
+        Found::Nowhere => Member::NotMember,
+    }
+}

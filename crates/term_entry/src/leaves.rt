@@ -1,0 +1,81 @@
+// Terms that refer to no terms, by the fields of their bodies; extension values apart.
+use crate::TermEntry;
+use entry::lists;
+use field::Cursor;
+use field::ReadNumber;
+use field::Span;
+ghost use mathlib.Core.Option.{some};
+ghost use Rattle.script_spec.specs.Base.{bytes};
+ghost use Rattle.term_entry.specs.Terms.{IsTerm};
+
+// A variable: its id and its type.
+pub fn variable(body: &[u8]) -> TermEntry
+    ensures { λ r. ⌜ IsTerm (some (bytes "XV")) (now (body .entry)) r ⌝ }
+{
+    let id = lists::text_at(body, 0);
+    let t = entry::number_at(body, id.end);
+    TermEntry::Var(
+        Span {
+            start: id.start,
+            len: id.len,
+        },
+        t,
+    )
+}
+
+// A truth value: 0 false, 1 true.
+pub fn bool_lit(body: &[u8]) -> TermEntry
+    ensures { λ r. ⌜ IsTerm (some (bytes "XB")) (now (body .entry)) r ⌝ }
+{
+    let c = Cursor { at: 0 };
+    match c.byte(body) {
+        ReadNumber::Bad(_) => TermEntry::Unreadable,
+        ReadNumber::Value(code, _) => match code {
+            0 => TermEntry::BoolLit(false),
+            1 => TermEntry::BoolLit(true),
+            _ => TermEntry::Unreadable,
+        },
+    }
+}
+
+// A bit vector: its width and 16 bytes, low byte first.
+pub fn bit_vec_lit(body: &[u8]) -> TermEntry
+    ensures { λ r. ⌜ IsTerm (some (bytes "XN")) (now (body .entry)) r ⌝ }
+{
+    let width = entry::number_at(body, 0);
+    let v = bitvec::reading::low_first(field::part_of(body, 4, 16));
+    TermEntry::BitVecLit(width, v)
+}
+
+// A text.
+pub fn string_lit(body: &[u8]) -> TermEntry
+    ensures { λ r. ⌜ IsTerm (some (bytes "XS")) (now (body .entry)) r ⌝ }
+{
+    let s = lists::text_at(body, 0);
+    TermEntry::StringLit(Span {
+        start: s.start,
+        len: s.len,
+    })
+}
+
+// An entity: its type and its id.
+pub fn entity_lit(body: &[u8]) -> TermEntry
+    ensures { λ r. ⌜ IsTerm (some (bytes "XE")) (now (body .entry)) r ⌝ }
+{
+    let t = entry::number_at(body, 0);
+    let id = lists::text_at(body, 4);
+    TermEntry::Entity(
+        t,
+        Span {
+            start: id.start,
+            len: id.len,
+        },
+    )
+}
+
+// The empty option: the type of what it could have.
+pub fn none_of(body: &[u8]) -> TermEntry
+    ensures { λ r. ⌜ IsTerm (some (bytes "X0")) (now (body .entry)) r ⌝ }
+{
+    TermEntry::None(entry::number_at(body, 0))
+}

@@ -1,0 +1,62 @@
+-- What writing the body of a term, its declaration, its definition and its assertion promises.
+-- Assumes nothing.
+use Prim.Native.Nat.{ℕ, _<_}
+use mathlib.Core.Path.{_≡_}
+use mathlib.Core.Bool.{true}
+use mathlib.Core.List.{List, [], _∷_, map}
+use lib.ListN.{length}
+use Rattle.script_spec.specs.Base.{Bytes}
+use Rattle.script_spec.specs.Utf8.{isUtf8}
+use Rattle.script_spec.specs.Tree.{Ty, Forest, Mark, node, children, typeOf, Var, Entity}
+use Rattle.script_spec.specs.File.{TermFile, types, terms, enums, typeAt, termAt, members}
+use Rattle.script_spec.specs.Text.{literal, debug}
+use Rattle.script_spec.specs.Command.{headed, line, script, comment, declareConst, defineFun, assertThat}
+use Rattle.script_spec.specs.Spelling.{sort, atom, body}
+use Rattle.script_spec.specs.Walk.{State, names}
+use Rattle.writer.specs.Writing.{Appends}
+use Rattle.utf8.specs.Decoding.{points}
+use Rattle.index.specs.Meaning.{Index}
+use Rattle.naming.specs.Naming.{Numbers}
+
+-- ---- bodies
+
+-- an entity of the type with number t, which is no enum, is written by its id, whatever file was accepted and whatever names were given
+pub record SpellsConstructed (file : Bytes) (work : List ℕ) (k t : ℕ) (id : Bytes) (limit : ℕ) (x : Bytes) (at : ℕ) (y : Bytes) (r : ℕ) : Type 0 where
+  pub go : (f : TermFile) (S : State) → Index file f work k → Numbers f work k S → t < length (types f)
+      → Appends limit x at y r (headed (sort (names S) (typeAt f t)) (literal (points id) ∷ []))
+
+module _ (file : Bytes) (work : List ℕ) (k many n : ℕ) where
+  -- the term with number n, an entity of the type with number t with this id, is written in full
+  pub record SpellsEntityBody (t : ℕ) (id : Bytes) (limit : ℕ) (x : Bytes) (at : ℕ) (y : Bytes) (r : ℕ) : Type 0 where
+    pub go : (f : TermFile) (S : State) → Index file f work k → Numbers f work k S → many ≡ length (enums f) → n < length (terms f) → t < length (types f)
+        → (ts : Forest Mark) → node (Entity (typeAt f t) id) ts ≡ termAt f n → isUtf8 id ≡ true → (args : List Bytes) → Appends limit x at y r (body (members f) (names S) (termAt f n) args)
+
+  module _ (limit : ℕ) (x : Bytes) (at : ℕ) (y : Bytes) (r : ℕ) where
+    -- the term with number n is written in full, over its children as they are spelled where they are used
+    pub record SpellsBody : Type 0 where
+      pub go : (f : TermFile) (S : State) → Index file f work k → Numbers f work k S → many ≡ length (enums f) → n < length (terms f)
+          → Appends limit x at y r (body (members f) (names S) (termAt f n) (map (atom (members f) (names S)) (children (termAt f n))))
+
+    -- ---- lines
+
+    -- the definition of the term with number n is written
+    pub record SpellsDefinition : Type 0 where
+      pub go : (f : TermFile) (S : State) → Index file f work k → Numbers f work k S → many ≡ length (enums f) → n < length (terms f)
+          → Appends limit x at y r
+          (line (defineFun (names S .term (termAt f n)) [] (sort (names S) (typeOf (termAt f n))) (body (members f) (names S) (termAt f n) (map (atom (members f) (names S)) (children (termAt f n))))))
+
+    -- its assertion is written
+    pub record SpellsAssertion : Type 0 where
+      pub go : (f : TermFile) (S : State) → Index file f work k → Numbers f work k S → many ≡ length (enums f) → n < length (terms f)
+          → Appends limit x at y r (line (assertThat (atom (members f) (names S) (termAt f n))))
+
+module _ (file : Bytes) (work : List ℕ) (k n : ℕ) where
+  -- the declaration of the term with number n, a variable with this id, is written
+  pub record SpellsNamed (id : Bytes) (limit : ℕ) (x : Bytes) (at : ℕ) (y : Bytes) (r : ℕ) : Type 0 where
+    pub go : (f : TermFile) (S : State) → Index file f work k → Numbers f work k S → n < length (terms f) → isUtf8 id ≡ true
+        → Appends limit x at y r (script (comment (debug id) ∷ declareConst (names S .term (termAt f n)) (sort (names S) (typeOf (termAt f n))) ∷ []))
+
+  -- the declaration of the term with number n is written, if that is a variable
+  pub record SpellsVariable (limit : ℕ) (x : Bytes) (at : ℕ) (y : Bytes) (r : ℕ) : Type 0 where
+    pub go : (f : TermFile) (S : State) → Index file f work k → Numbers f work k S → n < length (terms f) → (id : Bytes) (ty : Ty) (ts : Forest Mark) → termAt f n ≡ node (Var id ty) ts
+        → Appends limit x at y r (script (comment (debug id) ∷ declareConst (names S .term (termAt f n)) (sort (names S) (typeOf (termAt f n))) ∷ []))
