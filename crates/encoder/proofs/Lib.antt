@@ -1,2 +1,4 @@
 pub mod Clearing
+pub mod AssertionLaws
 pub mod EndLaws
+pub mod CloseLaws

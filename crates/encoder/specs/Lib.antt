@@ -1,3 +1,4 @@
 pub mod Clearing
-pub mod Promise
+pub mod Inputs
 pub mod Ending
+pub mod Promise

@@ -1,9 +1,11 @@
 // Encode: the script of a term file, or its refusal.
+pub mod assertions;
 pub mod names;
 pub mod start;
 
+use progress::Progress;
 use writer::Written;
-ghost use Rattle.encoder.specs.Ending.{Refuses, Finishes};
+ghost use Rattle.encoder.specs.Ending.{Refuses, Finishes, Closes};
 
 // Encode's answer: the script's length, or a refusal's number and place.
 pub enum Encoded {
@@ -21,13 +23,34 @@ fn refuse(work: &mut [u32], script: &mut [u8], number: u32, place: u32) -> Encod
 }
 
 // Ends a script that is written up to a place: clears what is past it, and the working memory.
-fn finish(work: &mut [u32], script: &mut [u8], at: usize) -> Encoded
-    ensures { λ r. ⌜ Finishes (now (work .entry)) (now (script .entry)) at (now (work .exit)) (now (script .exit)) r ⌝ }
+fn finish(memory: &mut [u32], script: &mut [u8], at: usize) -> Encoded
+    ensures { λ r. ⌜ Finishes (now (memory .entry)) (now (script .entry)) at (now (memory .exit)) (now (script .exit)) r ⌝ }
 {
-    writer::clear_words(work);
+    writer::clear_words(memory);
     match writer::finish(script, at) {
         Written::Length(n) => Encoded::Script(n),
         Written::NotUtf8 => Encoded::Refused(6, 0),
         Written::NoRoom => Encoded::Refused(20, 0),
     }
+}
+
+// Ends the walk: its refusal, at the first record equal to the refused term; or the assertions.
+fn close(
+    file: &[u8],
+    work: &mut [u32],
+    k: usize,
+    many: u32,
+    script: &mut [u8],
+    limit: usize,
+    p: Progress,
+) -> Encoded
+    ensures { λ r. ⌜ Closes (now (file .entry)) k many limit p (now (work .entry)) (now (script .entry)) (now (work .exit)) (now (script .exit)) r ⌝ }
+{
+    if p.refused != 0 {
+        let n = index::get(work, k, index::TERM_FIRST, entry::wide(p.term));
+        let place = listing::place_of(file, n);
+        return refuse(work, script, p.refused, place);
+    }
+    let at = assertions::put_assertions(file, work, k, many, script, p.at, limit);
+    finish(work, script, at)
 }
