@@ -1,4 +1,5 @@
 pub mod Inverse
+pub mod Utf8Texts
 pub mod Places
 pub mod TypeEntries
 pub mod Rows

@@ -45,7 +45,7 @@ module _ (f : TermFile) (r : Named) where
 
 -- ---- references stay in range
 
-below-more : (a b : ℕ) → a ≤ b → (rs : List ℕ) → Below a rs → Below b rs
+pub below-more : (a b : ℕ) → a ≤ b → (rs : List ℕ) → Below a rs → Below b rs
 unfolding All Below
 below-more a b l [] h = tt
 below-more a b l (n ∷ rs) h = (omega (arith, h .0), below-more a b l rs (h .1))

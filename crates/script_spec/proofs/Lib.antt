@@ -29,6 +29,7 @@ pub mod Agree
 pub mod Invariant
 pub mod Steps
 pub mod Entered
+pub mod EnteredTerms
 pub mod TypeLog
 pub mod NewLog
 pub mod TermLog
@@ -39,7 +40,8 @@ pub mod Bare
 pub mod BareEntry
 pub mod BareFile
 pub mod Encoding
--- demand 3: the script of a log is faithful, and so is that of a file
+-- demand 3: what it asks of a script, computed; the script of a log is faithful, and so is that of a file
+pub mod Asked
 pub mod Roles
 pub mod Defined
 pub mod Order

@@ -45,7 +45,7 @@ pub parts-start : {file : Bytes} {work : List ℕ} {k : ℕ} {body : Bytes} {nam
 parts-start {n = n} = record { go = λ f S I M b. let z : n - 0 ≡ n = omega arith in rw z (continues-start, b) }
 
 -- the part at a place, and those after it
-parts-step : {body : Bytes} {at : ℕ} {item : Text} → IsText body at item → (p next n : ℕ) → p ≡ numberAt body (item .end) → drop next body ≡ drop 4 (drop (item .end) body)
+pub parts-step : {body : Bytes} {at : ℕ} {item : Text} → IsText body at item → (p next n : ℕ) → p ≡ numberAt body (item .end) → drop next body ≡ drop 4 (drop (item .end) body)
     → p ∷ partsOf n (drop next body) ≡ partsOf (suc n) (drop at body)
 unfolding partsOf namedItems seconds numberAt
 parts-step {body} {at} {item} I p next n e h =

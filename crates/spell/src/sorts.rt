@@ -55,7 +55,7 @@ fn put_plain_sort(out: &mut [u8], at: usize, limit: usize, ty: TypeEntry, name: 
 }
 
 // The type with number t.
-fn type_at(file: &[u8], work: &[u32], k: usize, t: u32) -> TypeEntry
+pub fn type_at(file: &[u8], work: &[u32], k: usize, t: u32) -> TypeEntry
     ensures { λ r. ⌜ TypeAt (now (file .entry)) (cell (now (work .entry)) k typeOffset t) r ⌝ }
 {
     let offset = index::get(work, k, index::TYPE_OFFSET, entry::wide(t));
@@ -63,7 +63,7 @@ fn type_at(file: &[u8], work: &[u32], k: usize, t: u32) -> TypeEntry
 }
 
 // What stands for the name of the type with number t.
-fn type_name(work: &[u32], k: usize, t: u32) -> u32
+pub fn type_name(work: &[u32], k: usize, t: u32) -> u32
     ensures { λ r. ⌜ r ≡ nameAt (now (work .entry)) k typeFirst typeName t ⌝ }
 {
     naming::get(

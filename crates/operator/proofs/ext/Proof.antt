@@ -1,5 +1,7 @@
 -- The code of an extension operator, below ten.
 use mathlib.Core.Path.{refl, ap}
+use native.Mathlib.Nat.{le-trans}
+use lib.Dec.{lit≤}
 use borrow.Author.Needs.{needs}
 use Rattle.script_spec.specs.Fields.{pure, extOp, coded}
 use Rattle.field.proofs.Coded.{reads-chosen, chosen-refused, at-map}
@@ -20,7 +22,7 @@ returns-2 c = reads-next _ (reads-next _ (tells (ap numberTold (c.before.before.
 
 returns-3 : tie.Need-returns-3
 unfolding extOperator extOp coded chosen opTold numberTold
-returns-3 c = reads-stop _ (reads-next _ (tells (ap numberTold (c.before.before.code.given.1)) c.before.before.before.before.byte.ensures) (chosen-refused _ _ c.if1.left))
+returns-3 c = reads-stop _ (reads-next _ (tells (ap numberTold (c.before.before.code.given.1)) c.before.before.before.before.byte.ensures) (chosen-refused _ _ (le-trans (lit≤ tt) c.if1.left)))
 
 pub ext-spec : {M : Type 1} → statement M
 ext-spec =

@@ -1,0 +1,4 @@
+pub mod Defining
+pub mod EntityLaws
+pub mod ApplicationLaws
+pub mod TermLaws

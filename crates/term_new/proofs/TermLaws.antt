@@ -1,0 +1,171 @@
+-- A new term by its entry: what its record has says which step it takes.
+-- Assumes nothing.
+use Prim.Native.Nat.{ℕ, _<_}
+use mathlib.Core.Path.{_≡_, refl, sym, ap, _∙_, subst}
+use mathlib.Core.Bool.{Bool}
+use mathlib.Core.List.{List, [], _∷_}
+use mathlib.Core.Option.{some, Option·none-ne-some}
+use lib.ListN.{length, take, drop}
+use package.types.Run.{OneOf, miss}
+use denote.Enum.Declared.{tagOf}
+use Rattle.script_spec.specs.Base.{Bytes, firsts}
+use Rattle.script_spec.specs.Utf8.{codePoints}
+use Rattle.script_spec.specs.Tree as tree
+use Rattle.script_spec.specs.Tree.{Tm, Ty, Forest, Mark, TermMark, node, Enums, enumOf, isVariable, negation}
+use Rattle.script_spec.specs.Fields.{term}
+use Rattle.script_spec.specs.File.{TermFile, types, funs, terms, members, typeAt, termAt, namedMark}
+use Rattle.script_spec.specs.Walk.{State, went, ensure, lowEnough, defineTerm, defineEntity, defineApp, encodeNew}
+use Rattle.naming.proofs.Sticky.{sticky-nothing}
+use Rattle.index.specs.Cells.{cell, termOffset}
+use Rattle.index.specs.First.{MarkInRange}
+use Rattle.index.specs.Standing.{bodyAt, entryAt}
+use Rattle.index.specs.Meaning.{Index, counted}
+use Rattle.bitvec.specs.declared.halves.Halves.{Halves}
+use Rattle.field.specs.Answers.{spanned}
+use Rattle.field.specs.declared.Span.{Span}
+use Rattle.operator.specs.Operators.{opOf}
+use Rattle.operator.specs.declared.Op.{Op}
+use Rattle.entry.specs.Places.{namedItems}
+use Rattle.entry.proofs.Utf8Texts.{Utf8Mark, term-utf8}
+use Rattle.entry.proofs.TermRows.{term-stands}
+use Rattle.term_entry.specs.Terms.{valueOf, termSaid, TermAt}
+use Rattle.term_entry.specs.declared.Children.{Children}
+use Rattle.term_entry.specs.declared.TermEntry.{TermEntry}
+use Rattle.term_entry.specs.declared.TermEntry.the-variants as entry
+use Rattle.term_entry.proofs.TermEntry.{the-type}
+use Rattle.progress.specs.Progress.{Advances}
+use Rattle.progress.specs.declared.Progress.{Progress}
+use Rattle.progress.proofs.Advancing.{advances-nothing}
+use Rattle.progress.proofs.Running.{advances-by}
+use Rattle.term_step.specs.Steps.{NewAt, OperatorAt, textWalk, newWalk, TestsText}
+use Rattle.term_new.specs.News.{VariableAt, EntityAt, defineWalk, entityWalk, appWalk}
+
+-- ---- the term of an entry
+
+-- what is known of a term whose record has the mark m over the terms rs
+record Marked (f : TermFile) (n : ℕ) (m : TermMark ℕ ℕ) : Type 0 where
+  utf8 : Utf8Mark m
+  in-range : MarkInRange (counted (length (types f)) (length (funs f)) n) m
+  rest : Forest Mark
+  is : termAt f n ≡ node (namedMark f m) rest
+
+module _ {file : Bytes} {k n o : ℕ} {work : List ℕ} {r : TermEntry} (i : ℕ) (same-number : i ≡ n) (at : o ≡ cell work k termOffset i) (T : TermAt file o r) where
+  term-of : {A : Type 0} (f : TermFile) → Index file f work k → n < length (terms f)
+      → ((m : TermMark ℕ ℕ) (rs : List ℕ) → termSaid (bodyAt file o) r ≡ some (term m rs) → Marked f n m → A) → A
+  unfolding counted
+  term-of f I l next =
+      term-stands (I .term-row n l .stands) (λ m rs reads range below tree.
+      let here : entryAt file o ≡ some (term m rs) = ap (entryAt file) (at ∙ ap (cell work k termOffset) same-number) ∙ reads in
+      next m rs (T .go m rs here) (record { utf8 = term-utf8 file o here; in-range = range; rest = _; is = sym tree }))
+
+  -- a term whose entry says this mark
+  marked : (x : TermMark ℕ ℕ) (ss : List ℕ) → termSaid (bodyAt file o) r ≡ some (term x ss) → (f : TermFile) → Index file f work k → n < length (terms f) → Marked f n x
+  marked x ss e f I l =
+      term-of f I l (λ m rs said known. let same : m ≡ x = cc in subst (Marked f n) same known)
+
+-- ---- the step of each mark
+
+module _ (e : Enums) (u : Tm) (ts : Forest Mark) (S : State) where
+  step-entity : (ty : Ty) (id : Bytes) → u ≡ node (tree.Entity ty id) ts → encodeNew e u S ≡ defineEntity e u id (enumOf e ty) S
+  unfolding encodeNew
+  step-entity ty id h = rw h
+
+  step-string : (id : Bytes) → u ≡ node (tree.StringLit id) ts → encodeNew e u S ≡ ensure 15 u (lowEnough (codePoints id)) S
+  unfolding encodeNew
+  step-string id h = rw h
+
+  step-app : (ty : Ty) (op : tree.Op tree.Fun) → u ≡ node (tree.App ty op) ts → encodeNew e u S ≡ defineApp e u op (negation u) S
+  unfolding encodeNew
+  step-app ty op h = rw h
+
+-- the places of the entries that are defined whatever they hold
+abbrev others : List ℕ
+others = 5 ∷ 6 ∷ 7 ∷ 8 ∷ 9 ∷ []
+
+-- the term of such an entry is defined
+defined : (e : Enums) (f : TermFile) (body : Bytes) (u : Tm) (ts : Forest Mark) (S : State) (r : TermEntry) (m : TermMark ℕ ℕ) (rs : List ℕ)
+    → OneOf others (tagOf the-type r) → termSaid body r ≡ some (term m rs) → u ≡ node (namedMark f m) ts → encodeNew e u S ≡ defineTerm e u S
+unfolding termSaid namedMark encodeNew
+defined e f body u ts S (entry.Var p t) m rs h said is = absurd (miss others 0 tt h)
+defined e f body u ts S (entry.BoolLit b) m rs h said is = absurd (miss others 1 tt h)
+defined e f body u ts S (entry.BitVecLit n v) m rs h said is = absurd (miss others 2 tt h)
+defined e f body u ts S (entry.StringLit p) m rs h said is = absurd (miss others 3 tt h)
+defined e f body u ts S (entry.Entity t p) m rs h said is = absurd (miss others 4 tt h)
+defined e f body u ts S (entry.ExtLit v) m rs h said is = let q : m ≡ tree.ExtLit (valueOf v) = cc in let g : u ≡ node (tree.ExtLit (valueOf v)) ts = is ∙ ap (λ (y : TermMark ℕ ℕ). node (namedMark f y) ts) q in rw g
+defined e f body u ts S (entry.None t) m rs h said is = let q : m ≡ tree.None t = cc in let g : u ≡ node (tree.None (typeAt f t)) ts = is ∙ ap (λ (y : TermMark ℕ ℕ). node (namedMark f y) ts) q in rw g
+defined e f body u ts S (entry.Some n) m rs h said is = let q : m ≡ tree.Some = cc in let g : u ≡ node tree.Some ts = is ∙ ap (λ (y : TermMark ℕ ℕ). node (namedMark f y) ts) q in rw g
+defined e f body u ts S (entry.Set t c) m rs h said is = let q : m ≡ tree.Set t = cc in let g : u ≡ node (tree.Set (typeAt f t)) ts = is ∙ ap (λ (y : TermMark ℕ ℕ). node (namedMark f y) ts) q in rw g
+defined e f body u ts S (entry.Record c) m rs h said is =
+    let names : List Bytes = firsts (namedItems (c .left) (drop (c .from) body)) in
+    let q : m ≡ tree.Record (firsts (namedItems (c .left) (drop (c .from) body))) = cc in
+    let g : u ≡ node (tree.Record (firsts (namedItems (c .left) (drop (c .from) body)))) ts = is ∙ ap (λ (y : TermMark ℕ ℕ). node (namedMark f y) ts) q in
+    rw g
+defined e f body u ts S (entry.App t op c) m rs h said is = absurd (miss others 10 tt h)
+defined e f body u ts S entry.Unreadable m rs h said is = absurd (miss others 11 tt h)
+
+-- ---- the step of each entry
+
+module _ {file : Bytes} {k many limit n o : ℕ} {work : List ℕ} {out : Bytes} {p : Progress} {r : TermEntry} (i : ℕ) (same-number : i ≡ n) (at : o ≡ cell work k termOffset i) (T : TermAt file o r) where
+  pub new-var : {s : Span} {t : ℕ} {work′ : List ℕ} {out′ : Bytes} {q : Progress} → r ≡ entry.Var s t → Advances file k many limit (VariableAt n) (newWalk n) work out p work′ out′ q
+      → Advances file k many limit (NewAt n) (newWalk n) work out p work′ out′ q
+  unfolding termSaid namedMark isVariable
+  new-var e A =
+      advances-by (λ f x I m s.
+      let K = marked i same-number at T _ _ (ap (termSaid (bodyAt file o)) e) f I (s .below) in
+      (record { at = s; is = ap isVariable (K .is) }, λ S. refl)) A
+
+  -- a literal that is spelled where it is used
+  new-nothing : (x : TermMark ℕ ℕ) (ss : List ℕ) → termSaid (bodyAt file o) r ≡ some (term x ss)
+      → ((f : TermFile) (ts : Forest Mark) (S : State) → encodeNew (members f) (node (namedMark f x) ts) S ≡ went S) → Advances file k many limit (NewAt n) (newWalk n) work out p work out p
+  unfolding newWalk
+  new-nothing x ss e h =
+      advances-by (λ f y I m s.
+      let K = marked i same-number at T x ss e f I (s .below) in
+      (s, λ S. ap (λ (u : Tm). encodeNew (members f) u S) (K .is) ∙ h f (K .rest) S))
+      (advances-nothing (NewAt n) (λ f. went) (λ f y s. sticky-nothing y))
+
+  pub new-bool : {b : Bool} → r ≡ entry.BoolLit b → Advances file k many limit (NewAt n) (newWalk n) work out p work out p
+  unfolding termSaid namedMark encodeNew
+  new-bool e = new-nothing _ _ (ap (termSaid (bodyAt file o)) e) (λ f ts S. refl)
+
+  pub new-bits : {w : ℕ} {v : Halves} → r ≡ entry.BitVecLit w v → Advances file k many limit (NewAt n) (newWalk n) work out p work out p
+  unfolding termSaid namedMark encodeNew
+  new-bits e = new-nothing _ _ (ap (termSaid (bodyAt file o)) e) (λ f ts S. refl)
+
+  pub new-string : {s : Span} {body text : Bytes} {q : Progress} → r ≡ entry.StringLit s → body ≡ bodyAt file o → text ≡ take (s .len) (drop (s .start) body) → TestsText n text p q
+      → Advances file k many limit (NewAt n) (newWalk n) work out p work out q
+  unfolding termSaid namedMark encodeNew newWalk textWalk Utf8Mark spanned
+  new-string {s} {text = text} e b h A =
+      let is-text : text ≡ spanned (bodyAt file o) s = h ∙ ap (λ (y : Bytes). spanned y s) b in
+      advances-by (λ f x I m y.
+      let K = marked i same-number at T _ _ (ap (termSaid (bodyAt file o)) e) f I (y .below) in
+      (record { below = y .below; utf8 = rw is-text (K .utf8) }, λ S. rw (is-text) (step-string (members f) (termAt f n) (K .rest) S _ (K .is)))) (A .go file k work .go out many limit)
+
+  pub new-entity : {s : Span} {t : ℕ} {body id : Bytes} {work′ : List ℕ} {out′ : Bytes} {q : Progress} → r ≡ entry.Entity t s → body ≡ bodyAt file o → id ≡ take (s .len) (drop (s .start) body)
+      → Advances file k many limit (EntityAt n t id) (entityWalk n t id) work out p work′ out′ q → Advances file k many limit (NewAt n) (newWalk n) work out p work′ out′ q
+  unfolding termSaid namedMark newWalk entityWalk Utf8Mark MarkInRange counted spanned
+  new-entity {s} {t} {id = id} e b h A =
+      let is-text : id ≡ spanned (bodyAt file o) s = h ∙ ap (λ (y : Bytes). spanned y s) b in
+      advances-by (λ f x I m y.
+      let K = marked i same-number at T _ _ (ap (termSaid (bodyAt file o)) e) f I (y .below) in
+      (record { at = y; type-below = K .in-range; utf8 = rw is-text (K .utf8) }, λ S. rw (is-text) (step-entity (members f) (termAt f n) (K .rest) S _ _ (K .is)))) A
+
+  pub new-app : {t : ℕ} {op : Op} {c : Children} {body : Bytes} {work′ : List ℕ} {out′ : Bytes} {q : Progress} → r ≡ entry.App t op c → body ≡ bodyAt file o
+      → Advances file k many limit (OperatorAt n (opOf body op)) (appWalk n (opOf body op)) work out p work′ out′ q → Advances file k many limit (NewAt n) (newWalk n) work out p work′ out′ q
+  unfolding termSaid namedMark newWalk appWalk MarkInRange
+  new-app {op = op} e b A =
+      advances-by (λ f x I m y.
+      let K = marked i same-number at T _ _ (ap (termSaid (bodyAt file o)) e) f I (y .below) in
+      (record { at = y; in-range = rw b (K .in-range .1) }, λ S. rw b (step-app (members f) (termAt f n) (K .rest) S _ _ (K .is)))) A
+
+  pub new-unreadable : r ≡ entry.Unreadable → Advances file k many limit (NewAt n) (newWalk n) work out p work out p
+  unfolding termSaid
+  new-unreadable e =
+      advances-by (λ f x I m y. term-of i same-number at T f I (y .below) (λ m′ rs said known. absurd (Option·none-ne-some _ (sym (ap (termSaid (bodyAt file o)) e) ∙ said))))
+      (advances-nothing (NewAt n) (λ f. went) (λ f y s. sticky-nothing y))
+
+  pub new-defined : {work′ : List ℕ} {out′ : Bytes} {q : Progress} → OneOf others (tagOf the-type r) → Advances file k many limit (NewAt n) (defineWalk n) work out p work′ out′ q
+      → Advances file k many limit (NewAt n) (newWalk n) work out p work′ out′ q
+  unfolding newWalk defineWalk
+  new-defined h A =
+      advances-by (λ f x I m y. (y, λ S. term-of i same-number at T f I (y .below) (λ m′ rs said known. defined (members f) f (bodyAt file o) (termAt f n) (known .rest) S r m′ rs h said (known .is)))) A

@@ -1,0 +1,14 @@
+-- `term_new::define_term` meets its contract.
+-- Assumes nothing.
+use borrow.Author.Needs.{needs}
+use Rattle.progress.proofs.Running.{advances-refused}
+use Rattle.term_new.proofs.Defining.{defines}
+use Rattle.term_new.proofs.define_term.Statement.{statement}
+use Rattle.term_new.proofs.define_term.Tie as tie
+
+pub define-term-spec : {M : Type 1} → statement M
+define-term-spec =
+    tie.close
+    (tie.spec
+    (λ c. advances-refused c.if1.taken) (λ c κs. search needs) (λ c κs. search needs) (λ c κs. search needs) (λ c. search needs) (λ c. search needs)
+    (λ c. defines c.before.before.before.before.before.before.before.before.before.before.if1.left c.before.before.before.before.before.before.before.before.enter.ensures c.before.before.before.put-definition.ensures c.placed.ensures))

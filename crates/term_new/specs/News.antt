@@ -1,0 +1,52 @@
+-- What the steps that declare or define a new term promise.
+-- Assumes nothing.
+use Prim.Native.Nat.{ℕ, _<_}
+use mathlib.Core.Path.{_≡_}
+use mathlib.Core.Bool.{true}
+use lib.ListN.{length}
+use Rattle.script_spec.specs.Base.{Bytes}
+use Rattle.script_spec.specs.Utf8.{isUtf8}
+use Rattle.script_spec.specs.Tree.{Op, enumOf, isVariable, negation}
+use Rattle.script_spec.specs.File.{TermFile, types, members, typeAt, termAt, namedOp}
+use Rattle.script_spec.specs.Walk.{Step, Walk, _>>_, defineTerm, defineEntity, defineApp}
+use Rattle.term_step.specs.Steps.{NewAt, textWalk, operatorWalk}
+
+-- ---- what a step is ready for
+
+-- the term with number n is new, and a variable
+pub record VariableAt (n : ℕ) (f : TermFile) (x : Step) : Type 0 where
+  pub at : NewAt n f x
+  pub is : isVariable (termAt f n) ≡ true
+
+-- it is new, and the text is UTF-8
+pub record StringAt (n : ℕ) (s : Bytes) (f : TermFile) (x : Step) : Type 0 where
+  pub at : NewAt n f x
+  pub utf8 : isUtf8 s ≡ true
+
+-- and t is the number of a type
+pub record EntityAt (n t : ℕ) (id : Bytes) (f : TermFile) (x : Step) : Type 0 where
+  pub at : NewAt n f x
+  pub type-below : t < length (types f)
+  pub utf8 : isUtf8 id ≡ true
+
+-- ---- steps over the term with number n
+
+-- it is defined
+unfoldable pub defineWalk : ℕ → TermFile → Walk
+defineWalk n f = defineTerm (members f) (termAt f n)
+
+-- an entity whose type is no enum
+unfoldable pub stringWalk : ℕ → Bytes → TermFile → Walk
+stringWalk n s f = _>>_ (textWalk n s f) (defineWalk n f)
+
+-- an entity of the type with number t
+unfoldable pub entityWalk : ℕ → ℕ → Bytes → TermFile → Walk
+entityWalk n t id f = defineEntity (members f) (termAt f n) id (enumOf (members f) (typeAt f t))
+
+-- and the definition after it
+unfoldable pub ordinaryWalk : ℕ → Op ℕ → TermFile → Walk
+ordinaryWalk n op f = _>>_ (operatorWalk n op f) (defineWalk n f)
+
+-- an application
+unfoldable pub appWalk : ℕ → Op ℕ → TermFile → Walk
+appWalk n op f = defineApp (members f) (termAt f n) (namedOp f op) (negation (termAt f n))

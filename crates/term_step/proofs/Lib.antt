@@ -1,0 +1,5 @@
+pub mod Entering
+pub mod Testing
+pub mod PatternLaws
+pub mod AttributeLaws
+pub mod OperatorLaws

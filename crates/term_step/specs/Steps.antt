@@ -1,0 +1,90 @@
+-- What entering a term promises, and what the tests of a term before it is defined promise.
+-- Assumes nothing.
+use Prim.Native.Nat.{ℕ, _<_}
+use mathlib.Core.Path.{_≡_}
+use mathlib.Core.Bool.{true, false}
+use mathlib.Core.List.{List, [], _∷_, map}
+use lib.ListN.{length}
+use Rattle.script_spec.specs.Base.{Bytes, any}
+use Rattle.script_spec.specs.Utf8.{isUtf8, codePoints}
+use Rattle.script_spec.specs.Tree.{Op, typeOf, children, eqTm}
+use Rattle.script_spec.specs.File.{TermFile, types, funs, terms, members, typeAt, termAt, namedOp}
+use Rattle.script_spec.specs.Walk as walk
+use Rattle.script_spec.specs.Walk.{State, Step, went, Walk, ensure, lowEnough, recordGet, operatorStep, encodeNew}
+use Rattle.index.specs.First.{OpInRange}
+use Rattle.index.specs.Meaning.{counted}
+use Rattle.progress.specs.Progress.{Advances}
+use Rattle.progress.specs.declared.Progress.{Progress}
+
+-- ---- what a step is ready for
+
+-- the term with number n is one of the file's
+unfoldable pub termReady : ℕ → TermFile → Step → Type 0
+termReady n f x = n < length (terms f)
+
+-- it is one of them, and no table that was reached has it
+pub record NewAt (n : ℕ) (f : TermFile) (x : Step) : Type 0 where
+  pub below : n < length (terms f)
+  pub new : (S : State) → x ≡ went S → any (eqTm (termAt f n)) (S .terms) ≡ false
+
+-- it is one of them, and the text is UTF-8
+pub record TextAt (n : ℕ) (s : Bytes) (f : TermFile) (x : Step) : Type 0 where
+  pub below : n < length (terms f)
+  pub utf8 : isUtf8 s ≡ true
+
+-- it is one of them, and t is the number of a type
+pub record TypedAt (n t : ℕ) (f : TermFile) (x : Step) : Type 0 where
+  pub below : n < length (terms f)
+  pub type-below : t < length (types f)
+
+-- it is new, and the function of an operator is one of the file's
+pub record OperatorAt (n : ℕ) (op : Op ℕ) (f : TermFile) (x : Step) : Type 0 where
+  pub at : NewAt n f x
+  pub in-range : OpInRange (counted (length (types f)) (length (funs f)) n) op
+
+-- ---- steps over the term with number n
+
+-- it is entered
+unfoldable pub enterWalk : ℕ → TermFile → Walk
+enterWalk n f = walk.enter (termAt f n)
+
+-- a text that SMT-LIB's strings have
+unfoldable pub textWalk : ℕ → Bytes → TermFile → Walk
+textWalk n s f = ensure 15 (termAt f n) (lowEnough (codePoints s))
+
+-- a pattern that SMT-LIB's strings have
+unfoldable pub patternWalk : ℕ → List ℕ → TermFile → Walk
+patternWalk n p f = ensure 15 (termAt f n) (lowEnough p)
+
+-- an attribute of the type with number t
+unfoldable pub attributeWalk : ℕ → ℕ → Bytes → TermFile → Walk
+attributeWalk n t a f = recordGet (termAt f n) a (typeAt f t ∷ [])
+
+-- an attribute of the first child
+unfoldable pub getWalk : ℕ → Bytes → TermFile → Walk
+getWalk n a f = recordGet (termAt f n) a (map typeOf (children (termAt f n)))
+
+-- what an operator asks for
+unfoldable pub operatorWalk : ℕ → Op ℕ → TermFile → Walk
+operatorWalk n op f = operatorStep (members f) (termAt f n) (namedOp f op)
+
+-- whatever term it is
+unfoldable pub newWalk : ℕ → TermFile → Walk
+newWalk n f = encodeNew (members f) (termAt f n)
+
+-- ---- promises
+
+-- memory and progress go on by entering the term with number n; file and script are as they were
+pub record Enters (k n : ℕ) (work : List ℕ) (p : Progress) (work′ : List ℕ) (p′ : Progress) : Type 0 where
+  pub go : (file out : Bytes) (many limit : ℕ) → Advances file k many limit (NewAt n) (enterWalk n) work out p work′ out p′
+
+-- progress goes on by a test of the term with number n; memory and script are as they were
+pub record Tests (file : Bytes) (k : ℕ) (ready : TermFile → Step → Type 0) (test : TermFile → Walk) (work : List ℕ) (p p′ : Progress) : Type 0 where
+  pub go : (out : Bytes) (many limit : ℕ) → Advances file k many limit ready test work out p work out p′
+
+-- the same of a test that asks neither the file nor memory: of a text, and of a pattern
+pub record TestsText (n : ℕ) (s : Bytes) (p p′ : Progress) : Type 0 where
+  pub go : (file : Bytes) (k : ℕ) (work : List ℕ) → Tests file k (TextAt n s) (textWalk n s) work p p′
+
+pub record TestsPattern (n : ℕ) (pattern : List ℕ) (p p′ : Progress) : Type 0 where
+  pub go : (file : Bytes) (k : ℕ) (work : List ℕ) → Tests file k (termReady n) (patternWalk n pattern) work p p′

@@ -1,0 +1,2 @@
+pub mod ChildrenLaws
+pub mod Walking

@@ -1,0 +1,142 @@
+-- The walk over a term and over its children: what has a name is left; the children that are left, after those that were encoded,
+-- make all. A term is still new after its type and its children, which enter no term as deep.
+-- Assumes nothing.
+use Prim.Native.Nat.{ℕ, _<_, _≤_}
+use mathlib.Core.Path.{_≡_, refl, sym, ap, _∙_, subst}
+use mathlib.Core.Bool.{true, false, not}
+use mathlib.Core.List.{List, [], _∷_}
+use native.Mathlib.Omega.{arith}
+use lib.Dec.{eqb}
+use lib.ListN.{length}
+use borrow.Author.Tests.{eq-eqb, ne-eqb}
+use Rattle.script_spec.specs.Base.{Bytes, any}
+use Rattle.script_spec.specs.Tree.{Tm, Ty, Enums, node, forest, typeOf, isFalsehood, eqTm}
+use Rattle.script_spec.specs.File.{TermFile, terms, members, typeAt, termAt}
+use Rattle.script_spec.specs.Walk.{State, Step, went, Walk, _>>_, unless, encodeType, encodeNew, encodeTerm, encodeTerms}
+use Rattle.script_spec.proofs.Steps.{ends-went}
+use Rattle.script_spec.proofs.EnteredTerms.{New, parts-new}
+use Rattle.index.specs.Cells.{cell, termOffset, termFirst, termType}
+use Rattle.index.specs.First.{All, Below}
+use Rattle.index.specs.Standing.{bodyAt}
+use Rattle.index.specs.Meaning.{Index}
+use Rattle.naming.specs.Naming.{termName, nameAt, Numbers}
+use Rattle.naming.specs.Sticky.{sticky}
+use Rattle.naming.proofs.Names.{kept-trans, index-kept, nameAt-term}
+use Rattle.naming.proofs.Sticky.{sticky-went, sticky-nothing, sticky-then, unless-known, unless-new}
+use Rattle.naming.proofs.Tables.{table-known}
+use Rattle.progress.specs.Progress.{Holds, Advances}
+use Rattle.progress.specs.declared.Progress.{Progress}
+use Rattle.progress.proofs.Advancing.{advances-nothing, advances-then}
+use Rattle.progress.proofs.Running.{sticky-same, advances-went, advances-as, advances-passed}
+use Rattle.term_entry.specs.Terms.{childrenIn}
+use Rattle.term_entry.specs.declared.Children.{Children}
+use Rattle.type_walk.specs.Types.{typeReady, typeWalk}
+use Rattle.term_step.specs.Steps.{NewAt, newWalk}
+use Rattle.term_walk.specs.Terms.{termReady, termWalk, TermsReady, termsWalk, below, childrenWalk, ChildrenAre, ToEncode}
+
+-- ---- one term
+
+-- a term that is in the table
+term-left : (e : Enums) (u : Tm) (S : State) → any (eqTm u) (S .terms) ≡ true → encodeTerm e u S ≡ went S
+unfolding encodeTerm
+term-left e (node m ts) S h = unless-known (λ s. any (eqTm (node m ts)) (s .terms)) _ S h
+
+-- a term's children, unless it is the `false` of a `Bvnego`
+abbrev parts : Enums → Tm → Walk
+parts e u = unless (λ s. isFalsehood u) (encodeTerms e (below u))
+
+-- a term that is not in the table, after its type and its children
+term-new : (e : Enums) (u : Tm) (S : State) → New u S → sticky (encodeNew e u) (sticky (parts e u) (encodeType e (typeOf u) S)) ≡ encodeTerm e u S
+unfolding encodeTerm below
+term-new e (node m ts) S h =
+    let w = encodeType e (typeOf (node m ts)) in
+    let v = unless (λ s. isFalsehood (node m ts)) (encodeTerms e ts) in
+    let u = encodeNew e (node m ts) in
+    sym (unless-new (λ s. any (eqTm (node m ts)) (s .terms)) _ S h ∙ sym (sticky-went (_>>_ w (_>>_ v u)) S) ∙ sticky-then w (_>>_ v u) (went S) ∙ sticky-then v u (sticky w (went S))
+    ∙ ap (λ (x : Step). sticky u (sticky v x)) (sticky-went w S))
+
+-- it is still not in the table before it is entered
+term-still-new : (e : Enums) (u : Tm) (S S₁ : State) → New u S → sticky (parts e u) (encodeType e (typeOf u) S) ≡ went S₁ → New u S₁
+unfolding below
+term-still-new e (node m ts) S S₁ h q =
+    let w = encodeType e (typeOf (node m ts)) in
+    let v = unless (λ s. isFalsehood (node m ts)) (encodeTerms e ts) in
+    ends-went (parts-new e m ts S h) (sym (sticky-went (_>>_ w v) S) ∙ sticky-then w v (went S) ∙ ap (sticky v) (sticky-went w S) ∙ q)
+
+module _ {file : Bytes} {f : TermFile} {work : List ℕ} {k : ℕ} {S : State} (I : Index file f work k) (N : Numbers f work k S) (n : ℕ) (l : n < length (terms f)) where
+  -- a term is in the table where it has a name
+  known-by : any (eqTm (termAt f n)) (S .terms) ≡ not (eqb (nameAt work k termFirst termName n) 0)
+  known-by = table-known (N .term-table) n l ∙ ap (λ (m : ℕ). not (eqb m 0)) (sym (nameAt-term I n l))
+
+  known : (nameAt work k termFirst termName n ≡ 0 → ⊥) → any (eqTm (termAt f n)) (S .terms) ≡ true
+  known h = known-by ∙ ap not (ne-eqb (nameAt work k termFirst termName n) 0 h)
+
+  unknown : nameAt work k termFirst termName n ≡ 0 → any (eqTm (termAt f n)) (S .terms) ≡ false
+  unknown h = known-by ∙ ap not (eq-eqb (nameAt work k termFirst termName n) 0 h)
+
+module _ {file : Bytes} {k many limit name : ℕ} {work : List ℕ} {out : Bytes} {p : Progress} (n : ℕ) (z : p .refused ≡ 0) (e : name ≡ nameAt work k termFirst termName n) where
+  -- a term that has a name is left
+  pub leaves-term : (name ≡ 0 → ⊥) → Advances file k many limit (termReady n) (termWalk n) work out p work out p
+  unfolding termReady termWalk
+  leaves-term h = advances-passed {ready = termReady n} {walk = termWalk n} z (λ f o S I m R W. term-left (members f) (termAt f n) S (known I (W .numbers) n R (λ q. h (e ∙ q))))
+
+  -- any other comes after its type and its children
+  pub encodes-term : {offset t : ℕ} {c : Children} {work₁ work₂ work₃ : List ℕ} {out₁ out₂ out₃ : Bytes} {p₁ p₂ p₃ : Progress} (i : ℕ) → name ≡ 0 → i ≡ n → offset ≡ cell work k termOffset i
+      → ToEncode file work k n c → t ≡ cell work k termType n → Advances file k many limit (typeReady t) (typeWalk t) work out p work₁ out₁ p₁
+      → Advances file k many limit (TermsReady n (childrenIn (bodyAt file offset) c)) (termsWalk (childrenIn (bodyAt file offset) c)) work₁ out₁ p₁ work₂ out₂ p₂
+      → Advances file k many limit (NewAt n) (newWalk n) work₂ out₂ p₂ work₃ out₃ p₃
+      → Advances file k many limit (termReady n) (termWalk n) work out p work₃ out₃ p₃
+  unfolding termReady termWalk newWalk typeReady typeWalk childrenWalk sticky
+  encodes-term {offset} {t} {c} {work₁} {work₂} {work₃} {out₁} {out₂} {out₃} {p₁} {p₂} {p₃} i h same-number place C ty A B D =
+      advances-went {ready = termReady n} {walk = termWalk n} (kept-trans (A .kept) (kept-trans (B .kept) (D .kept))) z (λ f o S I small m R W.
+      let row = I .term-row n R in
+      let rs = childrenIn (bodyAt file offset) c in
+      let here : offset ≡ cell work k termOffset n = place ∙ ap (cell work k termOffset) same-number in
+      let are : ChildrenAre f n rs = subst (λ (j : ℕ). ChildrenAre f n (childrenIn (bodyAt file j) c)) (sym here) (C .go f I R) in
+      let typed : typeAt f t ≡ typeOf (termAt f n) = ap (typeAt f) ty ∙ row .type-is in
+      let new = unknown I (W .numbers) n R (sym e ∙ h) in
+      let I₁ = index-kept (A .kept) I in
+      let I₂ = index-kept (B .kept) I₁ in
+      let x₁ = encodeType (members f) (typeAt f t) S in
+      let x₂ = sticky (termsWalk rs f) x₁ in
+      let steps : x₂ ≡ sticky (parts (members f) (termAt f n)) (encodeType (members f) (typeOf (termAt f n)) S) =
+      sym (sticky-same (childrenWalk n f) (termsWalk rs f) x₁ (are .walks)) ∙ ap (λ (y : Ty). sticky (childrenWalk n f) (encodeType (members f) y S)) typed in
+      let h₁ : Holds f k limit o work₁ out₁ p₁ x₁ = A .go f o (went S) I small m (rw ty (row .type-below)) W in
+      let h₂ : Holds f k limit o work₂ out₂ p₂ x₂ = B .go f o x₁ I₁ small m (record { inside = R; lower = are .lower }) h₁ in
+      let h₃ = D .go f o x₂ I₂ small m (record { below = R; new = λ S₁ q. term-still-new (members f) (termAt f n) S S₁ new (sym steps ∙ q) }) h₂ in
+      subst (Holds f k limit o work₃ out₃ p₃) (ap (sticky (encodeNew (members f) (termAt f n))) steps ∙ term-new (members f) (termAt f n) S new) h₃)
+
+-- ---- the children
+
+-- encoding the terms `rest` from here makes encoding `whole` from the start
+pub record TermsLeft (file : Bytes) (k many limit n : ℕ) (whole : List ℕ) (work₀ : List ℕ) (out₀ : Bytes) (p₀ : Progress) (work : List ℕ) (out : Bytes) (p : Progress) (rest : List ℕ) : Type 0 where
+  pub go : (work′ : List ℕ) (out′ : Bytes) (p′ : Progress) → Advances file k many limit (TermsReady n rest) (termsWalk rest) work out p work′ out′ p′
+      → Advances file k many limit (TermsReady n whole) (termsWalk whole) work₀ out₀ p₀ work′ out′ p′
+
+pub terms-start : {file : Bytes} {k many limit n : ℕ} {rs work : List ℕ} {out : Bytes} {p : Progress} → TermsLeft file k many limit n rs work out p work out p rs
+terms-start = record { go = λ w o q A. A }
+
+module _ {file : Bytes} {k many limit n : ℕ} {whole work₀ : List ℕ} {out₀ : Bytes} {p₀ : Progress} {work : List ℕ} {out : Bytes} {p : Progress} {rest : List ℕ}
+    (L : TermsLeft file k many limit n whole work₀ out₀ p₀ work out p rest) where
+  -- one child more
+  pub terms-on : {r : ℕ} {rs work₁ : List ℕ} {out₁ : Bytes} {p₁ : Progress} → rest ≡ r ∷ rs → r < n → Advances file k many limit (termReady r) (termWalk r) work out p work₁ out₁ p₁
+      → TermsLeft file k many limit n whole work₀ out₀ p₀ work₁ out₁ p₁ rs
+  unfolding termReady termWalk termsWalk encodeTerm encodeTerms forest Below All
+  terms-on {r} {rs} {work₁} {out₁} {p₁} e l A = record {
+    go = λ w o q B.
+        let first : Advances file k many limit (TermsReady n (r ∷ rs)) (termWalk r) work out p work₁ out₁ p₁ =
+        advances-as (λ f x I R. let i = R .inside in (omega arith, refl)) A in
+        let both : Advances file k many limit (TermsReady n (r ∷ rs)) (termsWalk (r ∷ rs)) work out p w o q =
+        advances-then (termWalk r) (termsWalk rs) first B (λ f x R. record { inside = R .inside; lower = R .lower .1 }) in
+        L .go w o q (rw e both);
+  }
+
+  -- none is left
+  pub terms-end : rest ≡ [] → Advances file k many limit (TermsReady n whole) (termsWalk whole) work₀ out₀ p₀ work out p
+  unfolding termsWalk encodeTerm encodeTerms forest
+  terms-end e = L .go work out p (rw e (advances-nothing (TermsReady n []) (termsWalk []) (λ f x R. sticky-nothing x)))
+
+  -- a child that has no lower number does not occur
+  pub terms-never : {r : ℕ} {rs : List ℕ} → rest ≡ r ∷ rs → n ≤ r → Advances file k many limit (TermsReady n whole) (termsWalk whole) work₀ out₀ p₀ work out p
+  unfolding Below All
+  terms-never {r} {rs} e h = L .go work out p (rw e (advances-nothing (TermsReady n (r ∷ rs)) (termsWalk (r ∷ rs)) (λ f x R. absurd (let l = R .lower .0 in omega arith))))

@@ -1,0 +1,115 @@
+// The walk over the terms of a file: each term after its type and its children, and each once.
+use progress::Progress;
+use query::Negated;
+use term_entry::Child;
+use term_entry::Children;
+ghost use mathlib.Core.Path.{_≡_};
+ghost use Rattle.index.specs.Cells.{cell, termFirst, termType};
+ghost use Rattle.index.specs.Standing.{bodyAt};
+ghost use Rattle.naming.specs.Naming.{nameAt, termName};
+ghost use Rattle.progress.specs.Progress.{Advances};
+ghost use Rattle.term_entry.specs.Terms.{childrenIn};
+ghost use Rattle.term_entry.specs.Children.{TakesChild};
+ghost use Rattle.term_walk.specs.Terms.{termReady, termWalk, TermsReady, termsWalk, ToEncode};
+
+// What stands for the name of the term with number n.
+fn term_name(work: &[u32], k: usize, n: u32) -> u32
+    ensures { λ r. ⌜ r ≡ nameAt (now (work .entry)) k termFirst termName n ⌝ }
+{
+    naming::get(
+        work,
+        k,
+        index::TERM_FIRST,
+        naming::TERM_NAME,
+        entry::wide(n),
+    )
+}
+
+// The number of the type of the term with number n.
+fn term_type(work: &[u32], k: usize, n: u32) -> u32
+    ensures { λ r. ⌜ r ≡ cell (now (work .entry)) k termType n ⌝ }
+{
+    index::get(work, k, index::TERM_TYPE, entry::wide(n))
+}
+
+// The children of the term with number n that are encoded before it: none under the `false` of a `Bvnego`.
+fn to_encode(file: &[u8], work: &[u32], k: usize, n: u32) -> Children
+    ensures { λ r. ⌜ ToEncode (now (file .entry)) (now (work .entry)) k n r ⌝ }
+{
+    match query::negation_of(file, work, k, n) {
+        Negated::Falsehood => Children {
+            from: 0,
+            left: 0,
+            named: false,
+        },
+        _ => {
+            let offset = index::get(work, k, index::TERM_OFFSET, entry::wide(n));
+            term_entry::children_at(file, offset)
+        }
+    }
+}
+
+// The first of the children that are left of the record at an offset.
+fn take_child(file: &[u8], offset: u32, c: Children) -> Child
+    ensures { λ r. ⌜ TakesChild (bodyAt (now (file .entry)) offset) c r ⌝ }
+{
+    term_entry::take_child(entry::body_at(file, offset), c)
+}
+
+// Encodes the term with number n, where it has no name yet.
+pub fn encode_term(
+    file: &[u8],
+    work: &mut [u32],
+    k: usize,
+    many: u32,
+    out: &mut [u8],
+    limit: usize,
+    p: Progress,
+    n: u32,
+) -> Progress
+    ensures { λ r.
+        ⌜ Advances (now (file .entry)) k many limit (termReady n) (termWalk n) (now (work .entry)) (now (out .entry)) p (now (work .exit)) (now (out .exit)) r ⌝ }
+{
+    if p.refused != 0 {
+        return p;
+    }
+    if term_name(work, k, n) != 0 {
+        return p;
+    }
+    let offset = index::get(work, k, index::TERM_OFFSET, entry::wide(n));
+    let c = to_encode(file, work, k, n);
+    let t = term_type(work, k, n);
+    let typed = type_walk::encode_type(file, work, k, many, out, limit, p, t);
+    let q = encode_terms(file, work, k, many, out, limit, typed, n, offset, c);
+    term_new::terms::encode_new(file, work, k, many, out, limit, q, n)
+}
+
+// Encodes the children that are left of the term with number n at an offset. A child has a lower number.
+fn encode_terms(
+    file: &[u8],
+    work: &mut [u32],
+    k: usize,
+    many: u32,
+    out: &mut [u8],
+    limit: usize,
+    p: Progress,
+    n: u32,
+    offset: u32,
+    c: Children,
+) -> Progress
+    ensures { λ r.
+        ⌜ Advances (now (file .entry)) k many limit (TermsReady n (childrenIn (bodyAt (now (file .entry)) offset) c)) (termsWalk (childrenIn (bodyAt (now (file .entry)) offset) c)) (now (work .entry)) (now (out .entry)) p (now (work .exit)) (now (out .exit)) r ⌝ }
+{
+    let mut q = p;
+    let mut left = c;
+    while 0 < left.left {
+        let child = take_child(file, offset, left);
+        let number = child.number;
+        if n <= number {
+            return q;
+        }
+        q = encode_term(file, work, k, many, out, limit, q, number);
+        left = child.rest;
+    }
+    q
+}

@@ -1,0 +1,6 @@
+pub mod PartLaws
+pub mod Datatypes
+pub mod Declaring
+pub mod Entering
+pub mod Walking
+pub mod Encoding
