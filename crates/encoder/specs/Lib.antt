@@ -2,3 +2,4 @@ pub mod Clearing
 pub mod Inputs
 pub mod Ending
 pub mod Promise
+pub mod Printing

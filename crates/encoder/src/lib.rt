@@ -1,11 +1,15 @@
 // Encode: the script of a term file, or its refusal.
 pub mod assertions;
+pub mod inputs;
 pub mod names;
+pub mod print;
 pub mod start;
 
 use progress::Progress;
+use term_check::Filled;
 use writer::Written;
-ghost use Rattle.encoder.specs.Ending.{Refuses, Finishes, Closes};
+ghost use Rattle.encoder.specs.Promise.{Encodes};
+ghost use Rattle.encoder.specs.Ending.{Refuses, Finishes, Closes, EncodesRecords};
 
 // Encode's answer: the script's length, or a refusal's number and place.
 pub enum Encoded {
@@ -53,4 +57,34 @@ fn close(
     }
     let at = assertions::put_assertions(file, work, k, many, script, p.at, limit);
     finish(work, script, at)
+}
+
+// Encodes the records of an accepted file, whose index the working memory is.
+fn encode_records(file: &[u8], work: &mut [u32], many: u32, script: &mut [u8]) -> Encoded
+    ensures { λ r. ⌜ EncodesRecords (now (file .entry)) many (now (work .entry)) (now (script .entry)) (now (work .exit)) (now (script .exit)) r ⌝ }
+{
+    let k = index::capacity(file.len());
+    let limit = script.len();
+    names::clear_names(work, k);
+    let at = start::put_start(script, 0, limit);
+    let p = Progress {
+        at,
+        types: 0,
+        funs: 0,
+        terms: 0,
+        refused: 0,
+        term: 0,
+    };
+    let q = inputs::encode_inputs(file, work, k, many, script, limit, p);
+    close(file, work, k, many, script, limit, q)
+}
+
+// Encodes a term file: the script and zeros past it, or a refusal and zeros alone. The working memory is all zero afterwards.
+pub fn encode(file: &[u8], work: &mut [u32], script: &mut [u8]) -> Encoded
+    ensures { λ r. ⌜ Encodes (now (file .entry)) (now (work .entry)) (now (script .entry)) (now (work .exit)) (now (script .exit)) r ⌝ }
+{
+    match term_check::fill(file, work) {
+        Filled::Refused(n, place) => refuse(work, script, n, place),
+        Filled::Done(c) => encode_records(file, work, c.enums, script),
+    }
 }
