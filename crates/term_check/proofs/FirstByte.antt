@@ -23,7 +23,7 @@ type-byte (Declared (entity n)) = refl
 type-byte (Declared (extension x)) = refl
 type-byte (Declared (recordOf names)) = refl
 
-term-byte : (m : TermMark ℕ ℕ) → getD (termBytes m) 0 0 ≡ 88
+pub term-byte : (m : TermMark ℕ ℕ) → getD (termBytes m) 0 0 ≡ 88
 unfolding termBytes Computes.base
 term-byte (Var id n) = refl
 term-byte (BoolLit b) = refl

@@ -1,0 +1,110 @@
+-- Columns that are cleared entry by entry: a 0 that is stored stands there, and entries that were 0 stay so.
+-- Assumes nothing.
+use mathlib.Core.Path.{_≡_, refl, sym, _∙_}
+use Prim.Native.Nat.{ℕ, _+_, _*_, _<_, _≤_}
+use native.Mathlib.Omega.{arith}
+use native.Mathlib.Decide.{ℕ-discrete, decLt, decLe}
+use mathlib.Core.List.{List}
+use lib.ListN.{length, getD, set, length-set, List·getD-eq-default}
+use lib.Seq.{getD-set-same, getD-set-other, set-out}
+use Rattle.index.specs.Cells.{offset, cell, store}
+use Rattle.index.proofs.Cells.{read-past, offset-past, offset-narrow}
+use Rattle.naming.specs.Naming.{typeName, funName, termName, isName, Kept}
+use Rattle.naming.proofs.Names.{kept-refl, kept-trans, kept-store}
+use Rattle.encoder.specs.Clearing.{ClearsNames}
+
+-- ---- lists
+
+set-zero : (l : List ℕ) (n : ℕ) → getD (set l n 0) n 0 ≡ 0
+set-zero l n = go (decLt n (length l))
+  where
+    go : Dec (n < length l) → getD (set l n 0) n 0 ≡ 0
+    go (yes h) = getD-set-same l n 0 0 h
+    go (no h) = rw (set-out l n 0 (omega arith)) (List·getD-eq-default l 0 (omega arith))
+
+zero-stays : (l : List ℕ) (n m : ℕ) → getD l m 0 ≡ 0 → getD (set l n 0) m 0 ≡ 0
+zero-stays l n m z = go (ℕ-discrete m n)
+  where
+    go : Dec (m ≡ n) → getD (set l n 0) m 0 ≡ 0
+    go (yes e) = rw e (set-zero l n)
+    go (no e) = getD-set-other l n m 0 0 e ∙ z
+
+-- ---- columns
+
+module _ (work : List ℕ) (k column i : ℕ) where
+  cell-cleared : cell (store work k column i 0) k column i ≡ 0
+  unfolding cell store
+  cell-cleared = rw length-set (set-zero work (offset (length work) k column i))
+
+  cell-stays : (column′ j : ℕ) → cell work k column′ j ≡ 0 → cell (store work k column i 0) k column′ j ≡ 0
+  unfolding cell store
+  cell-stays column′ j z = rw length-set (zero-stays work (offset (length work) k column i) (offset (length work) k column′ j) z)
+
+-- an entry past a column is 0
+cell-past : (work : List ℕ) (k column j : ℕ) → column < 12 → k ≤ j → cell work k column j ≡ 0
+cell-past work k column j c h = sym (read-past work k column j (length work) (here (decLe (12 * k) (length work))) (omega arith))
+  where
+    here : Dec (12 * k ≤ length work) → length work ≡ offset (length work) k column j
+    here (yes f) = offset-past (length work) k column j f c h
+    here (no f) = offset-narrow (length work) k column j (omega arith)
+
+-- the first i entries of a column are 0
+pub record ZeroTo (work : List ℕ) (k column i : ℕ) : Type 0 where
+  pub is : (j : ℕ) → j < i → cell work k column j ≡ 0
+
+zero-same : {work : List ℕ} {k column i : ℕ} → ZeroTo work k column i → ZeroTo (store work k column i 0) k column (i + 1)
+zero-same {work} {k} {column} {i} Z = record { is = λ j l. go j l (ℕ-discrete j i) }
+  where
+    go : (j : ℕ) → j < i + 1 → Dec (j ≡ i) → cell (store work k column i 0) k column j ≡ 0
+    go j l (yes e) = rw e (cell-cleared work k column i)
+    go j l (no e) = cell-stays work k column i column j (Z .is j (omega arith))
+
+zero-other : {work : List ℕ} {k column i : ℕ} (column′ n : ℕ) → ZeroTo work k column i → ZeroTo (store work k column′ n 0) k column i
+zero-other {work} {k} {column} {i} column′ n Z = record { is = λ j l. cell-stays work k column′ n column j (Z .is j l) }
+
+-- ---- the loop
+
+-- the loop has cleared the first i entries of each column
+pub record ClearedTo (work : List ℕ) (k i : ℕ) (work′ : List ℕ) : Type 0 where
+  pub kept : Kept work work′ k
+  pub type-column : ZeroTo work′ k typeName i
+  pub fun-column : ZeroTo work′ k funName i
+  pub term-column : ZeroTo work′ k termName i
+
+pub cleared-none : (work : List ℕ) (k : ℕ) → ClearedTo work k 0 work
+cleared-none work k = record { kept = kept-refl work k; type-column = none; fun-column = none; term-column = none }
+  where
+    none : {column : ℕ} → ZeroTo work k column 0
+    none = record { is = λ j l. absurd (omega arith) }
+
+pub cleared-more : {work work₁ work₂ work₃ work₄ : List ℕ} {k i : ℕ} → ClearedTo work k i work₁
+    → work₂ ≡ store work₁ k typeName i 0 → work₃ ≡ store work₂ k funName i 0 → work₄ ≡ store work₃ k termName i 0 → ClearedTo work k (i + 1) work₄
+unfolding isName
+cleared-more {work} {work₁} {work₂} {work₃} {work₄} {k} {i} C a b c =
+    let K₂ : Kept work₁ work₂ k = rw a (kept-store work₁ k typeName i 0 refl) in
+    let K₃ : Kept work₂ work₃ k = rw b (kept-store work₂ k funName i 0 refl) in
+    let K₄ : Kept work₃ work₄ k = rw c (kept-store work₃ k termName i 0 refl) in
+    let A₂ : ZeroTo work₂ k typeName (i + 1) = rw a (zero-same (C .type-column)) in
+    let A₃ : ZeroTo work₃ k typeName (i + 1) = rw b (zero-other funName i A₂) in
+    let B₂ : ZeroTo work₂ k funName i = rw a (zero-other typeName i (C .fun-column)) in
+    let B₃ : ZeroTo work₃ k funName (i + 1) = rw b (zero-same B₂) in
+    let D₂ : ZeroTo work₂ k termName i = rw a (zero-other typeName i (C .term-column)) in
+    let D₃ : ZeroTo work₃ k termName i = rw b (zero-other funName i D₂) in
+    record {
+      kept = kept-trans (C .kept) (kept-trans K₂ (kept-trans K₃ K₄));
+      type-column = rw c (zero-other termName i A₃);
+      fun-column = rw c (zero-other termName i B₃);
+      term-column = rw c (zero-same D₃);
+    }
+
+pub cleared-all : {work work′ : List ℕ} {k i : ℕ} → ClearedTo work k i work′ → k ≤ i → ClearsNames work k work′
+cleared-all {work} {work′} {k} {i} C h = record {
+  kept = C .kept;
+  no-types = λ j. all typeName (omega arith) j (C .type-column) (decLt j i);
+  no-funs = λ j. all funName (omega arith) j (C .fun-column) (decLt j i);
+  no-terms = λ j. all termName (omega arith) j (C .term-column) (decLt j i);
+}
+  where
+    all : (column : ℕ) → column < 12 → (j : ℕ) → ZeroTo work′ k column i → Dec (j < i) → cell work′ k column j ≡ 0
+    all column c j Z (yes l) = Z .is j l
+    all column c j Z (no l) = cell-past work′ k column j c (omega arith)

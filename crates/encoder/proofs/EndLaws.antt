@@ -1,0 +1,102 @@
+-- The end of a script: refusals clear, a script that fits is given by its length, and encode's answer is that of the walk.
+-- Assumes nothing.
+use mathlib.Core.Path.{_≡_, refl, sym, ap, _∙_, subst}
+use Prim.Native.Nat.{ℕ, _+_, _-_}
+use native.Mathlib.Numerals.{unary-clauses}
+use native.Mathlib.Omega.{arith}
+use mathlib.Core.List.{List, [], _∷_, _++_}
+use lib.ListN.{length, take, replicate}
+use lib.Seq.{take-at}
+use Rattle.script_spec.specs.Base.{Bytes, Answer, accepted, refused}
+use Rattle.script_spec.specs.File.{TermFile, members, inputs, checked}
+use Rattle.script_spec.specs.Command.{Command, script, fitting, left}
+use Rattle.script_spec.specs.Walk.{Step, went, stopped, start, names, encodeInputs, assertions, firstEqual, encoding, encoded}
+use Rattle.script_spec.proofs.Demand.{encoded-faithful}
+use Rattle.writer.specs.Writing.{laid, ceiling, Wrote, Appends, cleared, answer, lengthOf}
+use Rattle.writer.specs.Writing as writing
+use Rattle.writer.specs.declared.Written.{Written}
+use Rattle.writer.proofs.Laws.{laid-nil, finished}
+use Rattle.encoder.specs.Promise.{encodedAs, Encodes}
+use Rattle.encoder.specs.Ending.{Gives, Refuses, Finishes, walked}
+use Rattle.encoder.specs.declared.Encoded.{Encoded}
+use Rattle.encoder.specs.declared.Encoded.the-variants.{Script, Refused}
+
+-- ---- refusals
+
+zeros-from : (x y : Bytes) → y ≡ cleared x 0 → y ≡ replicate (length x) 0
+unfolding cleared
+zeros-from x y e = simp unary-clauses at e
+
+pub gives-refused : (x : Bytes) {y : Bytes} (n p : ℕ) → y ≡ replicate (length x) 0 → Gives x y (Refused n p) (refused n p)
+unfolding encodedAs lengthOf left
+gives-refused x n p e = record { says = refl; holds = e }
+
+pub refuses-cleared : (work : List ℕ) (x : Bytes) (n p : ℕ) {work′ : List ℕ} {y : Bytes} → work′ ≡ replicate (length work) 0 → y ≡ cleared x 0 → Refuses work x n p work′ y (Refused n p)
+refuses-cleared work x n p {work′} {y} a b = record { cleared = a; gives = gives-refused x n p (zeros-from x y b) }
+
+-- ---- the end of a script
+
+-- bytes that were written from the start of a buffer
+none-before : (a : Bytes) → length a ≡ 0 → a ≡ []
+none-before [] e = refl
+none-before (b ∷ a) e = absurd (omega arith)
+
+from-buffer : {limit at : ℕ} {o x s : Bytes} → Wrote limit o x at s → Appends limit o 0 x at s
+from-buffer {limit} {at} {o} {x} {s} w = record {
+  go = λ o′ a v.
+      let none : a ≡ [] = none-before a (omega (arith, v .place)) in
+      let same : o ≡ o′ = v .holds ∙ ap (laid (ceiling limit) o′) none ∙ laid-nil (ceiling limit) o′ in
+      subst (λ (b : Bytes). Wrote limit o′ x at (b ++ s)) (sym none) (subst (λ (b : Bytes). Wrote limit b x at s) same w);
+}
+
+-- an answer of the writer as one of encode
+module _ (work : List ℕ) (x : Bytes) (at : ℕ) {work′ : List ℕ} {y : Bytes} (c : work′ ≡ replicate (length work) 0) where
+  pub finishes-by : (v : Written) (r : Encoded) → answer v ≡ encodedAs r → writing.Finishes x at y v → Finishes work x at work′ y r
+  finishes-by v r e F = record {
+    cleared = c;
+    go = λ o s w. let L = finished (from-buffer w) F in record { says = sym e ∙ L .says; holds = L .holds };
+  }
+
+-- ---- encode's answer
+
+-- the answer of an accepted file
+module _ (file : Bytes) (w : ℕ) (f : TermFile) (e : checked file w ≡ accepted f) (room : ℕ) where
+  pub encoded-walked : encoded file w room ≡ walked f room (encodeInputs (members f) (inputs f) start)
+  unfolding encoded encoding walked
+  encoded-walked =
+      ap (λ (a : Answer TermFile). elim a as (λ y. Answer Bytes) [ refused n p ↦ refused n p | accepted g ↦ elim (encoding g) as (λ y. Answer Bytes) [ refused n p ↦ refused n p | accepted cs ↦ fitting (script cs) room ] ]) e
+      ∙ go (encodeInputs (members f) (inputs f) start)
+    where
+      go : (x : Step)
+          → _≡_ {A = Answer Bytes} (elim (elim x as (λ y. Answer (List Command)) [ stopped n t ↦ refused n (firstEqual f t) | went s ↦ accepted (s .commands ++ assertions (members f) (names s) (inputs f)) ]) as (λ y. Answer Bytes) [ refused n p ↦ refused n p | accepted cs ↦ fitting (script cs) room ])
+          (walked f room x)
+      go (went s) = refl
+      go (stopped n t) = refl
+
+-- the answer of a file that is refused
+pub encoded-refused : (file : Bytes) (w n p room : ℕ) → checked file w ≡ refused n p → encoded file w room ≡ refused n p
+unfolding encoded
+encoded-refused file w n p room e = rw (e, encoded)
+
+-- ---- demand 3
+
+-- the bytes of a script of the answered length
+given-script : (x y : Bytes) (r : Encoded) (w : Answer Bytes) (n : ℕ) → Gives x y r w → r ≡ Script n → w ≡ accepted (take n y)
+unfolding encodedAs lengthOf left
+given-script x y r (accepted s) n G e =
+    let q : accepted n ≡ accepted (length s) = ap encodedAs (sym e) ∙ G .says in
+    let size : n ≡ length s = cc in
+    ap accepted (sym (rw (size, G .holds) (take-at s _ (length s) refl)))
+given-script x y r (refused m p) n G e =
+    let q : accepted n ≡ refused m p = ap encodedAs (sym e) ∙ G .says in
+    absurd (let z : _≡_ {A = ℕ} 0 1 = cc in omega arith)
+
+-- an answer that is encode's, and memory that is cleared
+pub encodes : (file : Bytes) (work : List ℕ) (x : Bytes) {work′ : List ℕ} {y : Bytes} {r : Encoded} → work′ ≡ replicate (length work) 0
+    → Gives x y r (encoded file (length work) (length x)) → Encodes file work x work′ y r
+encodes file work x {work′} {y} {r} c G = record {
+  answer = G .says;
+  script-is = G .holds;
+  cleared = c;
+  faithful = λ f n e q. encoded-faithful file (length work) (length x) f (take n y) e (given-script x y r (encoded file (length work) (length x)) n G q);
+}

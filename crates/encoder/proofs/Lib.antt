@@ -1,0 +1,6 @@
+pub mod Clearing
+pub mod InputLaws
+pub mod AssertionLaws
+pub mod EndLaws
+pub mod CloseLaws
+pub mod PrintLaws

@@ -1,0 +1,13 @@
+-- `encoder::refuse` meets its contract: all is zeroed.
+-- Assumes nothing.
+use Rattle.encoder.proofs.EndLaws.{refuses-cleared}
+use borrow.Author.Needs.{needs}
+use Rattle.encoder.proofs.refuse.Statement.{statement}
+use Rattle.encoder.proofs.refuse.Tie as tie
+
+returns : tie.Need-returns
+returns c = refuses-cleared _ _ _ _ c.before.before.before.before.before.before.clear-words.ensures c.before.before.clear.ensures
+
+pub refuse-spec : {M : Type 1} → statement M
+refuse-spec =
+    tie.close (tie.spec (λ c κs. search needs) (λ c κs. search needs) (λ c. search needs) (λ c. search needs) returns)

@@ -1,0 +1,48 @@
+-- What the parts of encode promise: a refusal, the end of a script, the end of the walk, and the records of an accepted file.
+-- Assumes nothing.
+use mathlib.Core.Path.{_≡_}
+use Prim.Native.Nat.{ℕ, _/_}
+use mathlib.Core.List.{List, _++_}
+use lib.ListN.{length, replicate}
+use Rattle.script_spec.specs.Base.{Bytes, Answer, accepted, refused}
+use Rattle.script_spec.specs.File.{TermFile, enums, members, inputs, checked}
+use Rattle.script_spec.specs.Command.{script, fitting, left}
+use Rattle.script_spec.specs.Walk.{Step, went, stopped, names, assertions, firstEqual, encoded}
+use Rattle.writer.specs.Writing.{Wrote, lengthOf}
+use Rattle.index.specs.Meaning.{Index}
+use Rattle.progress.specs.Progress.{Holds}
+use Rattle.progress.specs.declared.Progress.{Progress}
+use Rattle.encoder.specs.declared.Encoded.{Encoded}
+use Rattle.encoder.specs.Promise.{encodedAs}
+
+-- a script's buffer x has become y and a call says r, as an answer of document 01 has them
+pub record Gives (x y : Bytes) (r : Encoded) (w : Answer Bytes) : Type 0 where
+  pub says : encodedAs r ≡ lengthOf w
+  pub holds : y ≡ left w (length x)
+
+-- a refusal clears the script and the working memory
+pub record Refuses (work : List ℕ) (x : Bytes) (n p : ℕ) (work′ : List ℕ) (y : Bytes) (r : Encoded) : Type 0 where
+  pub cleared : work′ ≡ replicate (length work) 0
+  pub gives : Gives x y r (refused n p)
+
+-- a script s that was written into a buffer o is ended: its length or refusal 20
+pub record Finishes (work : List ℕ) (x : Bytes) (at : ℕ) (work′ : List ℕ) (y : Bytes) (r : Encoded) : Type 0 where
+  pub cleared : work′ ≡ replicate (length work) 0
+  pub go : (o s : Bytes) → Wrote (length o) o x at s → Gives o y r (fitting s (length o))
+
+-- the answer after the walk over the inputs of f
+unfoldable pub walked : TermFile → ℕ → Step → Answer Bytes
+walked f room (went S) = fitting (script (S .commands ++ assertions (members f) (names S) (inputs f))) room
+walked f room (stopped n t) = refused n (firstEqual f t)
+
+-- the walk has come to x, and the script is ended by what that is
+pub record Closes (file : Bytes) (k many limit : ℕ) (p : Progress) (work : List ℕ) (x : Bytes) (work′ : List ℕ) (y : Bytes) (r : Encoded) : Type 0 where
+  pub cleared : work′ ≡ replicate (length work) 0
+  pub go : (w : ℕ) (f : TermFile) (o : Bytes) (z : Step) → checked file w ≡ accepted f → Index file f work k → many ≡ length (enums f) → limit ≡ length o
+      → Holds f k limit o work x p z → Gives o y r (walked f (length o) z)
+
+-- the records of an accepted file are encoded, whatever its index was made with
+pub record EncodesRecords (file : Bytes) (many : ℕ) (work : List ℕ) (x : Bytes) (work′ : List ℕ) (y : Bytes) (r : Encoded) : Type 0 where
+  pub cleared : work′ ≡ replicate (length work) 0
+  pub go : (w : ℕ) (f : TermFile) → checked file w ≡ accepted f → Index file f work (length file / 6) → many ≡ length (enums f)
+      → Gives x y r (encoded file w (length x))

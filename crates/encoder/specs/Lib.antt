@@ -1,0 +1,5 @@
+pub mod Clearing
+pub mod Inputs
+pub mod Ending
+pub mod Promise
+pub mod Printing

@@ -1,0 +1,90 @@
+// Encode: the script of a term file, or its refusal.
+pub mod assertions;
+pub mod inputs;
+pub mod names;
+pub mod print;
+pub mod start;
+
+use progress::Progress;
+use term_check::Filled;
+use writer::Written;
+ghost use Rattle.encoder.specs.Promise.{Encodes};
+ghost use Rattle.encoder.specs.Ending.{Refuses, Finishes, Closes, EncodesRecords};
+
+// Encode's answer: the script's length, or a refusal's number and place.
+pub enum Encoded {
+    Script(usize),
+    Refused(u32, u32),
+}
+
+// Refuses: clears the script and the working memory.
+fn refuse(work: &mut [u32], script: &mut [u8], number: u32, place: u32) -> Encoded
+    ensures { λ r. ⌜ Refuses (now (work .entry)) (now (script .entry)) number place (now (work .exit)) (now (script .exit)) r ⌝ }
+{
+    writer::clear_words(work);
+    writer::clear(script, 0);
+    Encoded::Refused(number, place)
+}
+
+// Ends a script that is written up to a place: clears what is past it, and the working memory.
+fn finish(memory: &mut [u32], script: &mut [u8], at: usize) -> Encoded
+    ensures { λ r. ⌜ Finishes (now (memory .entry)) (now (script .entry)) at (now (memory .exit)) (now (script .exit)) r ⌝ }
+{
+    writer::clear_words(memory);
+    match writer::finish(script, at) {
+        Written::Length(n) => Encoded::Script(n),
+        Written::NotUtf8 => Encoded::Refused(6, 0),
+        Written::NoRoom => Encoded::Refused(20, 0),
+    }
+}
+
+// Ends the walk: its refusal, at the first record equal to the refused term; or the assertions.
+fn close(
+    file: &[u8],
+    work: &mut [u32],
+    k: usize,
+    many: u32,
+    script: &mut [u8],
+    limit: usize,
+    p: Progress,
+) -> Encoded
+    ensures { λ r. ⌜ Closes (now (file .entry)) k many limit p (now (work .entry)) (now (script .entry)) (now (work .exit)) (now (script .exit)) r ⌝ }
+{
+    if p.refused != 0 {
+        let n = index::get(work, k, index::TERM_FIRST, entry::wide(p.term));
+        let place = listing::place_of(file, n);
+        return refuse(work, script, p.refused, place);
+    }
+    let at = assertions::put_assertions(file, work, k, many, script, p.at, limit);
+    finish(work, script, at)
+}
+
+// Encodes the records of an accepted file, whose index the working memory is.
+fn encode_records(file: &[u8], work: &mut [u32], many: u32, script: &mut [u8]) -> Encoded
+    ensures { λ r. ⌜ EncodesRecords (now (file .entry)) many (now (work .entry)) (now (script .entry)) (now (work .exit)) (now (script .exit)) r ⌝ }
+{
+    let k = index::capacity(file.len());
+    let limit = script.len();
+    names::clear_names(work, k);
+    let at = start::put_start(script, 0, limit);
+    let p = Progress {
+        at,
+        types: 0,
+        funs: 0,
+        terms: 0,
+        refused: 0,
+        term: 0,
+    };
+    let q = inputs::encode_inputs(file, work, k, many, script, limit, p);
+    close(file, work, k, many, script, limit, q)
+}
+
+// Encodes a term file: the script and zeros past it, or a refusal and zeros alone. The working memory is all zero afterwards.
+pub fn encode(file: &[u8], work: &mut [u32], script: &mut [u8]) -> Encoded
+    ensures { λ r. ⌜ Encodes (now (file .entry)) (now (work .entry)) (now (script .entry)) (now (work .exit)) (now (script .exit)) r ⌝ }
+{
+    match term_check::fill(file, work) {
+        Filled::Refused(n, place) => refuse(work, script, n, place),
+        Filled::Done(c) => encode_records(file, work, c.enums, script),
+    }
+}

@@ -1,0 +1,4 @@
+// `termscript` once more, run on a file that is longer than the program takes.
+fn main() {
+    termscript_run::run();
+}
