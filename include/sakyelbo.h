@@ -34,6 +34,11 @@ typedef struct sakyelbo_text {
 /* Checks a term file: refusals 1 to 13. */
 uint64_t sakyelbo_check(const uint8_t *file, size_t file_count, uint32_t *work, size_t work_count);
 
+/* Encodes a term file: check's refusals, then 14 to 19, then 20 if the script is longer than its buffer. The script is written to the
+ * start of `script`; *size is then its length, and 0 after a refusal. */
+uint64_t sakyelbo_encode(const uint8_t *file, size_t file_count, uint32_t *work, size_t work_count, uint8_t *script,
+                         size_t script_count, size_t *size);
+
 /* The commands of a script. Each is written with its final byte 10 to the start of `out`; *size is then its length, and 0 after a
  * refusal: 6 if a text is not UTF-8, 20 if the command is longer than `out`. */
 

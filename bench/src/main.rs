@@ -1,4 +1,4 @@
-//! Times check on term files, beside clearing and copying the same bytes in the same run.
+//! Times check and encode on term files, beside clearing and copying the same bytes in the same run.
 mod files;
 
 use files::TermFile;
@@ -55,6 +55,19 @@ fn time_check(file: &TermFile) {
     report(file, "check", taken, copying(&mut work, &file.bytes));
 }
 
+fn time_encode(file: &TermFile) {
+    let mut work = vec![0; sakyelbo::work_entries(&file.bytes)];
+    let mut script = match sakyelbo::encode(&file.bytes) {
+        Ok(script) => script,
+        Err(refusal) => return println!("{}: {refusal}", file.name),
+    };
+    let taken = shortest(|| {
+        black_box(sakyelbo::encode_with(black_box(&file.bytes), &mut work, &mut script)).unwrap();
+    });
+    let both = [&file.bytes[..], &script].concat();
+    report(file, "encode", taken, copying(&mut work, &both));
+}
+
 /// The files of the benchmark, and those that are named.
 fn files() -> std::io::Result<Vec<TermFile>> {
     let data = concat!(env!("CARGO_MANIFEST_DIR"), "/data/");
@@ -74,6 +87,7 @@ fn main() -> std::io::Result<()> {
     println!("file          terms    bytes  call             ms    ns/term   copy ms  to copy");
     for file in files()? {
         time_check(&file);
+        time_encode(&file);
     }
     Ok(())
 }

@@ -1,30 +1,36 @@
-//! The command `sakyelbo`: checks term files.
+//! The command `sakyelbo`: turns term files into scripts, and checks them.
 use std::fs::File;
-use std::io::{stdin, Read, Result};
+use std::io::{stdin, stdout, Read, Result, Write};
 use std::process::ExitCode;
 
 const HELP: &str = "\
-Checks term files of Cedar's terms.
+Turns term files of Cedar's terms into SMT-LIB scripts.
 
-    sakyelbo check FILE     says `accepted`, or why the file is refused
-    sakyelbo --help         says this
+    sakyelbo encode FILE [-o OUT]   writes the script to standard output, or to OUT
+    sakyelbo check FILE             says `accepted`, or why the file is refused
+    sakyelbo --help                 says this
 
 FILE is a term file of at most 1,048,576 bytes; `-` is standard input. tools/termfile writes one from a readable text.
 A refusal is written to standard error as `refused N record P`, with what is wrong behind it.
 
-The exit status is 0, or 1 for a refusal, or 2 for bad usage and files that cannot be read.
+The exit status is 0, or 1 for a refusal, or 2 for bad usage and files that cannot be read or written.
 ";
 
 /// What the arguments ask for.
 enum Request {
     Help,
     Check(String),
+    Encode(String, Option<String>),
 }
 
 /// Reads the arguments; nothing where they ask for nothing that there is.
 fn request(args: &[String]) -> Option<Request> {
     match args.iter().map(String::as_str).collect::<Vec<_>>()[..] {
         ["--help" | "-h" | "help"] => Some(Request::Help),
+        ["encode", file] => Some(Request::Encode(file.to_string(), None)),
+        ["encode", file, "-o", out] | ["encode", "-o", out, file] => {
+            Some(Request::Encode(file.to_string(), Some(out.to_string())))
+        }
         ["check", file] => Some(Request::Check(file.to_string())),
         _ => None,
     }
@@ -67,6 +73,25 @@ fn check(name: &str) -> ExitCode {
     }
 }
 
+fn encode(name: &str, out: Option<&str>) -> ExitCode {
+    let file = match read(name) {
+        Ok(bytes) => bytes,
+        Err(why) => return failed(name, &why),
+    };
+    let script = match sakyelbo::encode(&file) {
+        Ok(script) => script,
+        Err(refusal) => return refused(refusal),
+    };
+    let written = match out {
+        Some(path) => std::fs::write(path, script),
+        None => stdout().write_all(&script).and_then(|()| stdout().flush()),
+    };
+    match written {
+        Ok(()) => ExitCode::SUCCESS,
+        Err(why) => failed(out.unwrap_or("standard output"), &why),
+    }
+}
+
 fn main() -> ExitCode {
     let args: Vec<String> = std::env::args_os().skip(1).map(|a| a.to_string_lossy().into_owned()).collect();
     match request(&args) {
@@ -75,6 +100,7 @@ fn main() -> ExitCode {
             ExitCode::SUCCESS
         }
         Some(Request::Check(name)) => check(&name),
+        Some(Request::Encode(name, out)) => encode(&name, out.as_deref()),
         None => {
             eprint!("{HELP}");
             ExitCode::from(2)

@@ -16,6 +16,15 @@ fn texts(list: &[&[u8]]) -> Vec<Text> {
 
 extern "C" {
     fn sakyelbo_check(file: *const u8, file_count: usize, work: *mut u32, work_count: usize) -> u64;
+    fn sakyelbo_encode(
+        file: *const u8,
+        file_count: usize,
+        work: *mut u32,
+        work_count: usize,
+        script: *mut u8,
+        script_count: usize,
+        size: *mut usize,
+    ) -> u64;
     fn sakyelbo_comment(text: *const u8, text_count: usize, out: *mut u8, out_count: usize, size: *mut usize) -> u64;
     fn sakyelbo_declare_datatype(
         id: *const u8,
@@ -102,6 +111,12 @@ fn accepted(answer: u64) -> Result<(), Refusal> {
 
 pub fn check(file: &[u8], work: &mut [u32]) -> Result<(), Refusal> {
     accepted(unsafe { sakyelbo_check(file.as_ptr(), file.len(), work.as_mut_ptr(), work.len()) })
+}
+
+pub fn encode(file: &[u8], work: &mut [u32], script: &mut [u8]) -> Result<usize, Refusal> {
+    let (w, wn, s, sn) = (work.as_mut_ptr(), work.len(), script.as_mut_ptr(), script.len());
+    let mut size = 0;
+    accepted(unsafe { sakyelbo_encode(file.as_ptr(), file.len(), w, wn, s, sn, &mut size) }).map(|()| size)
 }
 
 /// A command, by its texts.

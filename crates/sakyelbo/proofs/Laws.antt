@@ -1,19 +1,25 @@
 -- The exported functions' promises, from those of the functions that they call.
 -- Assumes nothing.
 use mathlib.Core.Path.{_≡_, refl, sym, ap, _∙_, subst}
-use Prim.Native.Nat.{ℕ, _+_, _*_}
+use Prim.Native.Nat.{ℕ, _+_, _*_, _<_}
+use native.Mathlib.Omega.{arith}
 use mathlib.Core.List.{List}
-use lib.ListN.{length}
+use lib.ListN.{length, take}
+use lib.Seq.{take-at}
 use Rattle.script_spec.specs.Base.{Bytes, Answer, accepted, refused}
 use Rattle.script_spec.specs.File.{TermFile, checked}
-use Rattle.script_spec.specs.Command.{Command}
+use Rattle.script_spec.specs.Command.{Command, left}
+use Rattle.script_spec.specs.Walk.{encoded}
+use Rattle.script_spec.proofs.Demand.{encoded-faithful}
 use Rattle.writer.specs.declared.Written.{Written}
-use Rattle.writer.specs.Writing.{answer}
+use Rattle.writer.specs.Writing.{answer, lengthOf}
 use Rattle.smtlib_script.specs.Writes.{Writes}
 use Rattle.term_check.specs.declared.Checked.{Checked}
 use Rattle.term_check.specs.Promise.{checkedAs, Checks}
+use Rattle.encoder.specs.declared.Encoded.{Encoded}
+use Rattle.encoder.specs.Promise.{encodedAs, Encodes}
 use Rattle.sakyelbo.specs.Answers.{code, sizeOf, checkedCode, Says}
-use Rattle.sakyelbo.specs.Promise.{ChecksFile, WritesCommand}
+use Rattle.sakyelbo.specs.Promise.{ChecksFile, EncodesFile, WritesCommand}
 
 -- a length is said by itself, with the number 0
 pub says-length : {a : Answer ℕ} {n : ℕ} → a ≡ accepted n → Says a n 0
@@ -38,3 +44,21 @@ checks-file {file} {work} k e = record { answer = e ∙ (ap checkedCode (k .answ
 -- the promise of a call that writes a command
 pub writes-command : {c : Command} {x y : Bytes} {w : Written} {n r : ℕ} → Writes c x y w → Says (answer w) n r → WritesCommand c x y n r
 writes-command {n = n} {r = r} k s = record { says = subst (λ (a : Answer ℕ). Says a n r) (k .leaves .says) s; holds = k .leaves .holds }
+
+-- a size above 0 is that of a script, which stands at the start of its buffer
+sized : (w : Answer Bytes) (x y : Bytes) (n r : ℕ) → Says (lengthOf w) n r → y ≡ left w (length x) → 0 < n → w ≡ accepted (take n y)
+unfolding lengthOf sizeOf left
+sized (accepted s) x y n r S h p = ap accepted (sym (rw (S .size, h) (take-at s _ (length s) refl)))
+sized (refused m q) x y n r S h p = absurd (let z : n ≡ 0 = S .size in omega arith)
+
+-- encode's promise
+pub encodes-file : {file : Bytes} {work : List ℕ} {x : Bytes} {work′ : List ℕ} {y : Bytes} {e : Encoded} {n r : ℕ} → Encodes file work x work′ y e → Says (encodedAs e) n r
+    → EncodesFile file work x work′ y n r
+encodes-file {file} {work} {x} {y = y} {n = n} {r = r} k s =
+    let says : Says (lengthOf (encoded file (length work) (length x))) n r = subst (λ (a : Answer ℕ). Says a n r) (k .answer) s in
+    record {
+      says = says;
+      script-is = k .script-is;
+      cleared = k .cleared;
+      faithful = λ f c p. encoded-faithful file (length work) (length x) f (take n y) c (sized (encoded file (length work) (length x)) x y n r says (k .script-is) p);
+    }

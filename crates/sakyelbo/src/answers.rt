@@ -1,9 +1,11 @@
 // Answers as numbers.
+use encoder::Encoded;
 use term_check::Checked;
 use writer::Written;
 ghost use mathlib.Core.Path.{_≡_};
 ghost use Prim.Native.Nat.{_+_, _*_};
 ghost use Rattle.writer.specs.Writing.{answer};
+ghost use Rattle.encoder.specs.Promise.{encodedAs};
 ghost use Rattle.sakyelbo.specs.Answers.{checkedCode, Says};
 
 // A refusal as one number.
@@ -39,6 +41,22 @@ pub fn of_write(written: Written, size: &mut usize) -> u64
         Written::NoRoom => {
             *size = 0;
             refusal(20, 0)
+        }
+    }
+}
+
+// Encode's answer: the script's length behind `size`, and the number.
+pub fn of_encode(encoded: Encoded, size: &mut usize) -> u64
+    ensures { λ r. ⌜ Says (encodedAs encoded) (now (size .exit)) r ⌝ }
+{
+    match encoded {
+        Encoded::Script(n) => {
+            *size = n;
+            0
+        }
+        Encoded::Refused(number, place) => {
+            *size = 0;
+            refusal(number, place)
         }
     }
 }

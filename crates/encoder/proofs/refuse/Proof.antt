@@ -6,7 +6,7 @@ use Rattle.encoder.proofs.refuse.Statement.{statement}
 use Rattle.encoder.proofs.refuse.Tie as tie
 
 returns : tie.Need-returns
-returns c = refuses-cleared _ _ _ _ c.before.before.before.before.before.before.clear-words.ensures c.before.before.clear.ensures
+returns c = refuses-cleared _ _ _ _ (search needs) c.before.before.clear.ensures
 
 pub refuse-spec : {M : Type 1} → statement M
 refuse-spec =

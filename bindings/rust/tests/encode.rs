@@ -1,0 +1,95 @@
+//! Encode: the vectors, damaged files, the room for a script, and lent memory that comes back zero.
+mod cases;
+
+use cases::{answer, cases, path};
+use sakyelbo::{check, encode, encode_with, work_entries, Refusal};
+use std::fs;
+
+/// The vectors of a folder: the name, the file, and what stands beside it.
+fn vectors(folder: &str, ending: &str) -> Vec<(String, Vec<u8>, Vec<u8>)> {
+    let mut found = Vec::new();
+    for entry in fs::read_dir(path("crates/vectors/data").join(folder)).unwrap() {
+        let path = entry.unwrap().path();
+        if path.extension().is_some_and(|e| e == "term") {
+            let name = path.file_stem().unwrap().to_string_lossy().into_owned();
+            found.push((name, fs::read(&path).unwrap(), fs::read(path.with_extension(ending)).unwrap()));
+        }
+    }
+    assert!(found.len() > 40);
+    found
+}
+
+/// Encodes a file with memory that is not zero and stands between other memory: working memory comes back zero, as do the bytes behind
+/// the script, or all of them after a refusal; the other memory is as it was.
+fn encode_lent(file: &[u8], entries: usize, room: usize) -> Result<Vec<u8>, Refusal> {
+    let mut memory = vec![0xa5a5_a5a5; entries + 8];
+    let mut bytes = vec![0xa5; room + 8];
+    let answer = encode_with(file, &mut memory[4..4 + entries], &mut bytes[4..4 + room]);
+    assert!(memory[4..4 + entries].iter().all(|&w| w == 0));
+    assert!(memory[..4].iter().chain(&memory[4 + entries..]).all(|&w| w == 0xa5a5_a5a5));
+    assert!(bytes[..4].iter().chain(&bytes[4 + room..]).all(|&b| b == 0xa5));
+    let size = answer.unwrap_or(0);
+    assert!(bytes[4 + size..4 + room].iter().all(|&b| b == 0));
+    answer.map(|size| bytes[4..4 + size].to_vec())
+}
+
+#[test]
+fn each_vector_has_the_rusts_script() {
+    for (name, file, script) in vectors("rust", "smt2") {
+        assert_eq!(encode(&file).as_ref(), Ok(&script), "{name}");
+        assert_eq!(encode_lent(&file, work_entries(&file), 65_536).as_ref(), Ok(&script), "{name}");
+    }
+}
+
+#[test]
+fn each_refused_vector_has_its_refusal() {
+    // A vector above 8,192 bytes is too long for the program `termscript` alone.
+    for (name, file, line) in vectors("refused", "txt").into_iter().filter(|v| v.1.len() <= 8192) {
+        let refusal = answer(std::str::from_utf8(&line).unwrap()).unwrap_err();
+        assert_eq!(encode_lent(&file, work_entries(&file), 65_536), Err(refusal), "{name}");
+        if refusal.number != 20 {
+            assert_eq!(encode(&file), Err(refusal), "{name}");
+        }
+    }
+}
+
+#[test]
+fn a_script_needs_its_length_and_no_more() {
+    for (name, file, script) in vectors("rust", "smt2") {
+        assert_eq!(encode_lent(&file, work_entries(&file), script.len()), Ok(script.clone()), "{name}");
+        for room in [0, 1, script.len() / 2, script.len() - 1] {
+            assert_eq!(encode_lent(&file, work_entries(&file), room), Err(Refusal { number: 20, place: 0 }), "{name}");
+        }
+    }
+}
+
+#[test]
+fn a_long_script_gets_the_room_that_it_needs() {
+    let file = fs::read(path("crates/vectors/data/refused/20-long-script.term")).unwrap();
+    let script = encode(&file).unwrap();
+    assert!(script.len() > 65_536);
+    assert_eq!(encode_lent(&file, work_entries(&file), script.len()), Ok(script));
+}
+
+#[test]
+fn check_refuses_first() {
+    for case in cases().iter().filter(|c| c.answer.is_err()) {
+        assert_eq!(encode_lent(&case.file, case.entries, 0).map(|_| ()), case.answer, "{}", case.name);
+    }
+}
+
+#[test]
+fn a_damaged_file_is_answered_and_memory_is_zero() {
+    for (name, file, _) in vectors("rust", "smt2").iter().filter(|v| v.1.len() < 400) {
+        for at in 0..file.len() {
+            let mut damaged = file.clone();
+            damaged[at] ^= 1 << (at % 8);
+            let answer = encode_lent(&damaged, work_entries(&damaged), 65_536);
+            match (check(&damaged), answer) {
+                (Err(refusal), answer) => assert_eq!(answer, Err(refusal), "{name} at {at}"),
+                (Ok(()), Err(refusal)) => assert!((14..=19).contains(&refusal.number), "{name} at {at}"),
+                (Ok(()), Ok(_)) => {}
+            }
+        }
+    }
+}
