@@ -1,15 +1,13 @@
 -- The index with depths and slots: of no records, and after a record of each kind is entered.
 -- Assumes nothing.
-use mathlib.Core.Path.{_≡_, refl, sym, ap, _∙_, subst}
+use mathlib.Core.Path.{_≡_, refl, ap, _∙_, subst}
 use Prim.Native.Nat.{ℕ, suc, _+_, _*_, _≤_, _<_}
 use native.Mathlib.Nat.{not-suc-le-zero, le-refl}
 use native.Mathlib.Omega.{arith}
 use mathlib.Core.List.{List, [], _∷_, _++_}
-use mathlib.Core.Option.{some}
 use lib.ListN.{length, length-append}
 use Rattle.script_spec.specs.Base.{Bytes, collect}
 use Rattle.script_spec.specs.Tree.{Ty, Fun, Tm, typeOf, depth}
-use Rattle.script_spec.specs.Fields.{Entry}
 use Rattle.script_spec.specs.File.{TermFile, Named, type, enum, func, term, input, types, funs, terms, enums, typeAt, earlier}
 use Rattle.index.specs.Cells.{cell, store, typeOffset, typeFirst, typeDepth, funOffset, funFirst, termOffset, termFirst, termType, termDepth, enumOffset, hash}
 use Rattle.index.specs.First.{canonical, firstType}
@@ -22,10 +20,9 @@ use Rattle.index.proofs.Later.{canonical-kept}
 use Rattle.index.proofs.Stores.{Changed, changed-refl, type-stored, fun-stored, term-stored, enum-stored}
 use Rattle.index.proofs.Rows.{Untouched, untouched}
 use Rattle.index.proofs.Entered as rows
-use Rattle.slots.specs.Slots.{empties, homeOf, Reached, entryOr, entries, Slots, Indexed}
+use Rattle.slots.specs.Slots.{empties, Reached, entries, Slots, Indexed}
 use Rattle.slots.proofs.Ring.{empties-all, empties-same}
-use Rattle.slots.proofs.Reach.{Stays}
-use Rattle.search.specs.Found.{Enrolled, Enrols}
+use Rattle.search.specs.Found.{Enrols}
 use Rattle.search.proofs.Numbers.{entries-read, type-looks, fun-looks, term-looks, type-found, fun-found, term-found}
 use Rattle.search.proofs.Growth.{enrolled-changed, enrolled-stays, enrolled-fewer, enrolled-reached, types-kept, funs-kept, terms-kept, slots-grown}
 

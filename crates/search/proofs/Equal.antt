@@ -7,10 +7,7 @@ use mathlib.Core.Bool.{Bool, true, false}
 use mathlib.Core.List.{List}
 use lib.Dec.{T}
 use Rattle.script_spec.specs.Base.{Bytes, same}
-use Rattle.script_spec.specs.Fields.{Entry}
-use Rattle.script_spec.specs.File.{TermFile}
 use Rattle.script_spec.proofs.Laws.{same-eq, same-refl}
-use Rattle.index.specs.First.{canonical}
 use Rattle.index.specs.Standing.{markAt, bodyAt, entryAt}
 use Rattle.segments.proofs.Prints.{Octets}
 use Rattle.compare.specs.View.{Decides, SameSegments, viewed}

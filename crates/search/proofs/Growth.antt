@@ -18,8 +18,7 @@ use Rattle.index.proofs.Growth.{Grown, types-grown, funs-grown, terms-grown}
 use Rattle.index.proofs.Later.{more-append, canonical-kept}
 use Rattle.index.proofs.Stores.{Changed, changed-refl}
 use Rattle.index.proofs.Rows.{Untouched}
-use Rattle.slots.specs.Slots.{slot, empties, homeOf, Reached, entryOr, entries, AllReached, Slots}
-use Rattle.slots.specs.Storing.{Stored}
+use Rattle.slots.specs.Slots.{slot, empties, homeOf, Reached, entryOr, entries, Slots}
 use Rattle.slots.proofs.Ring.{empties-same}
 use Rattle.slots.proofs.Reach.{Stays, reached-kept, reached-equal, stored-stays, stored-fewer, reached-new}
 use Rattle.search.specs.Found.{At, Enrolled}

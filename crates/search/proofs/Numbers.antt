@@ -11,7 +11,7 @@ use lib.ListN.{length}
 use Rattle.script_spec.specs.Base.{Bytes, place}
 use Rattle.script_spec.specs.Tree.{Ty, Fun, Tm, eqTy, eqFun, eqTm}
 use Rattle.script_spec.specs.Fields.{Entry, Earlier}
-use Rattle.script_spec.specs.File.{TermFile, Named, type, func, term, types, funs, terms, typeAt, funAt, termAt, named, earlier}
+use Rattle.script_spec.specs.File.{TermFile, Named, type, func, term, types, funs, terms, named, earlier}
 use Rattle.index.specs.Cells.{cell, typeOffset, typeFirst, funOffset, funFirst, termOffset, termFirst}
 use Rattle.index.specs.First.{orElse, firstType, firstFun, firstTerm}
 use Rattle.index.specs.Standing.{entryAt}

@@ -2,7 +2,7 @@
 -- Assumes nothing.
 use mathlib.Core.Path.{_≡_, refl, sym, ap, _∙_, subst}
 use mathlib.Core.Logic.{_⊎_, inl, inr, ⊎-elim}
-use Prim.Native.Nat.{ℕ, zero, suc, _+_, _-_, _*_, _/_, _≤_, _<_}
+use Prim.Native.Nat.{ℕ, _+_, _-_, _*_, _/_, _≤_, _<_}
 use native.Mathlib.Decide.{decLt, ℕ-discrete}
 use native.Mathlib.Omega.{arith}
 use mathlib.Core.Bool.{Bool, true, false}
@@ -13,11 +13,10 @@ use Rattle.script_spec.specs.Fields.{Entry}
 use Rattle.script_spec.specs.File.{TermFile}
 use Rattle.index.specs.Cells.{cell, hash}
 use Rattle.index.specs.First.{canonical}
-use Rattle.compare.specs.View.{Decides}
 use Rattle.slots.specs.Slots.{slot, codeOf, homeOf, Reached}
 use Rattle.slots.specs.Storing.{Home, Stores}
 use Rattle.slots.proofs.Ring.{code-number, code-some}
-use Rattle.search.specs.Found.{SameAt, Looks, Hit, Miss, Held, Holds, Probes, Finds, Enrols}
+use Rattle.search.specs.Found.{SameAt, Looks, Held, Holds, Probes, Finds, Enrols}
 
 true-not-false : true ≡ false → ⊥
 true-not-false e = let z : _≡_ {A = ℕ} 0 1 = cc in omega arith

@@ -1,14 +1,12 @@
 -- Slots in a ring: each is met from any other, so that one that is empty is found where one is; and how many are empty.
 -- Assumes nothing.
-use mathlib.Core.Path.{_≡_, refl, sym, ap, _∙_}
-use Prim.Native.Nat.{ℕ, zero, suc, _+_, _*_, _-_, _/_, _≤_, _<_}
+use mathlib.Core.Path.{_≡_, refl, sym, _∙_}
+use Prim.Native.Nat.{ℕ, zero, suc, _+_, _-_, _/_, _≤_, _<_}
 use native.Mathlib.Nat.{not-suc-le-zero, div-add-mod', mod-lt}
 use native.Mathlib.Decide.{ℕ-discrete, decLt}
 use native.Mathlib.Omega.{arith}
-use mathlib.Core.List.{List}
 use borrow.Author.Count.{below-more}
 use borrow.Author.Tests.{lt-ltb, le-ltb}
-use lib.Dec.{ltb}
 use Rattle.index.specs.Cells.{placed}
 use Rattle.slots.specs.Slots.{slot, codeOf, oneIfEmpty, empties}
 use Rattle.slots.specs.Storing.{FirstEmpty}
