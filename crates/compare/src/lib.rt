@@ -41,7 +41,7 @@ fn byte_at(s: &[u8], i: usize) -> u8
 }
 
 // The start of the walk through the record at an offset.
-fn walk_of(file: &[u8], o: usize) -> Walk
+pub fn walk_of(file: &[u8], o: usize) -> Walk
     ensures { λ r. ⌜ r ≡ startAt (now (file .entry)) o ⌝ }
 {
     let a = byte_at(file, o);
@@ -53,7 +53,7 @@ fn walk_of(file: &[u8], o: usize) -> Walk
 }
 
 // The body of the record at an offset.
-fn body_of(file: &[u8], o: usize) -> &[u8]
+pub fn body_of(file: &[u8], o: usize) -> &[u8]
     ensures { λ r. ⌜ now r ≡ bodyAt (now (file .entry)) o ⌝ }
 {
     if file.len() < 6 {
@@ -108,7 +108,7 @@ fn term_kind(view: View) -> u32
 }
 
 // The first segment of what is ahead of a walk.
-fn head(w: Walk, body: &[u8], work: &[u32], k: usize, view: View) -> Seen
+pub fn head(w: Walk, body: &[u8], work: &[u32], k: usize, view: View) -> Seen
     ensures { λ r. ⌜ Sees (now (body .entry)) (viewed (now (work .entry)) k view) (ahead (now (body .entry)) w) r ⌝ }
 {
     match w.next(body) {

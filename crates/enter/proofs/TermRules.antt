@@ -1,6 +1,6 @@
 -- A term is entered: the rules by its numbers, its type among those that are listed, and its row.
 -- Assumes nothing.
-use mathlib.Core.Path.{_≡_, refl, sym, ap, _∙_}
+use mathlib.Core.Path.{_≡_, refl, sym, ap, _∙_, subst}
 use Prim.Native.Nat.{ℕ, zero, suc, _+_, _≤_, _<_}
 use native.Mathlib.Omega.{arith}
 use native.Mathlib.Numerals.{add-one}
@@ -17,36 +17,38 @@ use Rattle.script_spec.proofs.Laws.{eqTy-eq}
 use Rattle.index.specs.Cells.{cell, store, termOffset, termFirst, termType, termDepth}
 use Rattle.index.specs.First.{orElse, first, firstType, InRange}
 use Rattle.index.specs.Rules.{greatest, limits, listRulesBy, rulesBy, typeBy, typeNamed}
-use Rattle.index.specs.Meaning.{Indexed}
-use Rattle.index.proofs.Growth.{counts-fewer}
 use Rattle.index.proofs.Renamed.{map-agree}
 use Rattle.index.proofs.Rules.{type-numbers}
-use Rattle.index.proofs.Stores.{term-stored}
-use Rattle.index.proofs.Entered.{indexed-term}
 use Rattle.segments.proofs.Prints.{Octets}
 use Rattle.compare.specs.View.{viewed, numbers, segmentsAt}
 use Rattle.compare.specs.declared.View.the-variants.{Depth}
 use Rattle.compare.proofs.Listed.{greatest-term}
-use Rattle.search.specs.Found.{Finds}
-use Rattle.search.proofs.Numbers.{term-found}
+use Rattle.slots.specs.Slots.{Indexed}
+use Rattle.search.specs.Found.{Enrols}
+use Rattle.search.proofs.Entered.{indexed-term}
 use Rattle.record_rules.specs.Terms.{ruleTold, TermRule}
 use Rattle.term_type.specs.Sought.{TypeSought}
 use Rattle.enter.specs.Entering.{typeCount}
 use Rattle.enter.specs.Terms.{termCount, StoresTerm, EntersTerm}
 use Rattle.enter.proofs.Parts.{TermParts, term-parts, deepest, term-value, rules-by, term-depth}
 use Rattle.enter.proofs.FirstBroken.{broken-here, broken-later, none-broken}
+use Rattle.enter.specs.declared.Entered.{Entered}
 use Rattle.enter.specs.declared.Entered.the-variants.{Done, Broken}
 
-pub term-row-stored : (file : Bytes) (work : List ℕ) (k count o ty deep : ℕ) {first : ℕ} {work₁ work₂ work₃ work₄ : List ℕ} → Finds file work k termOffset termFirst count o first
-    → work₁ ≡ store work k termOffset count o → work₂ ≡ store work₁ k termFirst count first → work₃ ≡ store work₂ k termType count ty → work₄ ≡ store work₃ k termDepth count deep
+pub term-row-stored : (file : Bytes) (work : List ℕ) (k count o ty deep : ℕ) {first : ℕ} {work₀ work₁ work₂ work₃ work₄ : List ℕ} → Enrols file work work₀ k termOffset termFirst 2 count o first
+    → work₁ ≡ store work₀ k termOffset count o → work₂ ≡ store work₁ k termFirst count first → work₃ ≡ store work₂ k termType count ty → work₄ ≡ store work₃ k termDepth count deep
     → StoresTerm file work work₄ k count o ty deep
 unfolding termCount
-term-row-stored file work k count o ty deep {first} F e₁ e₂ e₃ e₄ =
-    record {
-      go = λ f I c room t s below type-is type-first d.
-          rw (e₄, e₃, e₂, e₁, c)
-          (indexed-term I room (term-stored work k _ (I .index .fits) (omega (arith, counts-fewer f .terms-fewer)) o first ty deep) s (term-found (I .index) s (rw c at F)) below type-is type-first d);
-    }
+term-row-stored file work k count o ty deep E e₁ e₂ e₃ e₄ =
+    record { go = λ f I c room t s below type-is type-first d. rw (e₄, e₃, e₂, e₁, c) (indexed-term I room (rw c at E) s below type-is type-first d) }
+
+-- a memory that was left as it was
+module _ {file : Bytes} {work work′ : List ℕ} (left : work′ ≡ work) where
+  pub enters-left : {k types count o : ℕ} {r : Entered} → EntersTerm file work work k types count o r → EntersTerm file work work′ k types count o r
+  enters-left {k} {types} {count} {o} {r} E = subst (λ (w : List ℕ). EntersTerm file work w k types count o r) (sym left) E
+
+  pub stores-left : {work″ : List ℕ} {k count o ty deep : ℕ} → StoresTerm file work′ work″ k count o ty deep → StoresTerm file work work″ k count o ty deep
+  stores-left {work″} {k} {count} {o} {ty} {deep} S = subst (λ (w : List ℕ). StoresTerm file w work″ k count o ty deep) left S
 
 -- ---- the rules
 

@@ -1,6 +1,6 @@
 -- A test of a list's items, one item at a time: what the first item and the test of the others say.
 -- Assumes nothing.
-use mathlib.Core.Path.{_≡_, sym, _∙_}
+use mathlib.Core.Path.{_≡_, refl, sym, _∙_}
 use Prim.Native.Nat.{ℕ, zero, suc, _-_, _≤_, _<_}
 use native.Mathlib.Omega.{arith}
 use mathlib.Core.Bool.{Bool}
@@ -10,7 +10,7 @@ use Rattle.script_spec.specs.Base.{Bytes}
 use Rattle.script_spec.specs.Fields.{Reader, got, pure, times, u32, list}
 use Rattle.field.specs.Reads.{value, refusal, asRead, Reads}
 use Rattle.segments.proofs.Inverse.{bind-inverse}
-use Rattle.record_rules.specs.Decided.{Decides, DecidesList}
+use Rattle.record_rules.specs.Decided.{Decides, DecidesList, Leaves}
 use Rattle.record_rules.proofs.Lists.{times-next, times-bad}
 
 -- something holds of the next `count` items, where there are so many
@@ -76,3 +76,13 @@ module _ {A : Type 0} {item : Reader A} {test : List A → Bool} {body : Bytes} 
   pub list-bad : {n : ℕ} (b : Bool) → Reads u32 body at (refusal n) → DecidesList item test body at b
   unfolding asRead list
   list-bad b h = record { go = λ xs rest e. let x = bind-inverse u32 _ (drop at body) e in let z : _≡_ {A = ℕ} 0 1 = cc (x .first, h .is) in absurd (omega arith) }
+
+-- ---- the memory
+
+-- nothing was stored
+pub leaves : {work : List ℕ} {P : Type 0} → P → Leaves work work P
+leaves p = record { unchanged = refl; told = p }
+
+-- what was left as it was is so for what follows
+pub leaves-so : {work work′ : List ℕ} {P Q : Type 0} → Leaves work work′ P → (P → Q) → Leaves work work′ Q
+leaves-so L f = record { unchanged = L .unchanged; told = f (L .told) }

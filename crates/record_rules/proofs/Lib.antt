@@ -3,6 +3,7 @@ pub mod Lists
 pub mod Decided
 pub mod Ordered
 pub mod Elements
+pub mod Noted
 pub mod Marks
 pub mod Shapes
 pub mod RecordLaws

@@ -12,6 +12,11 @@ use Rattle.script_spec.specs.Fields.{Reader, got, times, list}
 pub record Decides {A : Type 0} (item : Reader A) (test : List A → Bool) (body : Bytes) (at count : ℕ) (b : Bool) : Type 0 where
   pub go : (xs : List A) (rest : Bytes) → times count item (drop at body) ≡ got xs rest → b ≡ test xs
 
+-- something is so, and the memory is as it was
+pub record Leaves (work work′ : List ℕ) (P : Type 0) : Type 0 where
+  pub unchanged : work′ ≡ work
+  pub told : P
+
 -- b is what the test says of the items of a list, where there is one
 pub record DecidesList {A : Type 0} (item : Reader A) (test : List A → Bool) (body : Bytes) (at : ℕ) (b : Bool) : Type 0 where
   pub go : (xs : List A) (rest : Bytes) → list item (drop at body) ≡ got xs rest → b ≡ test xs

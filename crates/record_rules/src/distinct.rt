@@ -1,8 +1,9 @@
 // Terms of a list that differ, by the numbers of first equal terms.
 use field::Cursor;
 use field::ReadNumber;
+use repeats::Answer;
 ghost use Rattle.script_spec.specs.Fields.{u32};
-ghost use Rattle.record_rules.specs.Decided.{Decides};
+ghost use Rattle.record_rules.specs.Decided.{Decides, Leaves};
 ghost use Rattle.record_rules.specs.Tests.{anyFirst, differentTerms};
 
 // Whether one of so many references has a first equal number.
@@ -28,8 +29,8 @@ fn any_first(body: &[u8], work: &[u32], k: usize, first: u32, from: usize, count
     false
 }
 
-// Whether no two of so many references from a place of the body on have the same first equal number.
-pub fn differ(body: &[u8], work: &[u32], k: usize, from: usize, count: u32) -> bool
+// Whether no two of so many references from a place of the body on have the same first equal number, each compared with the others.
+fn differ_in_pairs(body: &[u8], work: &[u32], k: usize, from: usize, count: u32) -> bool
     ensures { λ r. ⌜ Decides u32 (differentTerms (now (work .entry)) k) (now (body .entry)) from count r ⌝ }
 {
     let mut at = from;
@@ -50,4 +51,15 @@ pub fn differ(body: &[u8], work: &[u32], k: usize, from: usize, count: u32) -> b
         left -= 1;
     }
     true
+}
+
+// Whether no two of so many references from a place of the body on have the same first equal number; the memory is as it was.
+pub fn differ(body: &[u8], work: &mut [u32], k: usize, from: usize, count: u32) -> bool
+    ensures { λ r. ⌜ Leaves (now (work .entry)) (now (work .exit)) (Decides u32 (differentTerms (now (work .entry)) k) (now (body .entry)) from count r) ⌝ }
+{
+    match repeats::repeats(body, work, k, from, count) {
+        Answer::Never => true,
+        Answer::Once => false,
+        Answer::Unknown => differ_in_pairs(body, work, k, from, count),
+    }
 }

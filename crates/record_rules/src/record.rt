@@ -7,7 +7,7 @@ ghost use lib.ListN.{getD};
 ghost use Rattle.script_spec.specs.Base.{ascending};
 ghost use Rattle.script_spec.specs.Fields.{u32};
 ghost use Rattle.index.specs.Standing.{markAt, bodyAt};
-ghost use Rattle.record_rules.specs.Decided.{DecidesList};
+ghost use Rattle.record_rules.specs.Decided.{DecidesList, Leaves};
 ghost use Rattle.record_rules.specs.Tests.{itemText, differentTerms};
 ghost use Rattle.record_rules.specs.Records.{TypeAscends};
 
@@ -44,9 +44,9 @@ pub fn list_ascends(body: &[u8], named: bool, at: usize) -> bool
     }
 }
 
-// Whether the terms of a list at a place of the body differ.
-pub fn list_differs(body: &[u8], work: &[u32], k: usize, at: usize) -> bool
-    ensures { λ r. ⌜ DecidesList u32 (differentTerms (now (work .entry)) k) (now (body .entry)) at r ⌝ }
+// Whether the terms of a list at a place of the body differ; the memory is as it was.
+pub fn list_differs(body: &[u8], work: &mut [u32], k: usize, at: usize) -> bool
+    ensures { λ r. ⌜ Leaves (now (work .entry)) (now (work .exit)) (DecidesList u32 (differentTerms (now (work .entry)) k) (now (body .entry)) at r) ⌝ }
 {
     match (Cursor { at }).u32_le(body) {
         ReadNumber::Bad(_) => true,

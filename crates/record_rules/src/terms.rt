@@ -6,6 +6,7 @@ use crate::record::list_differs;
 ghost use mathlib.Core.Path.{_≡_};
 ghost use lib.ListN.{getD};
 ghost use Rattle.index.specs.Standing.{bodyAt};
+ghost use Rattle.record_rules.specs.Decided.{Leaves};
 ghost use Rattle.record_rules.specs.Terms.{TermRule};
 
 // The code of an application's operator.
@@ -19,9 +20,9 @@ fn code_at(file: &[u8], o: usize) -> u8
     body[4]
 }
 
-// The number of the rule of 9 and 10 that is broken, or 0; `depth` is the greatest of the arguments' depths, 0 where there are none.
-pub fn broken_rule(file: &[u8], work: &[u32], k: usize, o: usize, depth: u32) -> u32
-    ensures { λ r. ⌜ TermRule (now (file .entry)) (now (work .entry)) k o depth r ⌝ }
+// The number of the rule of 9 and 10 that is broken, or 0; `depth` is the greatest of the arguments' depths, 0 where there are none; the memory is as it was.
+pub fn broken_rule(file: &[u8], work: &mut [u32], k: usize, o: usize, depth: u32) -> u32
+    ensures { λ r. ⌜ Leaves (now (work .entry)) (now (work .exit)) (TermRule (now (file .entry)) (now (work .entry)) k o depth r) ⌝ }
 {
     let mark = letter(file, o);
     if mark == b'C' {

@@ -1,0 +1,78 @@
+// A hash of a record: its mark and its body, references by the numbers of first equal records.
+ghost use mathlib.Core.Path.{_≡_};
+ghost use Prim.Native.Nat.{_+_, _≤_};
+ghost use mathlib.Core.List.{map};
+ghost use lib.ListN.{length, take, drop};
+ghost use Rattle.segments.specs.Machine.{ahead};
+ghost use Rattle.compare.specs.View.{viewed};
+ghost use Rattle.compare.specs.declared.View.the-variants.{First};
+ghost use Rattle.hash.specs.Hash.{mixed, mixedBytes, mixedSegments, recordHash};
+use compare::Seen;
+use compare::View;
+use segments::Walk;
+
+// A byte as a word.
+fn wide(b: u8) -> u32
+    ensures { λ r. ⌜ r ≡ b ⌝ }
+{
+    b as u32
+}
+
+// A hash with a number mixed in.
+fn mix(h: u32, n: u32) -> u32
+    ensures { λ r. ⌜ r ≡ mixed h n ⌝ }
+{
+    let sum = h as u64 + n as u64 + 1;
+    (sum * 1540483477 % 4294967296) as u32
+}
+
+// A hash with some bytes mixed in.
+fn mix_bytes(h: u32, s: &[u8]) -> u32
+    ensures { λ r. ⌜ r ≡ mixedBytes h (now (s .entry)) ⌝ }
+{
+    let mut x = h;
+    let mut i = 0;
+    while i < s.len() {
+        x = mix(x, wide(s[i]));
+        i += 1;
+    }
+    x
+}
+
+// A hash with the first segment of a walk mixed in.
+fn mix_seen(body: &[u8], s: Seen, h: u32) -> u32
+    requires { ⌜ s .start + s .size ≤ length (now body) ⌝ }
+    ensures { λ r. ⌜ r ≡ mixedBytes (mixed (mixed h (s .kind)) (s .number)) (take (s .size) (drop (s .start) (now (body .entry)))) ⌝ }
+{
+    let a = s.start;
+    let n = s.size;
+    let e = a + n;
+    let x = mix(h, s.kind);
+    let y = mix(x, s.number);
+    mix_bytes(y, &body[a..e])
+}
+
+// A hash with what is ahead of a walk mixed in.
+fn mix_ahead(body: &[u8], w: Walk, work: &[u32], k: usize, h: u32) -> u32
+    ensures { λ r. ⌜ r ≡ mixedSegments h (map (viewed (now (work .entry)) k First) (ahead (now (body .entry)) w)) ⌝ }
+{
+    let mut x = w;
+    let mut y = h;
+    loop {
+        let s = compare::head(x, body, work, k, View::First);
+        if s.kind == 0 {
+            return y;
+        }
+        y = mix_seen(body, s, y);
+        x = s.next;
+    }
+}
+
+// The hash of the record at an offset.
+pub fn record_hash(file: &[u8], work: &[u32], k: usize, o: usize) -> u32
+    ensures { λ r. ⌜ r ≡ recordHash (now (file .entry)) (now (work .entry)) k o ⌝ }
+{
+    let w = compare::walk_of(file, o);
+    let h = mix_bytes(0, field::part_of(file, o, 2));
+    mix_ahead(compare::body_of(file, o), w, work, k, h)
+}

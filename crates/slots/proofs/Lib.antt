@@ -1,0 +1,3 @@
+pub mod Ring
+pub mod Homes
+pub mod Reach

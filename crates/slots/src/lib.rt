@@ -1,0 +1,75 @@
+// The hash table in the index's last column: a slot holds nothing, or the kind and the number of a record.
+ghost use mathlib.Core.Path.{_≡_};
+ghost use Prim.Native.Nat.{_<_, _-_, _/_};
+ghost use Rattle.index.specs.Cells.{cell, hash};
+ghost use Rattle.slots.specs.Slots.{slot, codeOf};
+ghost use Rattle.slots.specs.Storing.{Home, FirstEmpty, Stores};
+
+// What a slot holds for the record of a kind with number n, 0 where it does not fit.
+pub fn code(n: u32, kind: u32) -> u32
+    ensures { λ r. ⌜ (n < 1048576 → kind < 3 → r ≡ codeOf n kind) ⌝ }
+{
+    let c = 3 * (n as u64) + kind as u64 + 1;
+    if c < 4294967296 {
+        return c as u32;
+    }
+    0
+}
+
+// The number that a slot holds.
+pub fn number_of(v: u32) -> u32
+    ensures { λ r. ⌜ r ≡ (v - 1) / 3 ⌝ }
+{
+    if v == 0 {
+        return 0;
+    }
+    (v - 1) / 3
+}
+
+// The slot that comes d steps after slot b, of k slots in a ring.
+pub fn slot(k: usize, b: usize, d: usize) -> usize
+    ensures { λ r. ⌜ r ≡ slot k b d ⌝ }
+{
+    if k <= b {
+        return d;
+    }
+    if d < k - b {
+        return b + d;
+    }
+    d - (k - b)
+}
+
+// The slot from which the record at an offset is looked for.
+pub fn home(file: &[u8], work: &[u32], k: usize, o: usize) -> usize
+    ensures { λ r. ⌜ Home (now (file .entry)) (now (work .entry)) k o r ⌝ }
+{
+    if k == 0 {
+        return 0;
+    }
+    let h = hash::record_hash(file, work, k, o) as usize;
+    h % k
+}
+
+// How many steps after slot b the first empty slot is, or k where none is empty.
+fn first_empty(work: &[u32], k: usize, b: usize) -> usize
+    ensures { λ r. ⌜ FirstEmpty k (cell (now (work .entry)) k hash) b r ⌝ }
+{
+    let mut d = 0;
+    while d < k {
+        let v = index::get(work, k, index::HASH, slot(k, b, d));
+        if v == 0 {
+            return d;
+        }
+        d += 1;
+    }
+    d
+}
+
+// Stores v for the record at an offset in the first empty slot from its home on.
+pub fn store(file: &[u8], work: &mut [u32], k: usize, o: usize, v: u32)
+    ensures { λ _. ⌜ Stores (now (file .entry)) (now (work .entry)) (now (work .exit)) k o v ⌝ }
+{
+    let b = home(file, work, k, o);
+    let d = first_empty(work, k, b);
+    index::set(work, k, index::HASH, slot(k, b, d), v);
+}
