@@ -16,9 +16,8 @@ use Rattle.script_spec.specs.File.{TermFile, enums, members, earlier, rules, br
 use Rattle.index.specs.Cells.{cell, store, enumOffset}
 use Rattle.index.specs.Standing.{entryAt}
 use Rattle.index.specs.Meaning.{Stands}
-use Rattle.index.proofs.Growth.{counts-fewer}
-use Rattle.index.proofs.Stores.{enum-stored}
-use Rattle.index.proofs.Entered.{enum-entry, indexed-enum}
+use Rattle.index.proofs.Entered.{enum-entry}
+use Rattle.search.proofs.Entered.{indexed-enum}
 use Rattle.record_rules.specs.Enums.{EnumAscends, EnumGiven, SameName}
 use Rattle.enter.specs.Entering.{Enters}
 use Rattle.enter.specs.Enums.{enumNamed, enumCount, Taken}
@@ -117,6 +116,6 @@ module _ (file : Bytes) (work : List ℕ) (k count o : ℕ) {a : Bool} (A : Enum
                   kept =
                       enum-rules p s (A .go (p .0) (p .1) (enum-reads p s)) (B .go (p .0) (p .1) (enum-reads p s)) (T .go f (I .index) c (p .0) (p .1) (enum-reads p s))
                       ∙ broken-later 9 _ h ∙ broken-later 10 _ g ∙ broken-later 11 _ (ap not q) ∙ none-broken;
-                  indexed = rw (e, c) (indexed-enum I room (enum-stored work k _ (I .index .fits) (omega (arith, counts-fewer f .enums-fewer)) o) s);
+                  indexed = rw (e, c) (indexed-enum I room s);
                 };
           }

@@ -16,8 +16,9 @@ use Rattle.index.specs.Cells.{cell, typeDepth, termFirst, termType, termDepth}
 use Rattle.index.specs.First.{InRange}
 use Rattle.index.specs.Rules.{greatest, rulesBy}
 use Rattle.index.specs.Standing.{entryAt}
-use Rattle.index.specs.Meaning.{Stands, Indexed}
+use Rattle.index.specs.Meaning.{Stands}
 use Rattle.index.proofs.Rules.{rules-numbers, depth-numbers}
+use Rattle.slots.specs.Slots.{Indexed}
 
 -- the record at an offset is read as a mark and numbers, and names x
 pub record Parts {A : Type 0} (make : A → List ℕ → Entry) (file : Bytes) (f : TermFile) (o : ℕ) (x : Named) : Type 0 where

@@ -17,18 +17,15 @@ use Rattle.script_spec.proofs.Laws.{eqTy-eq}
 use Rattle.index.specs.Cells.{cell, store, termOffset, termFirst, termType, termDepth}
 use Rattle.index.specs.First.{orElse, first, firstType, InRange}
 use Rattle.index.specs.Rules.{greatest, limits, listRulesBy, rulesBy, typeBy, typeNamed}
-use Rattle.index.specs.Meaning.{Indexed}
-use Rattle.index.proofs.Growth.{counts-fewer}
 use Rattle.index.proofs.Renamed.{map-agree}
 use Rattle.index.proofs.Rules.{type-numbers}
-use Rattle.index.proofs.Stores.{term-stored}
-use Rattle.index.proofs.Entered.{indexed-term}
 use Rattle.segments.proofs.Prints.{Octets}
 use Rattle.compare.specs.View.{viewed, numbers, segmentsAt}
 use Rattle.compare.specs.declared.View.the-variants.{Depth}
 use Rattle.compare.proofs.Listed.{greatest-term}
-use Rattle.search.specs.Found.{Finds}
-use Rattle.search.proofs.Numbers.{term-found}
+use Rattle.slots.specs.Slots.{Indexed}
+use Rattle.search.specs.Found.{Enrols}
+use Rattle.search.proofs.Entered.{indexed-term}
 use Rattle.record_rules.specs.Terms.{ruleTold, TermRule}
 use Rattle.term_type.specs.Sought.{TypeSought}
 use Rattle.enter.specs.Entering.{typeCount}
@@ -37,16 +34,12 @@ use Rattle.enter.proofs.Parts.{TermParts, term-parts, deepest, term-val
 use Rattle.enter.proofs.FirstBroken.{broken-here, broken-later, none-broken}
 use Rattle.enter.specs.declared.Entered.the-variants.{Done, Broken}
 
-pub term-row-stored : (file : Bytes) (work : List ℕ) (k count o ty deep : ℕ) {first : ℕ} {work₁ work₂ work₃ work₄ : List ℕ} → Finds file work k termOffset termFirst count o first
-    → work₁ ≡ store work k termOffset count o → work₂ ≡ store work₁ k termFirst count first → work₃ ≡ store work₂ k termType count ty → work₄ ≡ store work₃ k termDepth count deep
+pub term-row-stored : (file : Bytes) (work : List ℕ) (k count o ty deep : ℕ) {first : ℕ} {work₀ work₁ work₂ work₃ work₄ : List ℕ} → Enrols file work work₀ k termOffset termFirst 2 count o first
+    → work₁ ≡ store work₀ k termOffset count o → work₂ ≡ store work₁ k termFirst count first → work₃ ≡ store work₂ k termType count ty → work₄ ≡ store work₃ k termDepth count deep
     → StoresTerm file work work₄ k count o ty deep
 unfolding termCount
-term-row-stored file work k count o ty deep {first} F e₁ e₂ e₃ e₄ =
-    record {
-      go = λ f I c room t s below type-is type-first d.
-          rw (e₄, e₃, e₂, e₁, c)
-          (indexed-term I room (term-stored work k _ (I .index .fits) (omega (arith, counts-fewer f .terms-fewer)) o first ty deep) s (term-found (I .index) s (rw c at F)) below type-is type-first d);
-    }
+term-row-stored file work k count o ty deep E e₁ e₂ e₃ e₄ =
+    record { go = λ f I c room t s below type-is type-first d. rw (e₄, e₃, e₂, e₁, c) (indexed-term I room (rw c at E) s below type-is type-first d) }
 
 -- ---- the rules
 

@@ -14,31 +14,23 @@ use Rattle.script_spec.specs.Tree.{Ty, node, nil, attributes}
 use Rattle.script_spec.specs.File.{TermFile, type, types, rules, broken}
 use Rattle.index.specs.Cells.{store, typeOffset, typeFirst, typeDepth}
 use Rattle.index.specs.Rules.{greatest, limits, rulesBy}
-use Rattle.index.specs.Meaning.{Indexed}
-use Rattle.index.proofs.Growth.{counts-fewer}
-use Rattle.index.proofs.Stores.{type-stored}
-use Rattle.index.proofs.Entered.{indexed-type}
 use Rattle.segments.proofs.Prints.{Octets}
 use Rattle.compare.specs.View.{viewed, numbers, segmentsAt}
 use Rattle.compare.specs.declared.View.the-variants.{Depth}
 use Rattle.compare.proofs.Listed.{greatest-type}
 use Rattle.record_rules.specs.Records.{TypeAscends}
-use Rattle.search.specs.Found.{Finds}
-use Rattle.search.proofs.Numbers.{type-found}
+use Rattle.slots.specs.Slots.{Indexed}
+use Rattle.search.specs.Found.{Enrols}
+use Rattle.search.proofs.Entered.{indexed-type}
 use Rattle.enter.specs.Entering.{Enters, StoresType, typeCount}
 use Rattle.enter.proofs.Parts.{TypeParts, type-parts, deepest, rules-by, type-depth}
 use Rattle.enter.proofs.FirstBroken.{broken-here, broken-later, none-broken}
 use Rattle.enter.specs.declared.Entered.the-variants.{Done, Broken}
 
-pub type-row-stored : (file : Bytes) (work : List ℕ) (k count o deep : ℕ) {first : ℕ} {work₁ work₂ work₃ : List ℕ} → Finds file work k typeOffset typeFirst count o first
-    → work₁ ≡ store work k typeOffset count o → work₂ ≡ store work₁ k typeFirst count first → work₃ ≡ store work₂ k typeDepth count deep → StoresType file work work₃ k count o deep
+pub type-row-stored : (file : Bytes) (work : List ℕ) (k count o deep : ℕ) {first : ℕ} {work₀ work₁ work₂ work₃ : List ℕ} → Enrols file work work₀ k typeOffset typeFirst 0 count o first
+    → work₁ ≡ store work₀ k typeOffset count o → work₂ ≡ store work₁ k typeFirst count first → work₃ ≡ store work₂ k typeDepth count deep → StoresType file work work₃ k count o deep
 unfolding typeCount
-type-row-stored file work k count o deep {first} F e e′ e″ =
-    record {
-      go = λ f I c room t s d.
-          rw (e″, e′, e, c)
-          (indexed-type I room (type-stored work k _ (I .index .fits) (omega (arith, counts-fewer f .types-fewer)) o first deep) s (type-found (I .index) s (rw c at F)) d);
-    }
+type-row-stored file work k count o deep E e e′ e″ = record { go = λ f I c room t s d. rw (e″, e′, e, c) (indexed-type I room (rw c at E) s d) }
 
 -- ---- the rules
 

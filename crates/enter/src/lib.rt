@@ -15,12 +15,13 @@ pub enum Entered {
 pub fn enter_fun(file: &[u8], work: &mut [u32], k: usize, count: u32, o: u32) -> Entered
     ensures { λ r. ⌜ Enters func funCount (now (file .entry)) (now (work .entry)) (now (work .exit)) k count o r ⌝ }
 {
-    let first = search::find(
+    let first = search::enrol(
         file,
         work,
         k,
         index::FUN_OFFSET,
         index::FUN_FIRST,
+        1,
         count,
         o as usize,
     );
@@ -33,12 +34,13 @@ pub fn enter_fun(file: &[u8], work: &mut [u32], k: usize, count: u32, o: u32) ->
 fn store_type(file: &[u8], work: &mut [u32], k: usize, count: u32, o: u32, depth: u32)
     ensures { λ _. ⌜ StoresType (now (file .entry)) (now (work .entry)) (now (work .exit)) k count o depth ⌝ }
 {
-    let first = search::find(
+    let first = search::enrol(
         file,
         work,
         k,
         index::TYPE_OFFSET,
         index::TYPE_FIRST,
+        0,
         count,
         o as usize,
     );

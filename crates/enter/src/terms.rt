@@ -6,12 +6,13 @@ ghost use Rattle.enter.specs.Terms.{StoresTerm, EntersTerm, EntersTyped}
 fn store_term(file: &[u8], work: &mut [u32], k: usize, count: u32, o: u32, ty: u32, depth: u32)
     ensures { λ _. ⌜ StoresTerm (now (file .entry)) (now (work .entry)) (now (work .exit)) k count o ty depth ⌝ }
 {
-    let first = search::find(
+    let first = search::enrol(
         file,
         work,
         k,
         index::TERM_OFFSET,
         index::TERM_FIRST,
+        2,
         count,
         o as usize,
     );

@@ -1,2 +1,5 @@
 pub mod Equal
+pub mod Probing
 pub mod Numbers
+pub mod Growth
+pub mod Entered

@@ -2,18 +2,20 @@
 -- Assumes nothing.
 use mathlib.Core.Path.{_≡_}
 use mathlib.Core.Logic.{_⊎_}
-use Prim.Native.Nat.{ℕ, _<_}
+use Prim.Native.Nat.{ℕ, _-_, _/_, _<_}
 use mathlib.Core.Bool.{Bool}
 use mathlib.Core.List.{List}
 use mathlib.Core.Option.{some}
 use Rattle.script_spec.specs.Base.{Bytes}
 use Rattle.script_spec.specs.Fields.{Entry}
 use Rattle.script_spec.specs.File.{TermFile, earlier}
-use Rattle.index.specs.Cells.{cell}
+use Rattle.index.specs.Cells.{cell, hash}
 use Rattle.index.specs.First.{canonical, InRange}
 use Rattle.index.specs.Standing.{entryAt}
 use Rattle.index.specs.Meaning.{Index}
 use Rattle.compare.specs.View.{Decides}
+use Rattle.slots.specs.Slots.{codeOf, empties, homeOf, Reached}
+use Rattle.slots.specs.Storing.{Stored}
 
 -- the entry x is read at an offset, and refers to records of f only
 pub record At (file : Bytes) (f : TermFile) (o : ℕ) (x : Entry) : Type 0 where
@@ -24,11 +26,13 @@ pub record At (file : Bytes) (f : TermFile) (o : ℕ) (x : Entry) : Type 0 where
 pub record SameAt (file : Bytes) (work : List ℕ) (k o p : ℕ) (r : Bool) : Type 0 where
   pub go : (f : TermFile) → Index file f work k → (x y : Entry) → At file f o x → At file f p y → Decides r (canonical f x ≡ canonical f y)
 
--- what is looked for, and the entries ε among which it is, by their offsets in a column
-pub record Looks (file : Bytes) (work : List ℕ) (k offsets count o : ℕ) (f : TermFile) (x : Entry) (ε : ℕ → Entry) : Type 0 where
+-- what is looked for, and the entries ε among which it is, by their offsets in a column; each is reached in the slots
+pub record Looks (file : Bytes) (work : List ℕ) (k offsets kind count o : ℕ) (f : TermFile) (x : Entry) (ε : ℕ → Entry) : Type 0 where
   pub index : Index file f work k
   pub sought : At file f o x
   pub rows : (n : ℕ) → n < count → At file f (cell work k offsets n) (ε n)
+  pub kind-is : kind < 3
+  pub reached : (n : ℕ) → n < count → Reached k (cell work k hash) kind count (λ m. canonical f (ε m)) n
 
 module _ (f : TermFile) (x : Entry) (ε : ℕ → Entry) (count : ℕ) where
   -- an entry that is equal, with the number that its row has in the column of first numbers
@@ -43,6 +47,29 @@ module _ (f : TermFile) (x : Entry) (ε : ℕ → Entry) (count : ℕ) where
     pub none : (n : ℕ) → n < count → canonical f (ε n) ≡ canonical f x → ⊥
     pub is : r ≡ count
 
+  -- a slot that holds v has an entry of the kind that is equal
+  pub record Held (kind v : ℕ) : Type 0 where
+    pub below : (v - 1) / 3 < count
+    pub is : v ≡ codeOf ((v - 1) / 3) kind
+    pub equal : canonical f (ε ((v - 1) / 3)) ≡ canonical f x
+
+-- r is whether a slot that holds v has an equal entry
+pub record Holds (file : Bytes) (work : List ℕ) (k offsets kind count o v : ℕ) (r : Bool) : Type 0 where
+  pub go : (f : TermFile) (x : Entry) (ε : ℕ → Entry) → Looks file work k offsets kind count o f x ε → Decides r (Held f x ε count kind v)
+
+-- what the search answers from the slot b on, if this is the home of what is looked for
+pub record Probes (file : Bytes) (work : List ℕ) (k offsets firsts kind count o b r : ℕ) : Type 0 where
+  pub go : (f : TermFile) (x : Entry) (ε : ℕ → Entry) → Looks file work k offsets kind count o f x ε → (0 < k → b ≡ homeOf k (canonical f x)) → Hit f x ε count (cell work k firsts) r ⊎ Miss f x ε count r
+
 -- what the search answers
-pub record Finds (file : Bytes) (work : List ℕ) (k offsets firsts count o r : ℕ) : Type 0 where
-  pub go : (f : TermFile) (x : Entry) (ε : ℕ → Entry) → Looks file work k offsets count o f x ε → Hit f x ε count (cell work k firsts) r ⊎ Miss f x ε count r
+pub record Finds (file : Bytes) (work : List ℕ) (k offsets firsts kind count o r : ℕ) : Type 0 where
+  pub go : (f : TermFile) (x : Entry) (ε : ℕ → Entry) → Looks file work k offsets kind count o f x ε → Hit f x ε count (cell work k firsts) r ⊎ Miss f x ε count r
+
+-- the same answer; the entry that was looked for is stored in a slot with `count` for its number, or one that is equal was found
+pub record Enrolled (work work′ : List ℕ) (k firsts kind count r : ℕ) (f : TermFile) (x : Entry) (ε : ℕ → Entry) : Type 0 where
+  pub found : Hit f x ε count (cell work k firsts) r ⊎ Miss f x ε count r
+  pub kept : ((work′ ≡ work) × Hit f x ε count (cell work k firsts) r) ⊎ Stored work work′ k (homeOf k (canonical f x)) (codeOf count kind)
+
+-- what the search answers that takes a slot
+pub record Enrols (file : Bytes) (work work′ : List ℕ) (k offsets firsts kind count o r : ℕ) : Type 0 where
+  pub go : (f : TermFile) (x : Entry) (ε : ℕ → Entry) → Looks file work k offsets kind count o f x ε → count < 1048576 → 0 < empties (cell work k hash) k → Enrolled work work′ k firsts kind count r f x ε

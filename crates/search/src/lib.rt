@@ -1,5 +1,5 @@
-// The search for the first record that is equal to one, among the types, the functions or the terms.
-ghost use Rattle.search.specs.Found.{SameAt, Finds};
+// The search for a record that is equal to one, among the types, the functions or the terms, by the slots of the hash table.
+ghost use Rattle.search.specs.Found.{SameAt, Holds, Probes, Finds, Enrols};
 
 // Whether the records at two offsets are equal: the same mark, and bodies that agree by the index.
 fn same_at(file: &[u8], work: &[u32], k: usize, o: usize, p: usize) -> bool
@@ -13,25 +13,92 @@ fn same_at(file: &[u8], work: &[u32], k: usize, o: usize, p: usize) -> bool
     false
 }
 
-// The number of the first record that is equal to the one at an offset, or `count`; two columns have the offsets and the first numbers.
-pub fn find(
+// Whether a slot that holds v has a record of the kind that is equal to the one at an offset.
+fn holds(
+    file: &[u8],
+    work: &[u32],
+    k: usize,
+    offsets: usize,
+    kind: u32,
+    count: u32,
+    o: usize,
+    v: u32,
+) -> bool
+    ensures { λ r. ⌜ Holds (now (file .entry)) (now (work .entry)) k offsets kind count o v r ⌝ }
+{
+    let n = slots::number_of(v);
+    if count <= n {
+        return false;
+    }
+    if 3 * (n as u64) + kind as u64 + 1 != v as u64 {
+        return false;
+    }
+    let p = index::get(work, k, offsets, n as usize);
+    same_at(file, work, k, p as usize, o)
+}
+
+// What `find` answers, from the slot b on.
+fn probe(
     file: &[u8],
     work: &[u32],
     k: usize,
     offsets: usize,
     firsts: usize,
+    kind: u32,
+    count: u32,
+    o: usize,
+    b: usize,
+) -> u32
+    ensures { λ r. ⌜ Probes (now (file .entry)) (now (work .entry)) k offsets firsts kind count o b r ⌝ }
+{
+    let mut d = 0;
+    while d < k {
+        let v = index::get(work, k, index::HASH, slots::slot(k, b, d));
+        if v == 0 {
+            return count;
+        }
+        if holds(file, work, k, offsets, kind, count, o, v) {
+            return index::get(work, k, firsts, slots::number_of(v) as usize);
+        }
+        d += 1;
+    }
+    count
+}
+
+// The number of the first record of a kind that is equal to the one at an offset, or `count`; two columns have the offsets and the first numbers.
+fn find(
+    file: &[u8],
+    work: &[u32],
+    k: usize,
+    offsets: usize,
+    firsts: usize,
+    kind: u32,
     count: u32,
     o: usize,
 ) -> u32
-    ensures { λ r. ⌜ Finds (now (file .entry)) (now (work .entry)) k offsets firsts count o r ⌝ }
+    ensures { λ r. ⌜ Finds (now (file .entry)) (now (work .entry)) k offsets firsts kind count o r ⌝ }
 {
-    let mut i = 0;
-    while i < count {
-        let p = index::get(work, k, offsets, i as usize);
-        if same_at(file, work, k, p as usize, o) {
-            return index::get(work, k, firsts, i as usize);
-        }
-        i += 1;
+    let b = slots::home(file, work, k, o);
+    probe(file, work, k, offsets, firsts, kind, count, o, b)
+}
+
+// The same number; where there is none, a slot is taken for the record, with `count` for its number.
+pub fn enrol(
+    file: &[u8],
+    work: &mut [u32],
+    k: usize,
+    offsets: usize,
+    firsts: usize,
+    kind: u32,
+    count: u32,
+    o: usize,
+) -> u32
+    ensures { λ r. ⌜ Enrols (now (file .entry)) (now (work .entry)) (now (work .exit)) k offsets firsts kind count o r ⌝ }
+{
+    let first = find(file, work, k, offsets, firsts, kind, count, o);
+    if first == count {
+        slots::store(file, work, k, o, slots::code(count, kind));
+        return first;
     }
-    count
+    first
 }

@@ -1,0 +1,113 @@
+-- The slots for a file with one record more: old records stay reached, and the new one is reached by its slot or by that of an equal one.
+-- Assumes nothing.
+use mathlib.Core.Path.{_≡_, refl, sym, ap, _∙_, subst}
+use mathlib.Core.Logic.{_⊎_, ⊎-elim}
+use Prim.Native.Nat.{ℕ, suc, _+_, _*_, _≤_, _<_}
+use native.Mathlib.Omega.{arith}
+use mathlib.Core.List.{List, [], _∷_, _++_}
+use lib.ListN.{length, length-append}
+use Rattle.script_spec.specs.Base.{Bytes}
+use Rattle.script_spec.specs.Fields.{Entry}
+use Rattle.script_spec.specs.File.{TermFile, Named, types, funs, terms, earlier}
+use Rattle.index.specs.Cells.{cell, typeOffset, funOffset, termOffset, hash}
+use Rattle.index.specs.First.{canonical}
+use Rattle.index.specs.Standing.{entryAt}
+use Rattle.index.specs.Meaning.{Index}
+use Rattle.index.proofs.Cells.{length-store, cell-store-other}
+use Rattle.index.proofs.Growth.{Grown, types-grown, funs-grown, terms-grown}
+use Rattle.index.proofs.Later.{more-append, canonical-kept}
+use Rattle.index.proofs.Stores.{Changed, changed-refl}
+use Rattle.index.proofs.Rows.{Untouched}
+use Rattle.slots.specs.Slots.{slot, empties, homeOf, Reached, entryOr, entries, AllReached, Slots}
+use Rattle.slots.specs.Storing.{Stored}
+use Rattle.slots.proofs.Ring.{empties-same}
+use Rattle.slots.proofs.Reach.{Stays, reached-kept, reached-equal, stored-stays, stored-fewer, reached-new}
+use Rattle.search.specs.Found.{At, Enrolled}
+use Rattle.search.proofs.Numbers.{type-at, fun-at, term-at}
+
+-- ---- a slot that was taken
+
+module _ {work work₀ : List ℕ} {k firsts kind count r : ℕ} {f : TermFile} {x : Entry} {ε : ℕ → Entry} (E : Enrolled work work₀ k firsts kind count r f x ε) where
+  pub enrolled-changed : (low high n : ℕ) → Changed k low high n work work₀
+  enrolled-changed low high n =
+      ⊎-elim
+      (λ h. rw (h .0) (changed-refl k low high n work))
+      (λ S. record {
+        same-size = rw (S .is) (length-store work k hash _ _);
+        same = λ column i h other. rw (S .is) (cell-store-other work k hash _ _ column i (λ e q. omega arith));
+      })
+      (E .kept)
+
+  module _ (fits : 12 * k ≤ length work) where
+    slots-stay : Stays (cell work k hash) (cell work₀ k hash)
+    slots-stay = ⊎-elim (λ h. record { same = λ i g. rw (h .0) }) (λ S. stored-stays fits S) (E .kept)
+
+    slots-fewer : empties (cell work k hash) k ≤ suc (empties (cell work₀ k hash) k)
+    slots-fewer = ⊎-elim (λ h. rw (h .0) (omega arith)) (λ S. stored-fewer fits S) (E .kept)
+
+    module _ (work′ : List ℕ) (same : (i : ℕ) → cell work′ k hash i ≡ cell work₀ k hash i) where
+      pub enrolled-stays : Stays (cell work k hash) (cell work′ k hash)
+      enrolled-stays = record { same = λ i g. same i ∙ slots-stay .same i g }
+
+      pub enrolled-fewer : empties (cell work k hash) k ≤ suc (empties (cell work′ k hash) k)
+      enrolled-fewer = omega (arith, slots-fewer, empties-same (cell work₀ k hash) (cell work′ k hash) k (λ i l. same i))
+
+      -- the new record
+      pub enrolled-reached : (ε′ : ℕ → Entry) → ((n : ℕ) → n < count → ε′ n ≡ canonical f (ε n)) → ε′ count ≡ canonical f x
+          → ((n : ℕ) → n < count → Reached k (cell work k hash) kind count (λ m. canonical f (ε m)) n) → Reached k (cell work′ k hash) kind (suc count) ε′ count
+      enrolled-reached ε′ agree last all =
+          ⊎-elim
+          (λ h. reached-equal (agree (h .1 .number) (h .1 .below) ∙ h .1 .equal ∙ sym last)
+          (reached-kept enrolled-stays agree (omega arith) (h .1 .number) (h .1 .below) (all (h .1 .number) (h .1 .below))))
+          (λ S. reached-kept (record { same = λ i g. same i }) (λ n l. refl) (omega arith) count (omega arith) (reached-new fits S refl (ap (homeOf k) (sym last))))
+          (E .kept)
+
+-- ---- all slots
+
+-- what holds of the old numbers, and of the new one where there is one, holds of all
+all-rows : {A : Type 0} (xs zs : List A) (P : ℕ → Type 0) → Grown xs zs → ((n : ℕ) → n < length xs → P n) → (length xs < length zs → P (length xs)) → (n : ℕ) → n < length zs → P n
+all-rows xs zs P g old new n l = ⊎-elim (λ h. old n h) (λ e. subst P (sym e) (new (omega arith))) (g n l)
+
+module _ (file : Bytes) (f : TermFile) (r : Named) (k : ℕ) (work work′ : List ℕ) where
+  -- an old record's entry is as it was
+  pub canonicals-kept : (offsets count : ℕ) → ((n : ℕ) → n < count → At file f (cell work k offsets n) (entries file work k offsets n)) → ((n : ℕ) → n < count → cell work′ k offsets n ≡ cell work k offsets n)
+      → (n : ℕ) → n < count → canonical (f ++ (r ∷ [])) (entries file work′ k offsets n) ≡ canonical f (entries file work k offsets n)
+  unfolding entries
+  canonicals-kept offsets count at same n l =
+      ap (λ (o : ℕ). canonical (f ++ (r ∷ [])) (entryOr (entryAt file o))) (same n l) ∙ canonical-kept f r (entries file work k offsets n) (at n l .in-range)
+
+  module _ (I : Index file f work k) (U : Untouched f k work work′) where
+    pub types-kept : (n : ℕ) → n < length (types f) → canonical (f ++ (r ∷ [])) (entries file work′ k typeOffset n) ≡ canonical f (entries file work k typeOffset n)
+    types-kept = canonicals-kept typeOffset (length (types f)) (type-at I) (λ n l. U .same-types n l typeOffset (omega arith))
+
+    pub funs-kept : (n : ℕ) → n < length (funs f) → canonical (f ++ (r ∷ [])) (entries file work′ k funOffset n) ≡ canonical f (entries file work k funOffset n)
+    funs-kept = canonicals-kept funOffset (length (funs f)) (fun-at I) (λ n l. U .same-funs n l funOffset (omega arith) (omega arith))
+
+    pub terms-kept : (n : ℕ) → n < length (terms f) → canonical (f ++ (r ∷ [])) (entries file work′ k termOffset n) ≡ canonical f (entries file work k termOffset n)
+    terms-kept = canonicals-kept termOffset (length (terms f)) (term-at I) (λ n l. U .same-terms n l termOffset (omega arith) (omega arith))
+
+    -- a number of the longer file is reached
+    abbrev ReachedIn : ℕ → ℕ → ℕ → ℕ → Type 0
+    ReachedIn offsets kind count n = Reached k (cell work′ k hash) kind count (λ m. canonical (f ++ (r ∷ [])) (entries file work′ k offsets m)) n
+
+    pub slots-grown : Slots file f work k → Stays (cell work k hash) (cell work′ k hash) → empties (cell work k hash) k ≤ suc (empties (cell work′ k hash) k)
+        → (length (types f) < length (types (f ++ (r ∷ []))) → ReachedIn typeOffset 0 (length (types (f ++ (r ∷ [])))) (length (types f)))
+        → (length (funs f) < length (funs (f ++ (r ∷ []))) → ReachedIn funOffset 1 (length (funs (f ++ (r ∷ [])))) (length (funs f)))
+        → (length (terms f) < length (terms (f ++ (r ∷ []))) → ReachedIn termOffset 2 (length (terms (f ++ (r ∷ [])))) (length (terms f)))
+        → Slots file (f ++ (r ∷ [])) work′ k
+    unfolding earlier
+    slots-grown S stays fewer new-type new-fun new-term =
+        let more = more-append f r in
+        record {
+          small = S .small;
+          type-slots =
+              all-rows (types f) (types (f ++ (r ∷ []))) (ReachedIn typeOffset 0 (length (types (f ++ (r ∷ []))))) (types-grown f r)
+              (λ n l. reached-kept stays types-kept (more .types-more) n l (S .type-slots n l)) new-type;
+          fun-slots =
+              all-rows (funs f) (funs (f ++ (r ∷ []))) (ReachedIn funOffset 1 (length (funs (f ++ (r ∷ []))))) (funs-grown f r)
+              (λ n l. reached-kept stays funs-kept (more .funs-more) n l (S .fun-slots n l)) new-fun;
+          term-slots =
+              all-rows (terms f) (terms (f ++ (r ∷ []))) (ReachedIn termOffset 2 (length (terms (f ++ (r ∷ []))))) (terms-grown f r)
+              (λ n l. reached-kept stays terms-kept (more .terms-more) n l (S .term-slots n l)) new-term;
+          taken = rw length-append (omega (arith, S .taken, fewer));
+        }

@@ -1,0 +1,122 @@
+-- The search goes through the slots from the home of what is looked for: none that was passed is empty or has an equal entry.
+-- Assumes nothing.
+use mathlib.Core.Path.{_≡_, refl, sym, ap, _∙_, subst}
+use mathlib.Core.Logic.{_⊎_, inl, inr, ⊎-elim}
+use Prim.Native.Nat.{ℕ, zero, suc, _+_, _-_, _*_, _/_, _≤_, _<_}
+use native.Mathlib.Decide.{decLt, ℕ-discrete}
+use native.Mathlib.Omega.{arith}
+use mathlib.Core.Bool.{Bool, true, false}
+use mathlib.Core.List.{List}
+use borrow.Author.Count.{below-more}
+use Rattle.script_spec.specs.Base.{Bytes}
+use Rattle.script_spec.specs.Fields.{Entry}
+use Rattle.script_spec.specs.File.{TermFile}
+use Rattle.index.specs.Cells.{cell, hash}
+use Rattle.index.specs.First.{canonical}
+use Rattle.compare.specs.View.{Decides}
+use Rattle.slots.specs.Slots.{slot, codeOf, homeOf, Reached}
+use Rattle.slots.specs.Storing.{Home, Stores}
+use Rattle.slots.proofs.Ring.{code-number, code-some}
+use Rattle.search.specs.Found.{SameAt, Looks, Hit, Miss, Held, Holds, Probes, Finds, Enrols}
+
+true-not-false : true ≡ false → ⊥
+true-not-false e = let z : _≡_ {A = ℕ} 0 1 = cc in omega arith
+
+-- ---- one slot
+
+module _ {file : Bytes} {work : List ℕ} {k offsets kind count o v n : ℕ} (is : n ≡ (v - 1) / 3) where
+  pub holds-past : count ≤ n → Holds file work k offsets kind count o v false
+  holds-past h = record { go = λ f x ε L. record { true-of = λ H. absurd (omega (arith, H .below)); of-true = λ t. absurd (true-not-false (sym t)) } }
+
+  pub holds-other : (3 * n + kind + 1 ≡ v → ⊥) → Holds file work k offsets kind count o v false
+  unfolding codeOf
+  holds-other h = record { go = λ f x ε L. record { true-of = λ H. absurd (h (omega (arith, H .is))); of-true = λ t. absurd (true-not-false (sym t)) } }
+
+  pub holds-same : {p : ℕ} {r : Bool} → n < count → 3 * n + kind + 1 ≡ v → p ≡ cell work k offsets n → SameAt file work k p o r → Holds file work k offsets kind count o v r
+  unfolding codeOf
+  holds-same below e row S =
+      record {
+        go = λ f x ε L.
+            let D = S .go f (L .index) (ε n) x (rw row (L .rows n below)) (L .sought) in
+            record {
+              true-of = λ H. D .true-of (rw is (H .equal));
+              of-true = λ t. record { below = rw (← is) below; is = omega arith; equal = rw (← is) (D .of-true t) };
+            };
+      }
+
+-- ---- the slots that were passed
+
+-- no slot in the first d steps from b is empty or has an equal entry
+pub record Passed (file : Bytes) (work : List ℕ) (k offsets kind count o b d : ℕ) : Type 0 where
+  pub taken : (j : ℕ) → j < d → cell work k hash (slot k b j) ≡ 0 → ⊥
+  pub other : (f : TermFile) (x : Entry) (ε : ℕ → Entry) → Looks file work k offsets kind count o f x ε → (j : ℕ) → j < d → Held f x ε count kind (cell work k hash (slot k b j)) → ⊥
+
+module _ {file : Bytes} {work : List ℕ} {k offsets kind count o b : ℕ} where
+  pub passed-none : Passed file work k offsets kind count o b 0
+  passed-none = record { taken = λ j l e. omega arith; other = λ f x ε L j l H. omega arith }
+
+  -- an entry that is equal is not beyond the slots that were passed
+  not-passed : {d : ℕ} → Passed file work k offsets kind count o b d → {f : TermFile} {x : Entry} {ε : ℕ → Entry} → Looks file work k offsets kind count o f x ε → (0 < k → b ≡ homeOf k (canonical f x))
+      → (n : ℕ) → (q : canonical f (ε n) ≡ canonical f x) → (R : Reached k (cell work k hash) kind count (λ m. canonical f (ε m)) n) → R .distance < d → ⊥
+  not-passed P {f} {x} {ε} L home n q R l =
+      let there : cell work k hash (slot k b (R .distance)) ≡ codeOf (R .number) kind = rw (home (omega (arith, R .near)), ← q) (R .holds) in
+      let number = code-number (R .number) kind (cell work k hash (slot k b (R .distance))) (L .kind-is) there in
+      P .other f x ε L (R .distance) l (record { below = rw number (R .below); is = rw number there; equal = rw number (R .equal ∙ q) })
+
+  module _ {d : ℕ} (P : Passed file work k offsets kind count o b d) where
+    -- all slots were passed
+    pub found-nowhere : {firsts : ℕ} → k ≤ d → Probes file work k offsets firsts kind count o b count
+    found-nowhere h =
+        record { go = λ f x ε L home. inr (record { none = λ n l q. let R = L .reached n l in not-passed P L home n q R (omega (arith, R .near)); is = refl }) }
+
+    module _ {v : ℕ} (is : v ≡ cell work k hash (slot k b d)) where
+      -- an empty slot ends the search
+      pub found-empty : {firsts : ℕ} → v ≡ 0 → Probes file work k offsets firsts kind count o b count
+      found-empty e = record { go = λ f x ε L home. inr (record { none = λ n l q. none f x ε L home n q (L .reached n l); is = refl }) }
+        where
+          none : (f : TermFile) (x : Entry) (ε : ℕ → Entry) → Looks file work k offsets kind count o f x ε → (0 < k → b ≡ homeOf k (canonical f x)) → (n : ℕ) → canonical f (ε n) ≡ canonical f x
+              → Reached k (cell work k hash) kind count (λ m. canonical f (ε m)) n → ⊥
+          none f x ε L home n q R = go (decLt (R .distance) d) (ℕ-discrete (R .distance) d)
+            where
+              b-is : b ≡ homeOf k (canonical f (ε n))
+              b-is = home (omega (arith, R .near)) ∙ ap (homeOf k) (sym q)
+
+              go : Dec (R .distance < d) → Dec (R .distance ≡ d) → ⊥
+              go (yes l) g = not-passed P L home n q R l
+              go (no l) (yes g) = code-some (R .number) kind (sym (R .holds) ∙ rw (← b-is, g) (sym is ∙ e))
+              go (no l) (no g) = R .path d (omega arith) (rw (← b-is) (sym is ∙ e))
+
+      module _ {r : Bool} (H : Holds file work k offsets kind count o v r) where
+        pub found-held : {firsts n w : ℕ} → r ≡ true → n ≡ (v - 1) / 3 → w ≡ cell work k firsts n → Probes file work k offsets firsts kind count o b w
+        found-held {firsts} h e q =
+            record { go = λ f x ε L home. let K = H .go f x ε L .of-true h in inl (record { number = (v - 1) / 3; below = K .below; equal = K .equal; is = q ∙ ap (cell work k firsts) e }) }
+
+        pub passed-more : r ≡ false → (v ≡ 0 → ⊥) → Passed file work k offsets kind count o b (d + 1)
+        passed-more h z =
+            record {
+              taken = below-more (λ j. cell work k hash (slot k b j) ≡ 0 → ⊥) d (P .taken) (λ e. z (is ∙ e));
+              other = λ f x ε L. below-more (λ j. Held f x ε count kind (cell work k hash (slot k b j)) → ⊥) d (P .other f x ε L)
+                  (λ K. let t = H .go f x ε L .true-of (subst (λ (w : ℕ). Held f x ε count kind w) (sym is) K) in true-not-false (sym t ∙ h));
+            }
+
+-- ---- the search
+
+module _ {file : Bytes} {work : List ℕ} {k offsets firsts kind count o r : ℕ} where
+  pub found-from-home : {b : ℕ} → Home file work k o b → Probes file work k offsets firsts kind count o b r → Finds file work k offsets firsts kind count o r
+  found-from-home H P = record { go = λ f x ε L. P .go f x ε L (H .is f x (L .index) (L .sought .reads) (L .sought .in-range)) }
+
+  module _ (F : Finds file work k offsets firsts kind count o r) where
+    pub enrolled-new : {work′ : List ℕ} {v : ℕ} → (count < 1048576 → kind < 3 → v ≡ codeOf count kind) → Stores file work work′ k o v → Enrols file work work′ k offsets firsts kind count o r
+    enrolled-new code S =
+        record {
+          go = λ f x ε L few room.
+              record { found = F .go f x ε L; kept = inr (rw (code few (L .kind-is)) at (S .go f x (L .index) (L .sought .reads) (L .sought .in-range) room)) };
+        }
+
+    pub enrolled-old : (r ≡ count → ⊥) → Enrols file work work k offsets firsts kind count o r
+    enrolled-old h =
+        record {
+          go = λ f x ε L few room.
+              let A = F .go f x ε L in
+              record { found = A; kept = inl (refl, ⊎-elim (λ H. H) (λ M. absurd (h (M .is))) A) };
+        }
