@@ -31,24 +31,24 @@ module _ (file : Bytes) {work work′ : List ℕ} {r : Filled} where
 
 -- ---- the loop
 
--- some records have been entered, `place` of them
-pub record Going (file : Bytes) (work₀ work : List ℕ) (at place : ℕ) (c : Counts) : Type 0 where
+-- some records have been entered, `place` of them, into a memory of this size
+pub record Going (file : Bytes) (size : ℕ) (work : List ℕ) (at place : ℕ) (c : Counts) : Type 0 where
   pub records : TermFile
-  pub reached : Reached file (length work₀) records work at c
+  pub reached : Reached file size records work at c
   pub place-is : place ≡ length records
-  pub same-size : length work ≡ length work₀
+  pub same-size : length work ≡ size
 
-pub going-start : (file : Bytes) (work : List ℕ) → length file ≤ 1048576 → 2 * length file ≤ length work → Going file work work 0 0 (record { types = 0; funs = 0; terms = 0; enums = 0 })
+pub going-start : (file : Bytes) (work : List ℕ) (size : ℕ) → length file ≤ 1048576 → 2 * length file ≤ length work → work ≡ replicate size 0 → Going file (length work) work 0 0 (record { types = 0; funs = 0; terms = 0; enums = 0 })
 unfolding countsOf types funs terms enums collect
-going-start file work g h = record { records = []; reached = reached-start file work _ g h refl; place-is = refl; same-size = refl }
+going-start file work size g h zeros = record { records = []; reached = reached-start file work size _ g h zeros refl; place-is = refl; same-size = refl }
 
-module _ {file : Bytes} {work₀ work : List ℕ} {at place : ℕ} {c : Counts} (G : Going file work₀ work at place c) where
+module _ {file : Bytes} {size : ℕ} {work : List ℕ} {at place : ℕ} {c : Counts} (G : Going file size work at place c) where
   -- the place of a record has six bytes before it for each earlier one
   pub going-few : place ≤ 1048576
   going-few = omega (arith, G .place-is, G .reached .before .places, G .reached .before .short, G .reached .within)
 
-  pub going-end : length file ≤ at → Fills file work₀ work (fill.Done c)
-  going-end h = reached-end (G .reached) work₀ refl h
+  pub going-end : (work₀ : List ℕ) → length work₀ ≡ size → length file ≤ at → Fills file work₀ work (fill.Done c)
+  going-end work₀ e h = reached-end (G .reached) work₀ e h
 
   module _ {work′ : List ℕ} {s : Step} (S : Steps file work work′ at c s) where
     stepping : {t : Step} → s ≡ t → Stepping file (G .records) work′ at t
@@ -59,7 +59,7 @@ module _ {file : Bytes} {work₀ work : List ℕ} {at place : ℕ} {c : Counts} 
         let D : Stepped file (G .records) work′ at to d = stepping e in
         (omega (arith, D .further), D .within)
 
-    pub going-on : {to : ℕ} {d : Counts} → s ≡ step.To to d → length work′ ≡ length work → Going file work₀ work′ to (place + 1) d
+    pub going-on : {to : ℕ} {d : Counts} → s ≡ step.To to d → length work′ ≡ length work → Going file size work′ to (place + 1) d
     going-on {to} {d} e l =
         let D : Stepped file (G .records) work′ at to d = stepping e in
         record {
@@ -69,7 +69,7 @@ module _ {file : Bytes} {work₀ work : List ℕ} {at place : ℕ} {c : Counts} 
           same-size = l ∙ G .same-size;
         }
 
-    pub going-bad : {n : ℕ} {work″ : List ℕ} {r : Filled} → at < length file → s ≡ step.Bad n → length work′ ≡ length work → Refusing work′ work″ n place r → Fills file work₀ work″ r
-    going-bad {n} {work″} h e l Z =
+    pub going-bad : (work₀ : List ℕ) {n : ℕ} {work″ : List ℕ} {r : Filled} → length work₀ ≡ size → at < length file → s ≡ step.Bad n → length work′ ≡ length work → Refusing work′ work″ n place r → Fills file work₀ work″ r
+    going-bad work₀ {n} {work″} q h e l Z =
         subst (λ (r : Filled). Fills file work₀ work″ r) (ap (λ (p : ℕ). fill.Refused n p) (sym (G .place-is)) ∙ sym (Z .answer))
-        (reached-bad (G .reached) work₀ refl h (stepping e) (Z .cleared ∙ ap (λ (m : ℕ). replicate m 0) (l ∙ G .same-size)))
+        (reached-bad (G .reached) work₀ q h (stepping e) (Z .cleared ∙ ap (λ (m : ℕ). replicate m 0) (l ∙ G .same-size)))

@@ -14,9 +14,9 @@ use Rattle.index.specs.Standing.{markAt, bodyAt, entryAt}
 use Rattle.index.specs.Meaning.{Stands}
 use Rattle.index.proofs.Cells.{below-capacity}
 use Rattle.index.proofs.Growth.{counts-fewer}
-use Rattle.index.proofs.Entered.{indexed-input}
 use Rattle.record_rules.specs.Marks.{markOf}
 use Rattle.record_rules.proofs.Marks.{entry-mark}
+use Rattle.search.proofs.Entered.{indexed-input}
 use Rattle.enter.specs.Entering.{typeCount, funCount, Keeps, Outcome, Enters}
 use Rattle.enter.specs.Enums.{enumNamed, enumCount}
 use Rattle.enter.specs.Terms.{termCount, EntersTerm}

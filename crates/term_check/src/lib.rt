@@ -45,6 +45,7 @@ pub fn fill(file: &[u8], work: &mut [u32]) -> Filled
     if work.len() < 2 * file.len() {
         return refuse(work, 2, 0);
     }
+    writer::clear_words(work);
     let mut at = 0;
     let mut place = 0;
     let mut c = Counts {
