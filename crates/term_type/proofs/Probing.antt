@@ -1,7 +1,7 @@
 -- The search goes through the slots from the home of the type that is sought: none that was passed is empty or has that type.
 -- Assumes nothing.
 use mathlib.Core.Path.{_≡_, refl, sym, ap, _∙_, subst}
-use mathlib.Core.Logic.{inl, inr, _⊎_, ⊎-elim}
+use mathlib.Core.Logic.{inl, inr, ⊎-elim}
 use Prim.Native.Nat.{ℕ, _+_, _-_, _*_, _/_, _≤_, _<_}
 use native.Mathlib.Decide.{decLt, ℕ-discrete}
 use native.Mathlib.Omega.{arith}
@@ -10,7 +10,7 @@ use mathlib.Core.List.{List, [], _∷_}
 use borrow.Author.Count.{below-more}
 use lib.ListN.{length}
 use Rattle.script_spec.specs.Base.{Bytes, place}
-use Rattle.script_spec.specs.Tree.{Ty, TypeMark, eqTy}
+use Rattle.script_spec.specs.Tree.{TypeMark, eqTy}
 use Rattle.script_spec.specs.Fields.{type}
 use Rattle.script_spec.specs.File as record-file
 use Rattle.script_spec.specs.File.{TermFile, types, named, earlier}
@@ -25,9 +25,9 @@ use Rattle.compare.specs.View.{Decides}
 use Rattle.compare.proofs.Compared.{Same}
 use Rattle.slots.specs.Slots.{slot, codeOf, homeOf, Reached, entries}
 use Rattle.slots.proofs.Ring.{code-number, code-some}
-use Rattle.search.specs.Found.{Hit, Miss, Held}
+use Rattle.search.specs.Found.{Held}
 use Rattle.search.proofs.Numbers.{entries-read, type-at}
-use Rattle.term_type.specs.Sought.{Seeks, SameType}
+use Rattle.term_type.specs.Sought.{SameType}
 use Rattle.term_type.specs.Probed.{TypeHome, Looks, Holds, Probes, ListedSought}
 use Rattle.term_type.proofs.Same.{type-value, seeks-below, decides-same}
 
