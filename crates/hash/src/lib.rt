@@ -79,7 +79,7 @@ pub fn record_hash(file: &[u8], work: &[u32], k: usize, o: usize) -> u32
     mix_ahead(compare::body_of(file, o), w, work, k, View::First, h)
 }
 
-// The hash of a type's mark, by its second byte.
+// The hash of a type's mark: the byte T, which is 84, and a second one.
 fn mark_hash(letter: u8) -> u32
     ensures { λ r. ⌜ r ≡ mixed (mixed 0 84) letter ⌝ }
 {
@@ -137,6 +137,6 @@ pub fn listed_hash(file: &[u8], work: &[u32], k: usize, o: usize) -> u32
     ensures { λ r. ⌜ r ≡ typeHash 82 (map (viewed (now (work .entry)) k Listed) (segmentsAt (now (file .entry)) o)) ⌝ }
 {
     let w = compare::walk_of(file, o);
-    let h = mark_hash(82);
+    let h = mark_hash(b'R');
     mix_ahead(compare::body_of(file, o), w, work, k, View::Listed, h)
 }
