@@ -82,7 +82,7 @@ module _ (work : List ℕ) (k : ℕ) where
   named-first (a ∷ names) [] = ap (λ (l : List Segment). plain (textBytes a) ∷ l) (named-first names [])
   named-first (a ∷ names) (n ∷ rs) = ap (λ (l : List Segment). plain (textBytes a) ∷ typeRef (cell work k typeFirst n) ∷ l) (named-first names rs)
 
-  named-listed : (names : List Bytes) (ts : List ℕ) → map (viewed work k Listed) (named termRef names ts) ≡ named typeRef names (map (cell work k termType) ts)
+  pub named-listed : (names : List Bytes) (ts : List ℕ) → map (viewed work k Listed) (named termRef names ts) ≡ named typeRef names (map (cell work k termType) ts)
   unfolding named viewed termAs
   named-listed [] [] = refl
   named-listed [] (n ∷ ts) = ap (λ (l : List Segment). typeRef (cell work k termType n) ∷ l) (named-listed [] ts)

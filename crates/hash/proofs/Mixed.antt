@@ -14,6 +14,12 @@ use Rattle.compare.specs.View.{kindOf, numberOf, bytesOf, after, Sees}
 use Rattle.compare.specs.declared.Seen.{Seen}
 use Rattle.hash.specs.Hash.{mixed, mixedBytes, mixedSegments}
 
+-- ---- numbers
+
+-- a number that is mixed into a hash that is known
+pub then-mixed : {x y h n m : ℕ} → x ≡ h → n ≡ m → y ≡ mixed x n → y ≡ mixed h m
+then-mixed e q r = rw (← e, ← q) r
+
 -- ---- bytes
 
 pub bytes-next : (h : ℕ) (s : Bytes) (i : ℕ) {b r : ℕ} → i < length s → b ≡ getD s i 0 → r ≡ mixed h b → mixedBytes r (drop (i + 1) s) ≡ mixedBytes h (drop i s)

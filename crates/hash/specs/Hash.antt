@@ -29,3 +29,7 @@ hashed mark l = mixedSegments (mixedBytes 0 mark) l
 -- the hash of the record at an offset, references by first equal numbers
 unfoldable pub recordHash : Bytes → List ℕ → ℕ → ℕ → ℕ
 recordHash file work k o = hashed (markAt file o) (map (viewed work k First) (segmentsAt file o))
+
+-- the hash of a type, by the second byte of its mark
+unfoldable pub typeHash : ℕ → List Segment → ℕ
+typeHash letter l = hashed (84 ∷ letter ∷ []) l

@@ -1,12 +1,14 @@
-// A hash of a record: its mark and its body, references by the numbers of first equal records.
+// A hash of a record: its mark and its body, references by the numbers of first equal records; and of a type that is not at hand.
 ghost use mathlib.Core.Path.{_≡_};
 ghost use Prim.Native.Nat.{_+_, _≤_};
-ghost use mathlib.Core.List.{map};
+ghost use mathlib.Core.List.{[], _∷_, map};
 ghost use lib.ListN.{length, take, drop};
+ghost use Rattle.segments.specs.Segment.{plain, typeRef};
 ghost use Rattle.segments.specs.Machine.{ahead};
-ghost use Rattle.compare.specs.View.{viewed};
-ghost use Rattle.compare.specs.declared.View.the-variants.{First};
-ghost use Rattle.hash.specs.Hash.{mixed, mixedBytes, mixedSegments, recordHash};
+ghost use Rattle.segments.specs.Printed.{lowBytes};
+ghost use Rattle.compare.specs.View.{viewed, segmentsAt};
+ghost use Rattle.compare.specs.declared.View.the-variants.{Listed};
+ghost use Rattle.hash.specs.Hash.{mixed, mixedBytes, mixedSegments, recordHash, typeHash};
 use compare::Seen;
 use compare::View;
 use segments::Walk;
@@ -52,14 +54,14 @@ fn mix_seen(body: &[u8], s: Seen, h: u32) -> u32
     mix_bytes(y, &body[a..e])
 }
 
-// A hash with what is ahead of a walk mixed in.
-fn mix_ahead(body: &[u8], w: Walk, work: &[u32], k: usize, h: u32) -> u32
-    ensures { λ r. ⌜ r ≡ mixedSegments h (map (viewed (now (work .entry)) k First) (ahead (now (body .entry)) w)) ⌝ }
+// A hash with what is ahead of a walk mixed in, in a view.
+fn mix_ahead(body: &[u8], w: Walk, work: &[u32], k: usize, view: View, h: u32) -> u32
+    ensures { λ r. ⌜ r ≡ mixedSegments h (map (viewed (now (work .entry)) k view) (ahead (now (body .entry)) w)) ⌝ }
 {
     let mut x = w;
     let mut y = h;
     loop {
-        let s = compare::head(x, body, work, k, View::First);
+        let s = compare::head(x, body, work, k, view);
         if s.kind == 0 {
             return y;
         }
@@ -74,5 +76,67 @@ pub fn record_hash(file: &[u8], work: &[u32], k: usize, o: usize) -> u32
 {
     let w = compare::walk_of(file, o);
     let h = mix_bytes(0, field::part_of(file, o, 2));
-    mix_ahead(compare::body_of(file, o), w, work, k, h)
+    mix_ahead(compare::body_of(file, o), w, work, k, View::First, h)
+}
+
+// The hash of a type's mark: the byte T, which is 84, and a second one.
+fn mark_hash(letter: u8) -> u32
+    ensures { λ r. ⌜ r ≡ mixed (mixed 0 84) letter ⌝ }
+{
+    let h = mix(0, 84);
+    mix(h, wide(letter))
+}
+
+// The hash of a type's mark and of the kind and the number of its only segment.
+fn sole_hash(letter: u8, kind: u32, number: u32) -> u32
+    ensures { λ r. ⌜ r ≡ mixed (mixed (mixed (mixed 0 84) letter) kind) number ⌝ }
+{
+    let h = mark_hash(letter);
+    let x = mix(h, kind);
+    mix(x, number)
+}
+
+// The hash of a type of this mark that has no fields.
+pub fn bare_hash(letter: u8) -> u32
+    ensures { λ r. ⌜ r ≡ typeHash letter (plain [] ∷ []) ⌝ }
+{
+    sole_hash(letter, 1, 0)
+}
+
+// The hash of a type of this mark over the type with number n.
+pub fn part_hash(letter: u8, n: u32) -> u32
+    ensures { λ r. ⌜ r ≡ typeHash letter (typeRef n ∷ []) ⌝ }
+{
+    sole_hash(letter, 2, n)
+}
+
+// The hash of a type of this mark with a code.
+pub fn code_hash(letter: u8, code: u8) -> u32
+    ensures { λ r. ⌜ r ≡ typeHash letter (plain (code ∷ []) ∷ []) ⌝ }
+{
+    let h = sole_hash(letter, 1, 0);
+    mix(h, wide(code))
+}
+
+// The hash of a type of this mark with a number of four bytes.
+pub fn number_hash(letter: u8, n: u32) -> u32
+    ensures { λ r. ⌜ r ≡ typeHash letter (plain (lowBytes 4 n) ∷ []) ⌝ }
+{
+    let a = n / 256;
+    let b = a / 256;
+    let c = b / 256;
+    let w = sole_hash(letter, 1, 0);
+    let x = mix(w, n % 256);
+    let y = mix(x, a % 256);
+    let z = mix(y, b % 256);
+    mix(z, c % 256)
+}
+
+// The hash of the type of the record term at an offset.
+pub fn listed_hash(file: &[u8], work: &[u32], k: usize, o: usize) -> u32
+    ensures { λ r. ⌜ r ≡ typeHash 82 (map (viewed (now (work .entry)) k Listed) (segmentsAt (now (file .entry)) o)) ⌝ }
+{
+    let w = compare::walk_of(file, o);
+    let h = mark_hash(b'R');
+    mix_ahead(compare::body_of(file, o), w, work, k, View::Listed, h)
 }

@@ -4,7 +4,6 @@
 use Prim.Native.Nat.{ℕ, zero, suc, _≤_, _<_, zero-le, suc-le-suc}
 use native.Mathlib.Nat.{le-of-suc-le-suc, not-suc-le-zero}
 use native.Mathlib.Omega.{arith}
-use native.Mathlib.Decide.{ℕ-discrete}
 use mathlib.Core.Path.{_≡_, refl, sym, ap, _∙_, subst}
 use mathlib.Core.Bool.{Bool, true, false}
 use mathlib.Core.List.{List, [], _∷_}
@@ -96,17 +95,6 @@ module _ {A : Type 0} {eq : A → A → Bool} (E : Equality eq) (d : A) (xs : Li
         names = λ n h. let t = found (eq (getD xs n d)) d xs n h (E .reflexive _) in rw (t .is) (sym (E .sound _ _ (t .passes)));
         equal = λ m n e. ap (first eq xs) e;
       }
-
-  -- an element that equals no earlier one is its own first
-  pub place-least : (n : ℕ) → n < length xs → (x : A) → x ≡ getD xs n d → ((k : ℕ) → k < n → x ≡ getD xs k d → ⊥) → place (eq x) xs ≡ some n
-  place-least n h x e none-before = go (ℕ-discrete (t .n) n)
-    where
-      t : Found (eq x) d xs n
-      t = found (eq x) d xs n h (passes-equal x (getD xs n d) e)
-
-      go : Dec (t .n ≡ n) → place (eq x) xs ≡ some n
-      go (yes q) = t .is ∙ ap some q
-      go (no q) = absurd (none-before (t .n) (omega (arith, t .le, q)) (E .sound _ _ (t .passes)))
 
 pub equal-types : Equality eqTy
 equal-types = record { sound = eqTy-eq; reflexive = eqTy-refl }

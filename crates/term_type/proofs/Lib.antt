@@ -2,4 +2,6 @@ pub mod Letters
 pub mod Numbers
 pub mod Read
 pub mod Same
+pub mod Hashes
+pub mod Probing
 pub mod Search

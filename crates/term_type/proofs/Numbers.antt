@@ -43,11 +43,12 @@ fromNumber l n =
       ]
     ]
 
-none : (ns : List ℕ) → length ns ≡ 0 → [] ≡ ns
+-- no parts, and one
+pub none : (ns : List ℕ) → length ns ≡ 0 → [] ≡ ns
 none [] h = refl
 none (n ∷ ns) h = absurd (omega arith)
 
-one : (ns : List ℕ) → length ns ≡ 1 → getD ns 0 0 ∷ [] ≡ ns
+pub one : (ns : List ℕ) → length ns ≡ 1 → getD ns 0 0 ∷ [] ≡ ns
 one [] h = absurd (omega arith)
 one (n ∷ []) h = refl
 one (n ∷ m ∷ ns) h = absurd (omega arith)

@@ -6,7 +6,7 @@ use Prim.Native.Nat.{ℕ, _+_, _-_, _^_}
 use native.Mathlib.Omega.{arith}
 use mathlib.Core.List.{List, [], _∷_, map}
 use mathlib.Core.Option.{some}
-use lib.Dec.{eqb, ltb}
+use lib.Dec.{ltb}
 use lib.ListN.{length, getD, drop, List·getD-eq-default}
 use Rattle.script_spec.specs.Base.{Bytes, bytes}
 use Rattle.script_spec.specs.Tree.{TypeMark, Bool·, String·, Option·, Set·, BitVec·, Declared, entity, extension, recordOf, ExtType, Value, V4, V6, DecimalV, DatetimeV, DurationV, extTypeOf}
@@ -102,9 +102,9 @@ module _ (file : Bytes) (o : ℕ) {body : Bytes} (is : body ≡ bodyAt file o) w
   width-first e = e ∙ ap (λ (b : Bytes). numberAt b 0) is
 
 -- the code of a value's type is one less than its own, or 0
-pub code-of-value : (file : Bytes) (p o : ℕ) {c d e : ℕ} → c ≡ codeAt file o → d ≡ codeAt file p → e ≡ c - 1 → eqb d e ≡ eqb (codeAt file p) (valueCode file o)
+pub code-of-value : (file : Bytes) (o : ℕ) {c d : ℕ} → c ≡ codeAt file o → d ≡ c - 1 → d ≡ valueCode file o
 unfolding valueCode
-code-of-value file p o is is′ q = rw (q, is, is′)
+code-of-value file o is q = rw (q, is)
 
 -- ---- segments, with types listed
 

@@ -44,7 +44,7 @@ mark-of e = cc
 parts-of : {t u : TypeMark} {rs ss : List ℕ} → type t rs ≡ type u ss → rs ≡ ss
 parts-of e = cc
 
-type-value : {a b : Ty} → record-file.type a ≡ record-file.type b → a ≡ b
+pub type-value : {a b : Ty} → record-file.type a ≡ record-file.type b → a ≡ b
 type-value e = cc
 
 module _ {file : Bytes} {f : TermFile} {work : List ℕ} {k : ℕ} (I : Index file f work k) where
@@ -65,25 +65,25 @@ module _ {file : Bytes} {f : TermFile} {work : List ℕ} {k : ℕ} (I : Index fi
 -- ---- what is sought
 
 module _ {file : Bytes} {work : List ℕ} {k o : ℕ} {f : TermFile} {t : TypeMark} {ps : List ℕ} (S : Seeks file work k o f t ps) where
-  seeks-below : Below (length (types f)) ps
+  pub seeks-below : Below (length (types f)) ps
   unfolding parts InRange earlier
   seeks-below =
       subst (λ (b : TypeBy). Below (length (types f)) (parts b)) (S .by)
       (parts-below f (cell work k termType) (λ n h. S .index .term-row n h .type-below) (S .mark) (S .refs) (S .in-range .0) (S .in-range .1))
 
-  seeks-lettered : Lettered (S .mark) t
+  pub seeks-lettered : Lettered (S .mark) t
   seeks-lettered = over (λ u rs. Lettered (S .mark) u) (S .by) (lettered (cell work k termType) (S .mark) (S .refs))
 
   -- by the letter of the term's mark
-  sought-letter : {l mark : ℕ} → l ≡ getD (markAt file o) 1 0 → mark ≡ typeLetter l → letterOf t ≡ mark
+  pub sought-letter : {l mark : ℕ} → l ≡ getD (markAt file o) 1 0 → mark ≡ typeLetter l → letterOf t ≡ mark
   sought-letter is want = sym (seeks-lettered .letter) ∙ sym (ap typeLetter (term-letter file o is (S .reads))) ∙ sym want
 
-  seeks-sized : Sized t (length ps)
+  pub seeks-sized : Sized t (length ps)
   unfolding SizedEntry
   seeks-sized = over (λ u rs. Sized u (length rs)) (S .by) (entry-sized file o (S .reads) (cell work k termType))
 
   -- the types of the children are first of their kind
-  seeks-settled : map (cell work k typeFirst) (map (cell work k termType) (S .refs)) ≡ map (cell work k termType) (S .refs)
+  pub seeks-settled : map (cell work k typeFirst) (map (cell work k termType) (S .refs)) ≡ map (cell work k termType) (S .refs)
   unfolding InRange earlier
   seeks-settled =
       map-map (cell work k typeFirst) (cell work k termType) (S .refs)
@@ -103,13 +103,13 @@ record-type (Declared (extension x)) h = absurd (omega arith)
 record-type (Declared (recordOf names)) h = (names, refl)
 
 -- a record of these names, with the types of its attributes
-record RecordTerm (τ : ℕ → ℕ) (m : TermMark ℕ ℕ) (rs : List ℕ) (t : TypeMark) (ps : List ℕ) : Type 0 where
-  names : List Bytes
-  mark : m ≡ Record names
-  type-mark : t ≡ Declared (recordOf names)
-  parts-are : ps ≡ map τ rs
+pub record RecordTerm (τ : ℕ → ℕ) (m : TermMark ℕ ℕ) (rs : List ℕ) (t : TypeMark) (ps : List ℕ) : Type 0 where
+  pub names : List Bytes
+  pub mark : m ≡ Record names
+  pub type-mark : t ≡ Declared (recordOf names)
+  pub parts-are : ps ≡ map τ rs
 
-record-term : (τ : ℕ → ℕ) (m : TermMark ℕ ℕ) (rs : List ℕ) → Over (λ t ps. letterOf t ≡ 82 → RecordTerm τ m rs t ps) (typeBy τ m rs)
+pub record-term : (τ : ℕ → ℕ) (m : TermMark ℕ ℕ) (rs : List ℕ) → Over (λ t ps. letterOf t ≡ 82 → RecordTerm τ m rs t ps) (typeBy τ m rs)
 unfolding Over typeBy typeBytes datatypeBytes Computes.base
 record-term τ (Var id n) rs = tt
 record-term τ (BoolLit b) rs = λ h. absurd (omega arith)
@@ -128,7 +128,7 @@ names-of e = cc
 
 -- ---- the test
 
-decides-same : {P Q : Type 0} {r : Bool} → Same P Q → Decides r Q → Decides r P
+pub decides-same : {P Q : Type 0} {r : Bool} → Same P Q → Decides r Q → Decides r P
 decides-same s d = record { true-of = λ p. d .true-of (s .to p); of-true = λ h. s .from (d .of-true h) }
 
 module _ {file : Bytes} {work : List ℕ} {k p o l l′ mark : ℕ} (is : l ≡ getD (markAt file o) 1 0) (want : mark ≡ typeLetter l) (is′ : l′ ≡ getD (markAt file p) 1 0) where

@@ -1,1 +1,2 @@
 pub mod Sought
+pub mod Probed

@@ -19,10 +19,11 @@ use Rattle.index.specs.Meaning.{Index}
 use Rattle.entry.specs.Places.{numberAt}
 use Rattle.compare.specs.View.{Decides, viewed, numbers, segmentsAt}
 use Rattle.compare.specs.declared.View.the-variants.{Listed}
+use Rattle.slots.specs.Slots.{Slots}
 
 -- r is the number of the first type that is equal to the type of the term at an offset, or `count` where it is not listed
 pub record TypeSought (file : Bytes) (work : List ℕ) (k count o r : ℕ) : Type 0 where
-  pub go : (f : TermFile) → Index file f work k → count ≡ length (types f) → (m : TermMark ℕ ℕ) (rs : List ℕ) → entryAt file o ≡ some (term m rs) → InRange (earlier f) (term m rs)
+  pub go : (f : TermFile) → Index file f work k → Slots file f work k → count ≡ length (types f) → (m : TermMark ℕ ℕ) (rs : List ℕ) → entryAt file o ≡ some (term m rs) → InRange (earlier f) (term m rs)
       → r ≡ orElse count (place (eqTy (typeNamed f (typeBy (cell work k termType) m rs))) (types f))
 
 -- ---- fields of records
@@ -55,7 +56,7 @@ valueCode file o = codeAt file o - 1
 unfoldable pub partAt : Bytes → List ℕ → ℕ → ℕ → ℕ
 partAt file work k o = getD (numbers 2 (map (viewed work k Listed) (segmentsAt file o))) 0 0
 
--- ---- the search
+-- ---- what is sought
 
 -- a term stands at an offset whose type is to be listed, by this mark and these parts
 pub record Seeks (file : Bytes) (work : List ℕ) (k o : ℕ) (f : TermFile) (t : TypeMark) (parts : List ℕ) : Type 0 where
@@ -70,7 +71,3 @@ pub record Seeks (file : Bytes) (work : List ℕ) (k o : ℕ) (f : TermFile) (t 
 pub record SameType (file : Bytes) (work : List ℕ) (k p o : ℕ) (r : Bool) : Type 0 where
   pub go : (f : TermFile) (t : TypeMark) (parts : List ℕ) → Seeks file work k o f t parts → (u : TypeMark) (rs : List ℕ) → entryAt file p ≡ some (type u rs) → Below (length (types f)) rs
       → Decides r (typeNamed f (listed u rs) ≡ typeNamed f (listed t parts))
-
--- r is the number of the first type that is that of the term at an offset, or `count`
-pub record ListedSought (file : Bytes) (work : List ℕ) (k count o r : ℕ) : Type 0 where
-  pub go : (f : TermFile) (t : TypeMark) (parts : List ℕ) → Seeks file work k o f t parts → count ≡ length (types f) → r ≡ orElse count (place (eqTy (typeNamed f (listed t parts))) (types f))

@@ -1,9 +1,10 @@
-// The type of a term among the types that are listed before it.
+// The type of a term among the types that are listed before it, by the slots of the hash table.
 use record_rules::record::body_at;
 use record_rules::record::letter;
 ghost use mathlib.Core.Path.{_≡_};
 ghost use lib.Dec.{eqb};
-ghost use Rattle.term_type.specs.Sought.{refers, typeLetter, widthAt, codeAt, valueCode, partAt, TypeSought, SameType, ListedSought};
+ghost use Rattle.term_type.specs.Sought.{refers, typeLetter, widthAt, codeAt, valueCode, partAt, TypeSought, SameType};
+ghost use Rattle.term_type.specs.Probed.{TypeHash, TypeHome, Holds, Probes, ListedSought};
 
 // Whether a term refers to its type, by the second byte of its mark: a variable, an entity or an application.
 fn refers(mark: u8) -> bool
@@ -38,22 +39,36 @@ fn code_at(file: &[u8], o: usize) -> u8
     body[0]
 }
 
+// The code of the type of the extension value at an offset.
+fn value_code(file: &[u8], o: usize) -> u8
+    ensures { λ r. ⌜ r ≡ valueCode (now (file .entry)) o ⌝ }
+{
+    let code = code_at(file, o);
+    if 0 < code {
+        return code - 1;
+    }
+    0
+}
+
+// The width of the bit-vector type or value at an offset.
+fn width_at(file: &[u8], o: usize) -> u32
+    ensures { λ r. ⌜ r ≡ widthAt (now (file .entry)) o ⌝ }
+{
+    entry::number_at(body_at(file, o), 0)
+}
+
 // Whether an extension type at an offset p is that of a value at an offset o.
 fn same_code(file: &[u8], p: usize, o: usize) -> bool
     ensures { λ r. ⌜ r ≡ eqb (codeAt (now (file .entry)) p) (valueCode (now (file .entry)) o) ⌝ }
 {
-    let code = code_at(file, o);
-    if code == 0 {
-        return code_at(file, p) == 0;
-    }
-    code_at(file, p) == code - 1
+    code_at(file, p) == value_code(file, o)
 }
 
 // Whether a bit-vector type at an offset p has the width of a value at an offset o.
 fn same_width(file: &[u8], p: usize, o: usize) -> bool
     ensures { λ r. ⌜ r ≡ eqb (widthAt (now (file .entry)) p) (widthAt (now (file .entry)) o) ⌝ }
 {
-    entry::number_at(body_at(file, p), 0) == entry::number_at(body_at(file, o), 0)
+    width_at(file, p) == width_at(file, o)
 }
 
 // Whether an option or a set type at an offset p is over the type that the term at an offset o first refers to.
@@ -80,19 +95,70 @@ fn same_type(file: &[u8], work: &[u32], k: usize, p: usize, o: usize) -> bool
     }
 }
 
+// The hash of the type of the term at an offset, which does not refer to it.
+fn type_hash(file: &[u8], work: &[u32], k: usize, o: usize) -> u32
+    ensures { λ r. ⌜ TypeHash (now (file .entry)) (now (work .entry)) k o r ⌝ }
+{
+    let mark = type_letter(letter(file, o));
+    match mark {
+        b'R' => hash::listed_hash(file, work, k, o),
+        b'X' => hash::code_hash(mark, value_code(file, o)),
+        b'V' => hash::number_hash(mark, width_at(file, o)),
+        b'O' | b'C' => hash::part_hash(mark, compare::first_reference(file, work, k, o)),
+        _ => hash::bare_hash(mark),
+    }
+}
+
+// The slot from which the type of the term at an offset is looked for.
+fn home(file: &[u8], work: &[u32], k: usize, o: usize) -> usize
+    ensures { λ r. ⌜ TypeHome (now (file .entry)) (now (work .entry)) k o r ⌝ }
+{
+    if k == 0 {
+        return 0;
+    }
+    let h = type_hash(file, work, k, o) as usize;
+    h % k
+}
+
+// Whether a slot that holds v has a type that is that of the term at an offset.
+fn holds(file: &[u8], work: &[u32], k: usize, types: u32, o: usize, v: u32) -> bool
+    ensures { λ r. ⌜ Holds (now (file .entry)) (now (work .entry)) k types o v r ⌝ }
+{
+    let n = slots::number_of(v);
+    if types <= n {
+        return false;
+    }
+    if 3 * (n as u64) + 1 != v as u64 {
+        return false;
+    }
+    let p = index::get(work, k, index::TYPE_OFFSET, n as usize);
+    same_type(file, work, k, p as usize, o)
+}
+
+// What `find` answers, from the slot b on.
+fn probe(file: &[u8], work: &[u32], k: usize, types: u32, o: usize, b: usize) -> u32
+    ensures { λ r. ⌜ Probes (now (file .entry)) (now (work .entry)) k types o b r ⌝ }
+{
+    let mut d = 0;
+    while d < k {
+        let v = index::get(work, k, index::HASH, slots::slot(k, b, d));
+        if v == 0 {
+            return types;
+        }
+        if holds(file, work, k, types, o, v) {
+            return index::get(work, k, index::TYPE_FIRST, slots::number_of(v) as usize);
+        }
+        d += 1;
+    }
+    types
+}
+
 // The number of the first type that is that of the term at an offset, which does not refer to it, or `types`.
 fn find(file: &[u8], work: &[u32], k: usize, types: u32, o: usize) -> u32
     ensures { λ r. ⌜ ListedSought (now (file .entry)) (now (work .entry)) k types o r ⌝ }
 {
-    let mut i = 0;
-    while i < types {
-        let p = index::get(work, k, index::TYPE_OFFSET, i as usize);
-        if same_type(file, work, k, p as usize, o) {
-            return i;
-        }
-        i += 1;
-    }
-    types
+    let b = home(file, work, k, o);
+    probe(file, work, k, types, o, b)
 }
 
 // The number of the first type that is equal to the type of the term at an offset, of `types` that are listed, or `types`.

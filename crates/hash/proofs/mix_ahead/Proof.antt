@@ -6,7 +6,6 @@ use mathlib.Core.List.{map}
 use lib.ListN.{length}
 use Rattle.segments.specs.Machine.{ahead}
 use Rattle.compare.specs.View.{viewed}
-use Rattle.compare.specs.declared.View.the-variants.{First}
 use Rattle.hash.specs.Hash.{mixedSegments}
 use Rattle.hash.proofs.Mixed.{segments-end, segments-next}
 use borrow.Author.Needs.{needs}
@@ -14,10 +13,10 @@ use Rattle.hash.proofs.mix_ahead.Statement.{statement}
 use Rattle.hash.proofs.mix_ahead.Tie as tie
 
 abbrev Inv-loop : tie.InvT-loop
-Inv-loop body work k h x₀ y₀ x y = mixedSegments y (map (viewed work k First) (ahead body x)) ≡ mixedSegments h (map (viewed work k First) (ahead body x₀))
+Inv-loop body work k view h x₀ y₀ x y = mixedSegments y (map (viewed work k view) (ahead body x)) ≡ mixedSegments h (map (viewed work k view) (ahead body x₀))
 
 abbrev μ-loop : tie.MeasureT-loop
-μ-loop body work k h x₀ y₀ x y = length (ahead body x)
+μ-loop body work k view h x₀ y₀ x y = length (ahead body x)
 
 loop-holds : tie.Need-loop-holds Inv-loop μ-loop
 loop-holds c = refl

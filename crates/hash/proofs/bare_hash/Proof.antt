@@ -1,0 +1,14 @@
+-- One segment of no bytes.
+-- Assumes nothing.
+use Rattle.compare.specs.View.{kindOf, numberOf, bytesOf}
+use Rattle.hash.specs.Hash.{mixedBytes, mixedSegments, hashed, typeHash}
+use borrow.Author.Needs.{needs}
+use Rattle.hash.proofs.bare_hash.Statement.{statement}
+use Rattle.hash.proofs.bare_hash.Tie as tie
+
+returns : tie.Need-returns
+unfolding typeHash hashed mixedSegments mixedBytes kindOf numberOf bytesOf
+returns c = c.sole-hash.ensures
+
+pub bare-hash-spec : {M : Type 1} → statement M
+bare-hash-spec = tie.close (tie.spec (λ c κs. search needs) returns)

@@ -1,0 +1,15 @@
+-- One segment of one byte.
+-- Assumes nothing.
+use Rattle.compare.specs.View.{kindOf, numberOf, bytesOf}
+use Rattle.hash.specs.Hash.{mixedBytes, mixedSegments, hashed, typeHash}
+use Rattle.hash.proofs.Mixed.{then-mixed}
+use borrow.Author.Needs.{needs}
+use Rattle.hash.proofs.code_hash.Statement.{statement}
+use Rattle.hash.proofs.code_hash.Tie as tie
+
+returns : tie.Need-returns
+unfolding typeHash hashed mixedSegments mixedBytes kindOf numberOf bytesOf
+returns c = then-mixed c.before.before.sole-hash.ensures c.before.wide.ensures c.mix.ensures
+
+pub code-hash-spec : {M : Type 1} → statement M
+code-hash-spec = tie.close (tie.spec (λ c κs. search needs) (λ c κs. search needs) (λ c κs. search needs) returns)

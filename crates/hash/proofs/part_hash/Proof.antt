@@ -1,0 +1,14 @@
+-- One segment, a reference.
+-- Assumes nothing.
+use Rattle.compare.specs.View.{kindOf, numberOf, bytesOf}
+use Rattle.hash.specs.Hash.{mixedBytes, mixedSegments, hashed, typeHash}
+use borrow.Author.Needs.{needs}
+use Rattle.hash.proofs.part_hash.Statement.{statement}
+use Rattle.hash.proofs.part_hash.Tie as tie
+
+returns : tie.Need-returns
+unfolding typeHash hashed mixedSegments mixedBytes kindOf numberOf bytesOf
+returns c = c.sole-hash.ensures
+
+pub part-hash-spec : {M : Type 1} → statement M
+part-hash-spec = tie.close (tie.spec (λ c κs. search needs) returns)
