@@ -71,6 +71,24 @@ fn a_long_script_gets_the_room_that_it_needs() {
     assert_eq!(encode_lent(&file, work_entries(&file), script.len()), Ok(script));
 }
 
+/// The 64-bit FNV-1a hash of some bytes.
+fn fnv(bytes: &[u8]) -> u64 {
+    bytes.iter().fold(0xcbf2_9ce4_8422_2325, |h, &b| (h ^ u64::from(b)).wrapping_mul(0x0100_0000_01b3))
+}
+
+#[test]
+fn the_large_vectors_are_accepted_and_the_plants_script_is_the_rusts() {
+    let plant = fs::read(path("bench/data/plant-11000.term")).unwrap();
+    assert_eq!(check(&plant), Ok(()));
+    let script = encode(&plant).unwrap();
+    // The length and the hash of the script that the Rust wrote.
+    assert_eq!((script.len(), fnv(&script)), (545_862, 0x27da_4e6f_9f0f_fdfd));
+    // The Rust did not finish this one.
+    let shared = fs::read(path("bench/data/shared-1000.term")).unwrap();
+    assert_eq!(check(&shared), Ok(()));
+    assert!(encode(&shared).is_ok());
+}
+
 #[test]
 fn check_refuses_first() {
     for case in cases().iter().filter(|c| c.answer.is_err()) {

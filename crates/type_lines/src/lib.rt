@@ -4,8 +4,8 @@ use spell::records;
 use spell::sorts;
 ghost use Rattle.type_lines.specs.Lines.{SpellsRecordLines, SpellsEnumLines, SpellsEntityLines, SpellsType};
 
-// Writes the lines of a record type with n attributes, whose name `name` stands for.
-fn put_record_lines(
+// Declares a record type with n attributes, whose name `name` stands for.
+fn declare_record_type(
     file: &[u8],
     work: &[u32],
     k: usize,
@@ -23,8 +23,8 @@ fn put_record_lines(
     records::put_record_declaration(file, work, k, out, a, limit, body, name, n)
 }
 
-// Writes the lines of the entity type `text`, whose members are those of the enum with number i.
-fn put_enum_lines(
+// Declares the entity type `text`, whose members are those of the enum with number i.
+fn declare_enum_type(
     file: &[u8],
     work: &[u32],
     k: usize,
@@ -45,8 +45,8 @@ fn put_enum_lines(
     datatype::put_enum_declaration(out, a, limit, name, e.members)
 }
 
-// Writes the lines of the entity type `text`, which is an enum if one of the `many` enums has its name.
-fn put_entity_lines(
+// Declares the entity type `text`, which is an enum if one of the `many` enums has its name.
+fn declare_entity_type(
     file: &[u8],
     work: &[u32],
     k: usize,
@@ -62,7 +62,7 @@ fn put_entity_lines(
 {
     let i = enum_table::find(file, work, k, many, text);
     if i < many {
-        return put_enum_lines(file, work, k, out, at, limit, text, name, i);
+        return declare_enum_type(file, work, k, out, at, limit, text, name, i);
     }
     let a = datatype::comments::put_entity_comment(out, at, limit, text);
     datatype::put_entity_declaration(out, a, limit, name)
@@ -88,10 +88,10 @@ pub fn put_type_lines(
     match sorts::type_at(file, work, k, t) {
         TypeEntry::Entity(span) => {
             let text = field::part_of(body, span.start, span.len);
-            put_entity_lines(file, work, k, many, out, at, limit, text, name)
+            declare_entity_type(file, work, k, many, out, at, limit, text, name)
         }
         TypeEntry::Ext(x) => datatype::put_ext_declaration(out, at, limit, x),
-        TypeEntry::Record(n) => put_record_lines(file, work, k, out, at, limit, body, name, n),
+        TypeEntry::Record(n) => declare_record_type(file, work, k, out, at, limit, body, name, n),
         _ => at,
     }
 }

@@ -7,13 +7,13 @@ use Rattle.type_lines.proofs.put_type_lines.Statement.{statement}
 use Rattle.type_lines.proofs.put_type_lines.Tie as tie
 
 returns : tie.Need-returns
-returns c = spells-entity c.before.before.before.before.before.before.before.before.type-at.ensures c.before.before.before.before.before.before.span.given.1 c.before.before.before.before.before.before.before.before.before.before.body-at.ensures (c.before.before.before.before.before.before.before.before.before.before.before.get.ensures ∙ (rw (c.before.before.before.before.before.before.before.before.before.before.before.before.wide.ensures .0))) c.before.before.before.before.part-of.ensures c.before.before.before.before.before.before.before.before.before.type-name.ensures c.before.before.put-entity-lines.ensures
+returns c = spells-entity c.before.before.before.before.before.before.before.before.type-at.ensures c.before.before.before.before.before.before.span.given.1 c.before.before.before.before.before.before.before.before.before.before.body-at.ensures (c.before.before.before.before.before.before.before.before.before.before.before.get.ensures ∙ (rw (c.before.before.before.before.before.before.before.before.before.before.before.before.wide.ensures .0))) c.before.before.before.before.part-of.ensures c.before.before.before.before.before.before.before.before.before.type-name.ensures c.before.before.declare-entity-type.ensures
 
 returns-2 : tie.Need-returns-2
 returns-2 c = spells-ext c.before.before.before.before.before.before.before.type-at.ensures c.before.before.before.before.before.x.given.1 c.before.before.put-ext-declaration.ensures
 
 returns-3 : tie.Need-returns-3
-returns-3 c = spells-record-type c.before.before.before.before.before.before.before.type-at.ensures c.before.before.before.before.before.n.given.1 c.before.before.before.before.before.before.before.before.before.body-at.ensures (c.before.before.before.before.before.before.before.before.before.before.get.ensures ∙ (rw (c.before.before.before.before.before.before.before.before.before.before.before.wide.ensures .0))) c.before.before.before.before.before.before.before.before.type-name.ensures c.before.before.put-record-lines.ensures
+returns-3 c = spells-record-type c.before.before.before.before.before.before.before.type-at.ensures c.before.before.before.before.before.n.given.1 c.before.before.before.before.before.before.before.before.before.body-at.ensures (c.before.before.before.before.before.before.before.before.before.before.get.ensures ∙ (rw (c.before.before.before.before.before.before.before.before.before.before.before.wide.ensures .0))) c.before.before.before.before.before.before.before.before.type-name.ensures c.before.before.declare-record-type.ensures
 
 returns-4 : tie.Need-returns-4
 returns-4 c = spells-none c.before.type-at.ensures c.match.keys4

@@ -1,18 +1,18 @@
--- `type_lines::put_entity_lines` meets its contract, by whether an enum was found.
+-- `type_lines::declare_entity_type` meets its contract, by whether an enum was found.
 -- Assumes nothing.
 use Rattle.type_lines.proofs.LineLaws.{entity-found, entity-plain}
 use borrow.Author.Needs.{needs}
-use Rattle.type_lines.proofs.put_entity_lines.Statement.{statement}
-use Rattle.type_lines.proofs.put_entity_lines.Tie as tie
+use Rattle.type_lines.proofs.declare_entity_type.Statement.{statement}
+use Rattle.type_lines.proofs.declare_entity_type.Tie as tie
 
 returns : tie.Need-returns
-returns c = entity-found c.before.before.before.before.before.find.ensures c.before.before.before.before.if1.taken c.before.before.put-enum-lines.ensures
+returns c = entity-found c.before.before.before.before.before.find.ensures c.before.before.before.before.if1.taken c.before.before.declare-enum-type.ensures
 
 returns-2 : tie.Need-returns-2
 returns-2 c = entity-plain c.before.before.before.before.before.before.before.before.before.find.ensures c.before.before.before.before.before.before.before.before.if1.left c.before.before.before.before.before.before.put-entity-comment.ensures c.before.before.put-entity-declaration.ensures
 
-pub put-entity-lines-spec : {M : Type 1} → statement M
-put-entity-lines-spec =
+pub declare-entity-type-spec : {M : Type 1} → statement M
+declare-entity-type-spec =
     tie.close
     (tie.spec (λ c κs. search needs) (λ c κs. search needs) (λ c. search needs)
     returns (λ c κs. search needs) (λ c κs. search needs) (λ c. search needs)

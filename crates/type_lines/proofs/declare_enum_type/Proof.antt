@@ -1,16 +1,16 @@
--- `type_lines::put_enum_lines` meets its contract.
+-- `type_lines::declare_enum_type` meets its contract.
 -- Assumes nothing.
 use mathlib.Core.Path.{_∙_}
 use Rattle.type_lines.proofs.LineLaws.{enum-lines}
 use borrow.Author.Needs.{needs}
-use Rattle.type_lines.proofs.put_enum_lines.Statement.{statement}
-use Rattle.type_lines.proofs.put_enum_lines.Tie as tie
+use Rattle.type_lines.proofs.declare_enum_type.Statement.{statement}
+use Rattle.type_lines.proofs.declare_enum_type.Tie as tie
 
 returns : tie.Need-returns
 returns c = enum-lines (c.before.before.before.before.before.before.before.before.before.before.get.ensures ∙ (rw (c.before.before.before.before.before.before.before.before.before.before.before.wide.ensures .0))) c.before.before.before.before.before.before.before.before.before.enum-at.ensures c.before.before.before.before.before.before.before.before.body-at.ensures c.before.before.before.before.before.before.put-enum-comment.ensures c.before.before.put-enum-declaration.ensures
 
-pub put-enum-lines-spec : {M : Type 1} → statement M
-put-enum-lines-spec =
+pub declare-enum-type-spec : {M : Type 1} → statement M
+declare-enum-type-spec =
     tie.close
     (tie.spec (λ c κs. search needs) (λ c κs. search needs) (λ c κs. search needs) (λ c κs. search needs) (λ c κs. search needs) (λ c κs. search needs) (λ c. search needs)
     returns)
