@@ -12,7 +12,8 @@ use Rattle.segments.specs.Segment.{Segment, plain, typeRef, funRef, termRef}
 use Rattle.segments.specs.Machine.{ahead}
 use Rattle.compare.specs.View.{kindOf, numberOf, bytesOf, after, Sees}
 use Rattle.compare.specs.declared.Seen.{Seen}
-use Rattle.hash.specs.Hash.{mixed, mixedBytes, mixedSegments}
+use Rattle.index.specs.Names.{mixed, mixedBytes}
+use Rattle.hash.specs.Hash.{mixedSegments}
 
 -- ---- numbers
 

@@ -1,23 +1,15 @@
 -- The hash of a record: a number below 2 ^ 32 that its mark and its segments are mixed into, one after the other.
 -- Assumes nothing.
-use Prim.Native.Nat.{ℕ, _+_, _*_, _%_}
+use Prim.Native.Nat.{ℕ}
 use mathlib.Core.List.{List, [], _∷_, map}
 use Rattle.script_spec.specs.Base.{Bytes}
 use Rattle.index.specs.Standing.{markAt}
+use Rattle.index.specs.Names.{mixed, mixedBytes}
 use Rattle.segments.specs.Segment.{Segment}
 use Rattle.compare.specs.View.{kindOf, numberOf, bytesOf, viewed, segmentsAt}
 use Rattle.compare.specs.declared.View.the-variants.{First}
 
--- a hash with a number mixed in
-unfoldable pub mixed : ℕ → ℕ → ℕ
-mixed h n = (h + n + 1) * 1540483477 % 4294967296
-
--- with some bytes
-unfoldable pub mixedBytes : ℕ → Bytes → ℕ
-mixedBytes h [] = h
-mixedBytes h (b ∷ s) = mixedBytes (mixed h b) s
-
--- with the kind, the number and the bytes of each segment
+-- a hash with the kind, the number and the bytes of each segment
 unfoldable pub mixedSegments : ℕ → List Segment → ℕ
 mixedSegments h [] = h
 mixedSegments h (x ∷ l) = mixedSegments (mixedBytes (mixed (mixed h (kindOf (x ∷ []))) (numberOf (x ∷ []))) (bytesOf (x ∷ []))) l

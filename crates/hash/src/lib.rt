@@ -8,7 +8,8 @@ ghost use Rattle.segments.specs.Machine.{ahead};
 ghost use Rattle.segments.specs.Printed.{lowBytes};
 ghost use Rattle.compare.specs.View.{viewed, segmentsAt};
 ghost use Rattle.compare.specs.declared.View.the-variants.{Listed};
-ghost use Rattle.hash.specs.Hash.{mixed, mixedBytes, mixedSegments, recordHash, typeHash};
+ghost use Rattle.index.specs.Names.{mixed, mixedBytes};
+ghost use Rattle.hash.specs.Hash.{mixedSegments, recordHash, typeHash};
 use compare::Seen;
 use compare::View;
 use segments::Walk;
@@ -29,7 +30,7 @@ fn mix(h: u32, n: u32) -> u32
 }
 
 // A hash with some bytes mixed in.
-fn mix_bytes(h: u32, s: &[u8]) -> u32
+pub fn mix_bytes(h: u32, s: &[u8]) -> u32
     ensures { λ r. ⌜ r ≡ mixedBytes h (now (s .entry)) ⌝ }
 {
     let mut x = h;

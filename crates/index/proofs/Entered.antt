@@ -1,6 +1,6 @@
 -- The index after a record of each kind is entered: its row is stored, and the index is that of the file with the record.
 -- Assumes nothing.
-use mathlib.Core.Path.{_≡_, sym, ap, _∙_, subst}
+use mathlib.Core.Path.{_≡_, refl, sym, ap, _∙_, subst}
 use Prim.Native.Nat.{ℕ, suc, _*_, _≤_, _<_}
 use native.Mathlib.Nat.{not-suc-le-zero, le-refl}
 use native.Mathlib.Omega.{arith}
@@ -13,11 +13,14 @@ use Rattle.script_spec.specs.Tree.{Ty, Fun, Tm, eqTy, eqFun, eqTm, typeOf, dept
 use Rattle.script_spec.specs.Fields.{Entry}
 use Rattle.script_spec.specs.Fields as fields
 use Rattle.script_spec.specs.File.{TermFile, Named, type, enum, func, term, input, types, funs, terms, enums, typeAt, named, earlier}
+use Rattle.index.specs.Cells.{cell, hash}
+use Rattle.index.specs.Names.{Names}
 use Rattle.index.specs.First.{orElse, firstType, InRange}
 use Rattle.index.specs.Meaning.{Stands, counted, Indexed}
 use Rattle.index.proofs.Growth.{lists-type, lists-func, lists-term, lists-enum, lists-input, type-added, fun-added, term-added, types-kept}
 use Rattle.index.proofs.Later.{more-append, in-range-more, named-kept}
 use Rattle.index.proofs.Stores.{changed-refl, TypeStored, FunStored, TermStored, EnumStored}
+use Rattle.index.proofs.Names.{Stays, names-none, names-same}
 use Rattle.index.proofs.Rows.{untouched, index-grown, depths-grown}
 
 -- any memory is the index of no records
@@ -36,6 +39,7 @@ indexed-none file work k fits =
             funs-fit = omega arith;
             terms-fit = omega arith;
             enums-fit = omega arith;
+            names = names-none work k;
           };
       depths = record { type-depth = λ n l. absurd (not-suc-le-zero l); term-depth = λ n l. absurd (not-suc-le-zero l) };
     }
@@ -94,10 +98,10 @@ module _ {file : Bytes} {f : TermFile} {o : ℕ} {r : Named} (s : Stands file f 
 -- ---- each kind
 
 module _ {file : Bytes} {f : TermFile} {work work′ : List ℕ} {k : ℕ} (I : Indexed file f work k) (room : suc (length f) ≤ k) {o : ℕ} where
-  pub indexed-type : {m d : ℕ} {t : Ty} → TypeStored k (length (types f)) o m d work work′ → Stands file f (earlier f) o (type t) → m ≡ orElse (length (types f)) (place (eqTy t) (types f)) → d ≡ depth t
+  pub indexed-type : {m d : ℕ} {t : Ty} → TypeStored k (length (types f)) o m d work work′ → Stays (cell work k hash) (cell work′ k hash) → Stands file f (earlier f) o (type t) → m ≡ orElse (length (types f)) (place (eqTy t) (types f)) → d ≡ depth t
       → Indexed file (f ++ (type t ∷ [])) work′ k
   unfolding OnlyTypes
-  indexed-type {t} S s first-is depth-is =
+  indexed-type {t} S stays s first-is depth-is =
       let U = untouched f (S .changed) (record { no-type = λ a. le-refl _; no-fun = λ a b. omega arith; no-term = λ a b. omega arith; no-enum = λ a. omega arith }) in
       let L = lists-type f t in
       let A = type-added f t in
@@ -107,17 +111,18 @@ module _ {file : Bytes} {f : TermFile} {work work′ : List ℕ} {k : ℕ} (I : 
             (λ l. record { stands = rw (S .offset-is, A .name-added) (stands-types s _ (le-refl _) tt); first = S .first-is ∙ first-is ∙ sym (A .first-added) })
             (λ l. absurd (omega (arith, ap length (L .funs-are))))
             (λ l. absurd (omega (arith, ap length (L .terms-are))))
-            (λ l. absurd (omega (arith, ap length (L .enums-are))));
+            (λ l. absurd (omega (arith, ap length (L .enums-are))))
+            (names-same stays (I .index .names) (L .enums-are));
         depths =
             depths-grown file f (type t) k U (I .depths)
             (λ l. S .depth-is ∙ depth-is ∙ ap depth (sym (A .name-added)))
             (λ l. absurd (omega (arith, ap length (L .terms-are))));
       }
 
-  pub indexed-func : {m : ℕ} {g : Fun} → FunStored k (length (funs f)) o m work work′ → Stands file f (earlier f) o (func g) → m ≡ orElse (length (funs f)) (place (eqFun g) (funs f))
+  pub indexed-func : {m : ℕ} {g : Fun} → FunStored k (length (funs f)) o m work work′ → Stays (cell work k hash) (cell work′ k hash) → Stands file f (earlier f) o (func g) → m ≡ orElse (length (funs f)) (place (eqFun g) (funs f))
       → Indexed file (f ++ (func g ∷ [])) work′ k
   unfolding OnlyTypes earlier
-  indexed-func {g} S s first-is =
+  indexed-func {g} S stays s first-is =
       let U = untouched f (S .changed) (record { no-type = λ a. omega arith; no-fun = λ a b. le-refl _; no-term = λ a b. omega arith; no-enum = λ a. omega arith }) in
       let L = lists-func f g in
       let A = fun-added f g in
@@ -127,17 +132,18 @@ module _ {file : Bytes} {f : TermFile} {work work′ : List ℕ} {k : ℕ} (I : 
             (λ l. absurd (omega (arith, ap length (L .types-are))))
             (λ l. record { stands = rw (S .offset-is, A .name-added) (stands-types s _ (more-append f (func g) .types-more) tt); first = S .first-is ∙ first-is ∙ sym (A .first-added) })
             (λ l. absurd (omega (arith, ap length (L .terms-are))))
-            (λ l. absurd (omega (arith, ap length (L .enums-are))));
+            (λ l. absurd (omega (arith, ap length (L .enums-are))))
+            (names-same stays (I .index .names) (L .enums-are));
         depths =
             depths-grown file f (func g) k U (I .depths)
             (λ l. absurd (omega (arith, ap length (L .types-are))))
             (λ l. absurd (omega (arith, ap length (L .terms-are))));
       }
 
-  pub indexed-term : {m τ d : ℕ} {t : Tm} → TermStored k (length (terms f)) o m τ d work work′ → Stands file f (earlier f) o (term t) → m ≡ orElse (length (terms f)) (place (eqTm t) (terms f))
+  pub indexed-term : {m τ d : ℕ} {t : Tm} → TermStored k (length (terms f)) o m τ d work work′ → Stays (cell work k hash) (cell work′ k hash) → Stands file f (earlier f) o (term t) → m ≡ orElse (length (terms f)) (place (eqTm t) (terms f))
       → τ < length (types f) → typeAt f τ ≡ typeOf t → firstType f τ ≡ τ → d ≡ depth t → Indexed file (f ++ (term t ∷ [])) work′ k
   unfolding earlier
-  indexed-term {τ} {t} S s first-is below type-is type-first depth-is =
+  indexed-term {τ} {t} S stays s first-is below type-is type-first depth-is =
       let U = untouched f (S .changed) (record { no-type = λ a. omega arith; no-fun = λ a b. omega arith; no-term = λ a b. le-refl _; no-enum = λ a. omega arith }) in
       let L = lists-term f t in
       let A = term-added f t in
@@ -154,15 +160,16 @@ module _ {file : Bytes} {f : TermFile} {work work′ : List ℕ} {k : ℕ} (I : 
               type-is = rw (S .type-is, A .name-added) (K .name-kept τ below ∙ type-is);
               type-first = rw (S .type-is) (K .first-kept τ below ∙ type-first);
             })
-            (λ l. absurd (omega (arith, ap length (L .enums-are))));
+            (λ l. absurd (omega (arith, ap length (L .enums-are))))
+            (names-same stays (I .index .names) (L .enums-are));
         depths =
             depths-grown file f (term t) k U (I .depths)
             (λ l. absurd (omega (arith, ap length (L .types-are))))
             (λ l. S .depth-is ∙ depth-is ∙ ap depth (sym (A .name-added)));
       }
 
-  pub indexed-enum : {name : Bytes} {members : List Bytes} → EnumStored k (length (enums f)) o work work′ → Stands file f (earlier f) o (enum name members) → Indexed file (f ++ (enum name members ∷ [])) work′ k
-  indexed-enum {name} {members} S s =
+  pub indexed-enum : {name : Bytes} {members : List Bytes} → EnumStored k (length (enums f)) o work work′ → Names (f ++ (enum name members ∷ [])) work′ k → Stands file f (earlier f) o (enum name members) → Indexed file (f ++ (enum name members ∷ [])) work′ k
+  indexed-enum {name} {members} S names s =
       let U = untouched f (S .changed) (record { no-type = λ a. omega arith; no-fun = λ a b. omega arith; no-term = λ a b. omega arith; no-enum = λ a. le-refl _ }) in
       let L = lists-enum f name members in
       let last : getD (enums (f ++ (enum name members ∷ []))) (length (enums f)) ([], []) ≡ (name, members) = rw (L .enums-are) (getD-append-seam (enums f) (name, members) [] ([], [])) in
@@ -172,7 +179,8 @@ module _ {file : Bytes} {f : TermFile} {work work′ : List ℕ} {k : ℕ} (I : 
             (λ l. absurd (omega (arith, ap length (L .types-are))))
             (λ l. absurd (omega (arith, ap length (L .funs-are))))
             (λ l. absurd (omega (arith, ap length (L .terms-are))))
-            (λ l. rw last record { stands = rw (S .offset-is) (s .reads ∙ ap some (enum-entry f (s .entry) name members (s .names))) });
+            (λ l. rw last record { stands = rw (S .offset-is) (s .reads ∙ ap some (enum-entry f (s .entry) name members (s .names))) })
+            names;
         depths =
             depths-grown file f (enum name members) k U (I .depths)
             (λ l. absurd (omega (arith, ap length (L .types-are))))
@@ -191,7 +199,8 @@ indexed-input {file} {f} {work} {k} I room t =
           (λ l. absurd (omega (arith, ap length (L .types-are))))
           (λ l. absurd (omega (arith, ap length (L .funs-are))))
           (λ l. absurd (omega (arith, ap length (L .terms-are))))
-          (λ l. absurd (omega (arith, ap length (L .enums-are))));
+          (λ l. absurd (omega (arith, ap length (L .enums-are))))
+          (names-same (record { same = λ i h. refl }) (I .index .names) (L .enums-are));
       depths =
           depths-grown file f (input t) k U (I .depths)
           (λ l. absurd (omega (arith, ap length (L .types-are))))

@@ -1,5 +1,6 @@
 pub mod Cells
 pub mod Stores
+pub mod Names
 pub mod Rows
 pub mod Entered
 pub mod Firsts

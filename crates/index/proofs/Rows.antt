@@ -12,6 +12,7 @@ use Rattle.script_spec.specs.Tree.{typeOf, depth}
 use Rattle.script_spec.specs.Fields.{Earlier}
 use Rattle.script_spec.specs.File.{TermFile, Named, types, funs, terms, enums, typeAt, termAt, earlier}
 use Rattle.index.specs.Cells.{cell, typeOffset, typeFirst, typeDepth, funOffset, funFirst, termOffset, termFirst, termType, termDepth, enumOffset}
+use Rattle.index.specs.Names.{Names}
 use Rattle.index.specs.Meaning.{Stands, counted, TypeRow, FunRow, TermRow, EnumRow, Index, Depths}
 use Rattle.index.proofs.Growth.{lists-append, types-kept, funs-kept, terms-kept, Grown, types-grown, funs-grown, terms-grown, enums-grown, counts-fewer}
 use Rattle.index.proofs.Later.{More, more-append, in-range-more, named-kept}
@@ -108,8 +109,9 @@ module _ (file : Bytes) (f : TermFile) (r : Named) (k : ℕ) {work work′ : Lis
       → (length (funs f) < length (funs (f ++ (r ∷ []))) → FunRow file (f ++ (r ∷ [])) work′ k (length (funs f)))
       → (length (terms f) < length (terms (f ++ (r ∷ []))) → TermRow file (f ++ (r ∷ [])) work′ k (length (terms f)))
       → (length (enums f) < length (enums (f ++ (r ∷ []))) → EnumRow file (f ++ (r ∷ [])) work′ k (length (enums f)) (getD (enums (f ++ (r ∷ []))) (length (enums f)) ([], []) .0) (getD (enums (f ++ (r ∷ []))) (length (enums f)) ([], []) .1))
+      → Names (f ++ (r ∷ [])) work′ k
       → Index file (f ++ (r ∷ [])) work′ k
-  index-grown I room new-type new-fun new-term new-enum =
+  index-grown I room new-type new-fun new-term new-enum names =
       let few = counts-fewer (f ++ (r ∷ [])) in
       let more : length (f ++ (r ∷ [])) ≤ k = rw length-append (omega arith) in
       record {
@@ -124,6 +126,7 @@ module _ (file : Bytes) (f : TermFile) (r : Named) (k : ℕ) {work work′ : Lis
         funs-fit = omega (arith, few .funs-fewer);
         terms-fit = omega (arith, few .terms-fewer);
         enums-fit = omega (arith, few .enums-fewer);
+        names = names;
       }
 
   pub depths-grown : Depths file f work k

@@ -14,6 +14,7 @@ use Rattle.script_spec.specs.File.{TermFile, Named, type, func, term, types, fu
 use Rattle.index.specs.Cells.{cell, typeOffset, typeFirst, typeDepth, funOffset, funFirst, termOffset, termFirst, termType, termDepth, enumOffset}
 use Rattle.index.specs.First.{firstType, firstFun, firstTerm, InRange}
 use Rattle.index.specs.Standing.{entryAt}
+use Rattle.index.specs.Names.{Names}
 
 -- the record at an offset of the file names r among the records f, and refers only to records that e counts
 pub record Stands (file : Bytes) (f : TermFile) (e : Earlier) (offset : ℕ) (r : Named) : Type 0 where
@@ -49,7 +50,7 @@ module _ (file : Bytes) (f : TermFile) (work : List ℕ) (k : ℕ) where
   pub record EnumRow (n : ℕ) (name : Bytes) (members : List Bytes) : Type 0 where
     pub stands : entryAt file (cell work k enumOffset n) ≡ some (enum name members)
 
-  -- every type, function, term and enum of the file has its row
+  -- every type, function, term and enum of the file has its row, and every enum its slot
   pub record Index : Type 0 where
     pub fits : 12 * k ≤ length work
     pub type-row : (n : ℕ) → n < length (types f) → TypeRow n
@@ -60,6 +61,7 @@ module _ (file : Bytes) (f : TermFile) (work : List ℕ) (k : ℕ) where
     pub funs-fit : length (funs f) ≤ k
     pub terms-fit : length (terms f) ≤ k
     pub enums-fit : length (enums f) ≤ k
+    pub names : Names f work k
 
   -- the depths, which check needs
   pub record Depths : Type 0 where

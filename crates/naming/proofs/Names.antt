@@ -17,6 +17,7 @@ use Rattle.script_spec.specs.Walk.{State, start, enterType, enterFun, enterTerm
 use Rattle.index.specs.Cells.{cell, store, typeFirst, funFirst, termFirst}
 use Rattle.index.specs.First.{firstType, firstFun, firstTerm}
 use Rattle.index.specs.Meaning.{Index}
+use Rattle.index.proofs.Names.{names-same}
 use Rattle.index.proofs.Cells.{length-store, cell-store-same, cell-store-other}
 use Rattle.index.proofs.Firsts.{FirstEqual, Equality, first-below, first-types, first-funs, first-terms, equal-types, equal-funs, equal-terms}
 use Rattle.naming.specs.Naming.{typeName, funName, termName, isName, nameAt, placeOf, Table, Numbers, Kept}
@@ -59,6 +60,7 @@ module _ {file : Bytes} {f : TermFile} {work work′ : List ℕ} {k : ℕ} (K : 
         funs-fit = I .funs-fit;
         terms-fit = I .terms-fit;
         enums-fit = I .enums-fit;
+        names = names-same (record { same = λ i h. K .others 11 i refl }) (I .names) refl;
       }
 
 -- ---- a store

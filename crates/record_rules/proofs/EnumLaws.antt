@@ -9,14 +9,14 @@ use mathlib.Core.Option.{some}
 use lib.Dec.{ltb}
 use borrow.Author.Tests.{lt-ltb}
 use lib.ListN.{drop}
-use Rattle.script_spec.specs.Base.{Bytes, same, ascending, empty}
+use Rattle.script_spec.specs.Base.{Bytes, ascending, empty}
 use Rattle.script_spec.specs.Fields.{got, text, u32, times, list, enum}
 use Rattle.field.specs.Reads.{value, refusal, asRead, Reads}
 use Rattle.index.specs.Standing.{entryAt, markAt, bodyAt}
 use Rattle.segments.proofs.Inverse.{bind-inverse, pure-inverse}
 use Rattle.record_rules.specs.Decided.{DecidesList}
 use Rattle.record_rules.specs.Tests.{itemText, given}
-use Rattle.record_rules.specs.Enums.{NameRead, MembersFrom, EnumAscends, EnumGiven, SameName}
+use Rattle.record_rules.specs.Enums.{NameRead, MembersFrom, EnumAscends, EnumGiven, NameAt}
 use Rattle.record_rules.proofs.Decided.{decides-list}
 use Rattle.record_rules.proofs.Shapes.{enum-read}
 
@@ -74,6 +74,5 @@ module _ (file : Bytes) (o : ℕ) {body : Bytes} (is : body ≡ bodyAt file o) w
   unfolding entryAt
   name-is N name members e = let x = enum-read (markAt file o) (bodyAt file o) e in N .go name (x .left) (ap text is ∙ x .name-read)
 
-pub same-names : (file : Bytes) (a b : ℕ) {body body′ t u : Bytes} {r : Bool} → body ≡ bodyAt file a → body′ ≡ bodyAt file b → NameRead body t → NameRead body′ u → r ≡ same t u → SameName file a b r
-same-names file a b is is′ N N′ h =
-    record { go = λ name other ms ms′ e e′. let p = name-is file a is N name ms e in let q = name-is file b is′ N′ other ms′ e′ in cc }
+  pub name-at : {t : Bytes} → NameRead body t → NameAt file o t
+  name-at N = record { go = name-is N }

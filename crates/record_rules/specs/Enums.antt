@@ -6,7 +6,7 @@ use mathlib.Core.Bool.{Bool, not}
 use mathlib.Core.List.{List}
 use mathlib.Core.Option.{some}
 use lib.ListN.{drop}
-use Rattle.script_spec.specs.Base.{Bytes, same, ascending, empty}
+use Rattle.script_spec.specs.Base.{Bytes, ascending, empty}
 use Rattle.script_spec.specs.Fields.{got, text, enum}
 use Rattle.index.specs.Standing.{entryAt}
 
@@ -27,6 +27,6 @@ module _ (file : Bytes) (o : ℕ) (b : Bool) where
   pub record EnumGiven : Type 0 where
     pub go : (name : Bytes) (members : List Bytes) → entryAt file o ≡ some (enum name members) → b ≡ not (empty members)
 
--- r is whether two enums have the same name
-pub record SameName (file : Bytes) (a b : ℕ) (r : Bool) : Type 0 where
-  pub go : (name other : Bytes) (members members′ : List Bytes) → entryAt file a ≡ some (enum name members) → entryAt file b ≡ some (enum other members′) → r ≡ same name other
+-- r is the name of the enum at an offset
+pub record NameAt (file : Bytes) (o : ℕ) (r : Bytes) : Type 0 where
+  pub go : (name : Bytes) (members : List Bytes) → entryAt file o ≡ some (enum name members) → r ≡ name

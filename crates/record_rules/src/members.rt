@@ -7,7 +7,7 @@ use field::ReadText;
 ghost use Rattle.script_spec.specs.Fields.{text};
 ghost use Rattle.record_rules.specs.Decided.{DecidesList};
 ghost use Rattle.record_rules.specs.Tests.{given};
-ghost use Rattle.record_rules.specs.Enums.{NameRead, MembersFrom, EnumAscends, EnumGiven, SameName};
+ghost use Rattle.record_rules.specs.Enums.{NameRead, MembersFrom, EnumAscends, EnumGiven, NameAt};
 
 // The text at the start of a body.
 fn name_of<'a>(body: &'a [u8]) -> &'a [u8]
@@ -57,9 +57,10 @@ pub fn members_given(file: &[u8], o: usize) -> bool
     list_given(body, at)
 }
 
-// Whether two enums have the same name.
-pub fn same_name(file: &[u8], a: usize, b: usize) -> bool
-    ensures { λ r. ⌜ SameName (now (file .entry)) a b r ⌝ }
+// The name of an enum.
+pub fn name_at<'a>(file: &'a [u8], o: usize) -> &'a [u8]
+    ensures { λ r. ⌜ NameAt (now (file .entry)) o (now r) ⌝ }
 {
-    crate::text::same(name_of(body_at(file, a)), name_of(body_at(file, b)))
+    let body = body_at(file, o);
+    name_of(body)
 }

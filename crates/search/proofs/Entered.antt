@@ -1,6 +1,6 @@
 -- The index with depths and slots: of no records, and after a record of each kind is entered.
 -- Assumes nothing.
-use mathlib.Core.Path.{_≡_, refl, ap, _∙_, subst}
+use mathlib.Core.Path.{_≡_, refl, sym, ap, _∙_, subst}
 use Prim.Native.Nat.{ℕ, suc, _+_, _*_, _≤_, _<_}
 use native.Mathlib.Nat.{not-suc-le-zero, le-refl}
 use native.Mathlib.Omega.{arith}
@@ -18,13 +18,17 @@ use Rattle.index.proofs.Cells.{cell-store-other}
 use Rattle.index.proofs.Growth.{counts-fewer, lists-type, lists-func, lists-term, lists-enum, lists-input}
 use Rattle.index.proofs.Later.{canonical-kept}
 use Rattle.index.proofs.Stores.{Changed, changed-refl, type-stored, fun-stored, term-stored, enum-stored}
-use Rattle.index.proofs.Rows.{Untouched, untouched}
+use Rattle.index.proofs.Rows.{untouched}
 use Rattle.index.proofs.Entered as rows
-use Rattle.slots.specs.Slots.{empties, Reached, entries, Slots, Indexed}
+use Rattle.index.proofs.Names.{Stays, reached-kept, name-last, names-added}
+use Rattle.index.specs.Names.{codeOf, nameHome, Reached, enumName}
+use Rattle.slots.specs.Slots.{empties, homeOf, entries, Indexed}
+use Rattle.slots.specs.Storing.{Stored}
 use Rattle.slots.proofs.Ring.{empties-all, empties-same}
+use Rattle.slots.proofs.Reach.{stored-stays, stored-fewer, reached-new}
 use Rattle.search.specs.Found.{Enrols}
 use Rattle.search.proofs.Numbers.{entries-read, type-looks, fun-looks, term-looks, type-found, fun-found, term-found}
-use Rattle.search.proofs.Growth.{enrolled-changed, enrolled-stays, enrolled-fewer, enrolled-reached, types-kept, funs-kept, terms-kept, slots-grown}
+use Rattle.search.proofs.Growth.{stored-changed, enrolled-changed, enrolled-stays, enrolled-fewer, enrolled-reached, types-kept, funs-kept, terms-kept, slots-grown}
 
 -- a memory whose slots are empty is the index of no records
 pub indexed-none : (file : Bytes) (work : List ℕ) (k : ℕ) → 12 * k ≤ length work → k ≤ 1048576 → ((i : ℕ) → cell work k hash i ≡ 0) → Indexed file [] work k
@@ -77,9 +81,9 @@ module _ {file : Bytes} {f : TermFile} {work : List ℕ} {k : ℕ} (I : Indexed 
       let fits = I .index .fits in
       let S = type-stored work₀ k n (rw (C .same-size) fits) (omega (arith, counts-fewer f .types-fewer)) o m d in
       let D = changed-then C (S .changed) in
-      let J = rows.indexed-type without room (record { changed = D; offset-is = S .offset-is; first-is = S .first-is; depth-is = S .depth-is }) s (type-found (I .index) s (A .found)) deep in
       let same : (i : ℕ) → cell work′ k hash i ≡ cell work₀ k hash i
       = λ i. cell-store-other _ k typeDepth n d hash i (λ e q. omega arith) ∙ cell-store-other _ k typeFirst n m hash i (λ e q. omega arith) ∙ cell-store-other _ k typeOffset n o hash i (λ e q. omega arith) in
+      let J = rows.indexed-type without room (record { changed = D; offset-is = S .offset-is; first-is = S .first-is; depth-is = S .depth-is }) (enrolled-stays A fits work′ same) s (type-found (I .index) s (A .found)) deep in
       let U = untouched f D (record { no-type = λ a. le-refl _; no-fun = λ a b. omega arith; no-term = λ a b. omega arith; no-enum = λ a. omega arith }) in
       let L = lists-type f t in
       record {
@@ -87,7 +91,7 @@ module _ {file : Bytes} {f : TermFile} {work : List ℕ} {k : ℕ} (I : Indexed 
         depths = J .depths;
         slots =
             slots-grown file f (type t) k work work′ (I .index) U (I .slots) (enrolled-stays A fits work′ same) (enrolled-fewer A fits work′ same)
-            (λ l. subst (λ (count : ℕ). Reached k (cell work′ k hash) 0 count (λ m. canonical (f ++ (type t ∷ [])) (entries file work′ k typeOffset m)) n) (one-more (types f) t (L .types-are))
+            (λ l. subst (λ (count : ℕ). Reached (homeOf k) k (cell work′ k hash) 0 count (λ m. canonical (f ++ (type t ∷ [])) (entries file work′ k typeOffset m)) n) (one-more (types f) t (L .types-are))
             (enrolled-reached A fits work′ same _ (types-kept file f (type t) k work work′ (I .index) U) (entry-added file f (type t) k work′ typeOffset n (S .offset-is) s) (I .slots .type-slots)))
             (λ l. absurd (omega (arith, ap length (L .funs-are))))
             (λ l. absurd (omega (arith, ap length (L .terms-are))));
@@ -103,9 +107,9 @@ module _ {file : Bytes} {f : TermFile} {work : List ℕ} {k : ℕ} (I : Indexed 
       let fits = I .index .fits in
       let S = fun-stored work₀ k n (rw (C .same-size) fits) (omega (arith, counts-fewer f .funs-fewer)) o m in
       let D = changed-then C (S .changed) in
-      let J = rows.indexed-func without room (record { changed = D; offset-is = S .offset-is; first-is = S .first-is }) s (fun-found (I .index) s (A .found)) in
       let same : (i : ℕ) → cell work′ k hash i ≡ cell work₀ k hash i
       = λ i. cell-store-other _ k funFirst n m hash i (λ e q. omega arith) ∙ cell-store-other _ k funOffset n o hash i (λ e q. omega arith) in
+      let J = rows.indexed-func without room (record { changed = D; offset-is = S .offset-is; first-is = S .first-is }) (enrolled-stays A fits work′ same) s (fun-found (I .index) s (A .found)) in
       let U = untouched f D (record { no-type = λ a. omega arith; no-fun = λ a b. le-refl _; no-term = λ a b. omega arith; no-enum = λ a. omega arith }) in
       let L = lists-func f g in
       record {
@@ -114,7 +118,7 @@ module _ {file : Bytes} {f : TermFile} {work : List ℕ} {k : ℕ} (I : Indexed 
         slots =
             slots-grown file f (func g) k work work′ (I .index) U (I .slots) (enrolled-stays A fits work′ same) (enrolled-fewer A fits work′ same)
             (λ l. absurd (omega (arith, ap length (L .types-are))))
-            (λ l. subst (λ (count : ℕ). Reached k (cell work′ k hash) 1 count (λ m. canonical (f ++ (func g ∷ [])) (entries file work′ k funOffset m)) n) (one-more (funs f) g (L .funs-are))
+            (λ l. subst (λ (count : ℕ). Reached (homeOf k) k (cell work′ k hash) 1 count (λ m. canonical (f ++ (func g ∷ [])) (entries file work′ k funOffset m)) n) (one-more (funs f) g (L .funs-are))
             (enrolled-reached A fits work′ same _ (funs-kept file f (func g) k work work′ (I .index) U) (entry-added file f (func g) k work′ funOffset n (S .offset-is) s) (I .slots .fun-slots)))
             (λ l. absurd (omega (arith, ap length (L .terms-are))));
       }
@@ -131,10 +135,10 @@ module _ {file : Bytes} {f : TermFile} {work : List ℕ} {k : ℕ} (I : Indexed 
       let fits = I .index .fits in
       let S = term-stored work₀ k n (rw (C .same-size) fits) (omega (arith, counts-fewer f .terms-fewer)) o m τ d in
       let D = changed-then C (S .changed) in
-      let J = rows.indexed-term without room (record { changed = D; offset-is = S .offset-is; first-is = S .first-is; type-is = S .type-is; depth-is = S .depth-is }) s (term-found (I .index) s (A .found)) below type-is type-first deep in
       let same : (i : ℕ) → cell work′ k hash i ≡ cell work₀ k hash i
       = λ i. cell-store-other _ k termDepth n d hash i (λ e q. omega arith) ∙ cell-store-other _ k termType n τ hash i (λ e q. omega arith) ∙ cell-store-other _ k termFirst n m hash i (λ e q. omega arith)
       ∙ cell-store-other _ k termOffset n o hash i (λ e q. omega arith) in
+      let J = rows.indexed-term without room (record { changed = D; offset-is = S .offset-is; first-is = S .first-is; type-is = S .type-is; depth-is = S .depth-is }) (enrolled-stays A fits work′ same) s (term-found (I .index) s (A .found)) below type-is type-first deep in
       let U = untouched f D (record { no-type = λ a. omega arith; no-fun = λ a b. omega arith; no-term = λ a b. le-refl _; no-enum = λ a. omega arith }) in
       let L = lists-term f t in
       record {
@@ -144,29 +148,39 @@ module _ {file : Bytes} {f : TermFile} {work : List ℕ} {k : ℕ} (I : Indexed 
             slots-grown file f (term t) k work work′ (I .index) U (I .slots) (enrolled-stays A fits work′ same) (enrolled-fewer A fits work′ same)
             (λ l. absurd (omega (arith, ap length (L .types-are))))
             (λ l. absurd (omega (arith, ap length (L .funs-are))))
-            (λ l. subst (λ (count : ℕ). Reached k (cell work′ k hash) 2 count (λ m. canonical (f ++ (term t ∷ [])) (entries file work′ k termOffset m)) n) (one-more (terms f) t (L .terms-are))
+            (λ l. subst (λ (count : ℕ). Reached (homeOf k) k (cell work′ k hash) 2 count (λ m. canonical (f ++ (term t ∷ [])) (entries file work′ k termOffset m)) n) (one-more (terms f) t (L .terms-are))
             (enrolled-reached A fits work′ same _ (terms-kept file f (term t) k work work′ (I .index) U) (entry-added file f (term t) k work′ termOffset n (S .offset-is) s) (I .slots .term-slots)));
       }
 
-  -- what changes no slot
-  slots-same : (r : Named) {work′ : List ℕ} → Untouched f k work work′ → ((i : ℕ) → cell work′ k hash i ≡ cell work k hash i)
-      → types (f ++ (r ∷ [])) ≡ types f → funs (f ++ (r ∷ [])) ≡ funs f → terms (f ++ (r ∷ [])) ≡ terms f → Slots file (f ++ (r ∷ [])) work′ k
-  slots-same r {work′} U same ty fn tm =
-      slots-grown file f r k work work′ (I .index) U (I .slots) (record { same = λ i g. same i }) (omega (arith, empties-same (cell work k hash) (cell work′ k hash) k (λ i l. same i)))
-      (λ l. absurd (omega (arith, ap length ty))) (λ l. absurd (omega (arith, ap length fn))) (λ l. absurd (omega (arith, ap length tm)))
-
-  pub indexed-enum : {o : ℕ} {name : Bytes} {members : List Bytes} → Stands file f (earlier f) o (enum name members)
-      → Indexed file (f ++ (enum name members ∷ [])) (store work k enumOffset (length (enums f)) o) k
-  indexed-enum {o} {name} {members} s =
+  pub indexed-enum : {work₀ : List ℕ} {o : ℕ} {name : Bytes} {members : List Bytes} → Stored work work₀ k (nameHome k name) (codeOf (length (enums f)) 3)
+      → ((n : ℕ) → n < length (enums f) → enumName f n ≡ name → ⊥) → Stands file f (earlier f) o (enum name members)
+      → Indexed file (f ++ (enum name members ∷ [])) (store work₀ k enumOffset (length (enums f)) o) k
+  indexed-enum {work₀} {o} {name} {members} T fresh s =
       let n = length (enums f) in
-      let S = enum-stored work k n (I .index .fits) (omega (arith, counts-fewer f .enums-fewer)) o in
-      let J = rows.indexed-enum without room S s in
-      let U = untouched f (S .changed) (record { no-type = λ a. omega arith; no-fun = λ a b. omega arith; no-term = λ a b. omega arith; no-enum = λ a. le-refl _ }) in
+      let work′ = store work₀ k enumOffset n o in
+      let C = stored-changed T 10 11 n in
+      let fits = I .index .fits in
+      let S = enum-stored work₀ k n (rw (C .same-size) fits) (omega (arith, counts-fewer f .enums-fewer)) o in
+      let D = changed-then C (S .changed) in
+      let same : (i : ℕ) → cell work′ k hash i ≡ cell work₀ k hash i = λ i. cell-store-other work₀ k enumOffset n o hash i (λ e q. omega arith) in
+      let stays : Stays (cell work k hash) (cell work′ k hash) = record { same = λ i g. same i ∙ stored-stays fits T .same i g } in
       let L = lists-enum f name members in
+      let new : Reached (nameHome k) k (cell work′ k hash) 3 (suc n) (enumName (f ++ (enum name members ∷ []))) n
+      = reached-kept (record { same = λ i g. same i }) (λ m l. refl) (omega arith) n (omega arith) (reached-new fits T refl (ap (nameHome k) (sym (name-last f (f ++ (enum name members ∷ [])) name members (L .enums-are))))) in
+      let N =
+      names-added f (f ++ (enum name members ∷ [])) name members (L .enums-are) stays (I .index .names)
+      (subst (λ (count : ℕ). Reached (nameHome k) k (cell work′ k hash) 3 count (enumName (f ++ (enum name members ∷ []))) n) (one-more (enums f) (name, members) (L .enums-are)) new) fresh in
+      let J = rows.indexed-enum without room (record { changed = D; offset-is = S .offset-is }) N s in
+      let U = untouched f D (record { no-type = λ a. omega arith; no-fun = λ a b. omega arith; no-term = λ a b. omega arith; no-enum = λ a. le-refl _ }) in
       record {
         index = J .index;
         depths = J .depths;
-        slots = slots-same (enum name members) U (λ i. cell-store-other work k enumOffset n o hash i (λ e q. omega arith)) (L .types-are) (L .funs-are) (L .terms-are);
+        slots =
+            slots-grown file f (enum name members) k work work′ (I .index) U (I .slots) stays
+            (omega (arith, stored-fewer fits T, empties-same (cell work₀ k hash) (cell work′ k hash) k (λ i l. same i)))
+            (λ l. absurd (omega (arith, ap length (L .types-are))))
+            (λ l. absurd (omega (arith, ap length (L .funs-are))))
+            (λ l. absurd (omega (arith, ap length (L .terms-are))));
       }
 
   pub indexed-input : (t : Tm) → Indexed file (f ++ (input t ∷ [])) work k
@@ -175,4 +189,12 @@ module _ {file : Bytes} {f : TermFile} {work : List ℕ} {k : ℕ} (I : Indexed 
       let n = length (types f) in
       let U = untouched f {n = n} (changed-refl k 0 0 n work) (record { no-type = λ a. le-refl _; no-fun = λ a b. omega arith; no-term = λ a b. omega arith; no-enum = λ a. omega arith }) in
       let L = lists-input f t in
-      record { index = J .index; depths = J .depths; slots = slots-same (input t) U (λ i. refl) (L .types-are) (L .funs-are) (L .terms-are) }
+      record {
+        index = J .index;
+        depths = J .depths;
+        slots =
+            slots-grown file f (input t) k work work (I .index) U (I .slots) (record { same = λ i g. refl }) (omega arith)
+            (λ l. absurd (omega (arith, ap length (L .types-are))))
+            (λ l. absurd (omega (arith, ap length (L .funs-are))))
+            (λ l. absurd (omega (arith, ap length (L .terms-are))));
+      }

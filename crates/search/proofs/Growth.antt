@@ -18,23 +18,31 @@ use Rattle.index.proofs.Growth.{Grown, types-grown, funs-grown, terms-grown}
 use Rattle.index.proofs.Later.{more-append, canonical-kept}
 use Rattle.index.proofs.Stores.{Changed, changed-refl}
 use Rattle.index.proofs.Rows.{Untouched}
-use Rattle.slots.specs.Slots.{slot, empties, homeOf, Reached, entryOr, entries, Slots}
+use Rattle.index.specs.Names.{Reached}
+use Rattle.index.proofs.Names.{Stays, reached-kept}
+use Rattle.slots.specs.Slots.{empties, homeOf, entryOr, entries, Slots}
 use Rattle.slots.proofs.Ring.{empties-same}
-use Rattle.slots.proofs.Reach.{Stays, reached-kept, reached-equal, stored-stays, stored-fewer, reached-new}
+use Rattle.slots.proofs.Reach.{reached-equal, stored-stays, stored-fewer, reached-new}
+use Rattle.slots.specs.Storing.{Stored}
 use Rattle.search.specs.Found.{At, Enrolled}
 use Rattle.search.proofs.Numbers.{type-at, fun-at, term-at}
 
 -- ---- a slot that was taken
+
+-- no column but that of the slots
+pub stored-changed : {work work₀ : List ℕ} {k b v : ℕ} → Stored work work₀ k b v → (low high n : ℕ) → Changed k low high n work work₀
+stored-changed {work} {k = k} S low high n =
+    record {
+      same-size = rw (S .is) (length-store work k hash _ _);
+      same = λ column i h other. rw (S .is) (cell-store-other work k hash _ _ column i (λ e q. omega arith));
+    }
 
 module _ {work work₀ : List ℕ} {k firsts kind count r : ℕ} {f : TermFile} {x : Entry} {ε : ℕ → Entry} (E : Enrolled work work₀ k firsts kind count r f x ε) where
   pub enrolled-changed : (low high n : ℕ) → Changed k low high n work work₀
   enrolled-changed low high n =
       ⊎-elim
       (λ h. rw (h .0) (changed-refl k low high n work))
-      (λ S. record {
-        same-size = rw (S .is) (length-store work k hash _ _);
-        same = λ column i h other. rw (S .is) (cell-store-other work k hash _ _ column i (λ e q. omega arith));
-      })
+      (λ S. stored-changed S low high n)
       (E .kept)
 
   module _ (fits : 12 * k ≤ length work) where
@@ -53,7 +61,7 @@ module _ {work work₀ : List ℕ} {k firsts kind count r : ℕ} {f : TermFile} 
 
       -- the new record
       pub enrolled-reached : (ε′ : ℕ → Entry) → ((n : ℕ) → n < count → ε′ n ≡ canonical f (ε n)) → ε′ count ≡ canonical f x
-          → ((n : ℕ) → n < count → Reached k (cell work k hash) kind count (λ m. canonical f (ε m)) n) → Reached k (cell work′ k hash) kind (suc count) ε′ count
+          → ((n : ℕ) → n < count → Reached (homeOf k) k (cell work k hash) kind count (λ m. canonical f (ε m)) n) → Reached (homeOf k) k (cell work′ k hash) kind (suc count) ε′ count
       enrolled-reached ε′ agree last all =
           ⊎-elim
           (λ h. reached-equal (agree (h .1 .number) (h .1 .below) ∙ h .1 .equal ∙ sym last)
@@ -87,7 +95,7 @@ module _ (file : Bytes) (f : TermFile) (r : Named) (k : ℕ) (work work′ : Lis
 
     -- a number of the longer file is reached
     abbrev ReachedIn : ℕ → ℕ → ℕ → ℕ → Type 0
-    ReachedIn offsets kind count n = Reached k (cell work′ k hash) kind count (λ m. canonical (f ++ (r ∷ [])) (entries file work′ k offsets m)) n
+    ReachedIn offsets kind count n = Reached (homeOf k) k (cell work′ k hash) kind count (λ m. canonical (f ++ (r ∷ [])) (entries file work′ k offsets m)) n
 
     pub slots-grown : Slots file f work k → Stays (cell work k hash) (cell work′ k hash) → empties (cell work k hash) k ≤ suc (empties (cell work′ k hash) k)
         → (length (types f) < length (types (f ++ (r ∷ []))) → ReachedIn typeOffset 0 (length (types (f ++ (r ∷ [])))) (length (types f)))

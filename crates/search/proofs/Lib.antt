@@ -3,3 +3,4 @@ pub mod Probing
 pub mod Numbers
 pub mod Growth
 pub mod Entered
+pub mod Naming

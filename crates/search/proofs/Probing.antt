@@ -13,25 +13,27 @@ use Rattle.script_spec.specs.Fields.{Entry}
 use Rattle.script_spec.specs.File.{TermFile}
 use Rattle.index.specs.Cells.{cell, hash}
 use Rattle.index.specs.First.{canonical}
-use Rattle.slots.specs.Slots.{slot, codeOf, homeOf, Reached}
+use Rattle.index.specs.Names.{slot, codeOf, Reached}
+use Rattle.slots.specs.Slots.{homeOf}
 use Rattle.slots.specs.Storing.{Home, Stores}
-use Rattle.slots.proofs.Ring.{code-number, code-some}
-use Rattle.search.specs.Found.{SameAt, Looks, Held, Holds, Probes, Finds, Enrols}
+use Rattle.index.proofs.Names.{code-some}
+use Rattle.slots.proofs.Ring.{code-number, empties-some}
+use Rattle.search.specs.Found.{SameAt, Looks, Held, Holds, Probes, Enrols}
 
 true-not-false : true ≡ false → ⊥
 true-not-false e = let z : _≡_ {A = ℕ} 0 1 = cc in omega arith
 
 -- ---- one slot
 
-module _ {file : Bytes} {work : List ℕ} {k offsets kind count o v n : ℕ} (is : n ≡ (v - 1) / 3) where
+module _ {file : Bytes} {work : List ℕ} {k offsets kind count o v n : ℕ} (is : n ≡ (v - 1) / 4) where
   pub holds-past : count ≤ n → Holds file work k offsets kind count o v false
   holds-past h = record { go = λ f x ε L. record { true-of = λ H. absurd (omega (arith, H .below)); of-true = λ t. absurd (true-not-false (sym t)) } }
 
-  pub holds-other : (3 * n + kind + 1 ≡ v → ⊥) → Holds file work k offsets kind count o v false
+  pub holds-other : (4 * n + kind + 1 ≡ v → ⊥) → Holds file work k offsets kind count o v false
   unfolding codeOf
   holds-other h = record { go = λ f x ε L. record { true-of = λ H. absurd (h (omega (arith, H .is))); of-true = λ t. absurd (true-not-false (sym t)) } }
 
-  pub holds-same : {p : ℕ} {r : Bool} → n < count → 3 * n + kind + 1 ≡ v → p ≡ cell work k offsets n → SameAt file work k p o r → Holds file work k offsets kind count o v r
+  pub holds-same : {p : ℕ} {r : Bool} → n < count → 4 * n + kind + 1 ≡ v → p ≡ cell work k offsets n → SameAt file work k p o r → Holds file work k offsets kind count o v r
   unfolding codeOf
   holds-same below e row S =
       record {
@@ -56,7 +58,7 @@ module _ {file : Bytes} {work : List ℕ} {k offsets kind count o b : ℕ} where
 
   -- an entry that is equal is not beyond the slots that were passed
   not-passed : {d : ℕ} → Passed file work k offsets kind count o b d → {f : TermFile} {x : Entry} {ε : ℕ → Entry} → Looks file work k offsets kind count o f x ε → (0 < k → b ≡ homeOf k (canonical f x))
-      → (n : ℕ) → (q : canonical f (ε n) ≡ canonical f x) → (R : Reached k (cell work k hash) kind count (λ m. canonical f (ε m)) n) → R .distance < d → ⊥
+      → (n : ℕ) → (q : canonical f (ε n) ≡ canonical f x) → (R : Reached (homeOf k) k (cell work k hash) kind count (λ m. canonical f (ε m)) n) → R .distance < d → ⊥
   not-passed P {f} {x} {ε} L home n q R l =
       let there : cell work k hash (slot k b (R .distance)) ≡ codeOf (R .number) kind = rw (home (omega (arith, R .near)), ← q) (R .holds) in
       let number = code-number (R .number) kind (cell work k hash (slot k b (R .distance))) (L .kind-is) there in
@@ -74,7 +76,7 @@ module _ {file : Bytes} {work : List ℕ} {k offsets kind count o b : ℕ} where
       found-empty e = record { go = λ f x ε L home. inr (record { none = λ n l q. none f x ε L home n q (L .reached n l); is = refl }) }
         where
           none : (f : TermFile) (x : Entry) (ε : ℕ → Entry) → Looks file work k offsets kind count o f x ε → (0 < k → b ≡ homeOf k (canonical f x)) → (n : ℕ) → canonical f (ε n) ≡ canonical f x
-              → Reached k (cell work k hash) kind count (λ m. canonical f (ε m)) n → ⊥
+              → Reached (homeOf k) k (cell work k hash) kind count (λ m. canonical f (ε m)) n → ⊥
           none f x ε L home n q R = go (decLt (R .distance) d) (ℕ-discrete (R .distance) d)
             where
               b-is : b ≡ homeOf k (canonical f (ε n))
@@ -86,9 +88,9 @@ module _ {file : Bytes} {work : List ℕ} {k offsets kind count o b : ℕ} where
               go (no l) (no g) = R .path d (omega arith) (rw (← b-is) (sym is ∙ e))
 
       module _ {r : Bool} (H : Holds file work k offsets kind count o v r) where
-        pub found-held : {firsts n w : ℕ} → r ≡ true → n ≡ (v - 1) / 3 → w ≡ cell work k firsts n → Probes file work k offsets firsts kind count o b w
+        pub found-held : {firsts n w : ℕ} → r ≡ true → n ≡ (v - 1) / 4 → w ≡ cell work k firsts n → Probes file work k offsets firsts kind count o b w
         found-held {firsts} h e q =
-            record { go = λ f x ε L home. let K = H .go f x ε L .of-true h in inl (record { number = (v - 1) / 3; below = K .below; equal = K .equal; is = q ∙ ap (cell work k firsts) e }) }
+            record { go = λ f x ε L home. let K = H .go f x ε L .of-true h in inl (record { number = (v - 1) / 4; below = K .below; equal = K .equal; is = q ∙ ap (cell work k firsts) e }) }
 
         pub passed-more : r ≡ false → (v ≡ 0 → ⊥) → Passed file work k offsets kind count o b (d + 1)
         passed-more h z =
@@ -100,22 +102,22 @@ module _ {file : Bytes} {work : List ℕ} {k offsets kind count o b : ℕ} where
 
 -- ---- the search
 
-module _ {file : Bytes} {work : List ℕ} {k offsets firsts kind count o r : ℕ} where
-  pub found-from-home : {b : ℕ} → Home file work k o b → Probes file work k offsets firsts kind count o b r → Finds file work k offsets firsts kind count o r
-  found-from-home H P = record { go = λ f x ε L. P .go f x ε L (H .is f x (L .index) (L .sought .reads) (L .sought .in-range)) }
+module _ {file : Bytes} {work : List ℕ} {k offsets firsts kind count o b r : ℕ} (H : Home file work k o b) (P : Probes file work k offsets firsts kind count o b r) where
+  module _ {f : TermFile} {x : Entry} {ε : ℕ → Entry} (L : Looks file work k offsets kind count o f x ε) where
+    home-is : 0 < k → b ≡ homeOf k (canonical f x)
+    home-is = H .is f x (L .index) (L .sought .reads) (L .sought .in-range)
 
-  module _ (F : Finds file work k offsets firsts kind count o r) where
-    pub enrolled-new : {work′ : List ℕ} {v : ℕ} → (count < 1048576 → kind < 3 → v ≡ codeOf count kind) → Stores file work work′ k o v → Enrols file work work′ k offsets firsts kind count o r
-    enrolled-new code S =
-        record {
-          go = λ f x ε L few room.
-              record { found = F .go f x ε L; kept = inr (rw (code few (L .kind-is)) at (S .go f x (L .index) (L .sought .reads) (L .sought .in-range) room)) };
-        }
+  pub enrolled-new : {work′ : List ℕ} {v : ℕ} → (count < 1048576 → kind < 4 → v ≡ codeOf count kind) → Stores work work′ k b v → Enrols file work work′ k offsets firsts kind count o r
+  enrolled-new code S =
+      record {
+        go = λ f x ε L few room.
+            record { found = P .go f x ε L (home-is L); kept = inr (rw (home-is L (empties-some _ k room), code few (L .kind-is)) at (S .go (H .inside) room)) };
+      }
 
-    pub enrolled-old : (r ≡ count → ⊥) → Enrols file work work k offsets firsts kind count o r
-    enrolled-old h =
-        record {
-          go = λ f x ε L few room.
-              let A = F .go f x ε L in
-              record { found = A; kept = inl (refl, ⊎-elim (λ H. H) (λ M. absurd (h (M .is))) A) };
-        }
+  pub enrolled-old : (r ≡ count → ⊥) → Enrols file work work k offsets firsts kind count o r
+  enrolled-old h =
+      record {
+        go = λ f x ε L few room.
+            let A = P .go f x ε L (home-is L) in
+            record { found = A; kept = inl (refl, ⊎-elim (λ H. H) (λ M. absurd (h (M .is))) A) };
+      }

@@ -14,7 +14,8 @@ use Rattle.index.specs.First.{canonical, InRange}
 use Rattle.index.specs.Standing.{entryAt}
 use Rattle.index.specs.Meaning.{Index}
 use Rattle.compare.specs.View.{Decides}
-use Rattle.slots.specs.Slots.{codeOf, empties, homeOf, Reached}
+use Rattle.index.specs.Names.{codeOf, Reached}
+use Rattle.slots.specs.Slots.{empties, homeOf}
 use Rattle.slots.specs.Storing.{Stored}
 
 -- the entry x is read at an offset, and refers to records of f only
@@ -31,8 +32,8 @@ pub record Looks (file : Bytes) (work : List ℕ) (k offsets kind count o : ℕ)
   pub index : Index file f work k
   pub sought : At file f o x
   pub rows : (n : ℕ) → n < count → At file f (cell work k offsets n) (ε n)
-  pub kind-is : kind < 3
-  pub reached : (n : ℕ) → n < count → Reached k (cell work k hash) kind count (λ m. canonical f (ε m)) n
+  pub kind-is : kind < 4
+  pub reached : (n : ℕ) → n < count → Reached (homeOf k) k (cell work k hash) kind count (λ m. canonical f (ε m)) n
 
 module _ (f : TermFile) (x : Entry) (ε : ℕ → Entry) (count : ℕ) where
   -- an entry that is equal, with the number that its row has in the column of first numbers
@@ -49,9 +50,9 @@ module _ (f : TermFile) (x : Entry) (ε : ℕ → Entry) (count : ℕ) where
 
   -- a slot that holds v has an entry of the kind that is equal
   pub record Held (kind v : ℕ) : Type 0 where
-    pub below : (v - 1) / 3 < count
-    pub is : v ≡ codeOf ((v - 1) / 3) kind
-    pub equal : canonical f (ε ((v - 1) / 3)) ≡ canonical f x
+    pub below : (v - 1) / 4 < count
+    pub is : v ≡ codeOf ((v - 1) / 4) kind
+    pub equal : canonical f (ε ((v - 1) / 4)) ≡ canonical f x
 
 -- r is whether a slot that holds v has an equal entry
 pub record Holds (file : Bytes) (work : List ℕ) (k offsets kind count o v : ℕ) (r : Bool) : Type 0 where
@@ -60,10 +61,6 @@ pub record Holds (file : Bytes) (work : List ℕ) (k offsets kind count o v : �
 -- what the search answers from the slot b on, if this is the home of what is looked for
 pub record Probes (file : Bytes) (work : List ℕ) (k offsets firsts kind count o b r : ℕ) : Type 0 where
   pub go : (f : TermFile) (x : Entry) (ε : ℕ → Entry) → Looks file work k offsets kind count o f x ε → (0 < k → b ≡ homeOf k (canonical f x)) → Hit f x ε count (cell work k firsts) r ⊎ Miss f x ε count r
-
--- what the search answers
-pub record Finds (file : Bytes) (work : List ℕ) (k offsets firsts kind count o r : ℕ) : Type 0 where
-  pub go : (f : TermFile) (x : Entry) (ε : ℕ → Entry) → Looks file work k offsets kind count o f x ε → Hit f x ε count (cell work k firsts) r ⊎ Miss f x ε count r
 
 -- the same answer; the entry that was looked for is stored in a slot with `count` for its number, or one that is equal was found
 pub record Enrolled (work work′ : List ℕ) (k firsts kind count r : ℕ) (f : TermFile) (x : Entry) (ε : ℕ → Entry) : Type 0 where

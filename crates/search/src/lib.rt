@@ -1,5 +1,7 @@
-// The search for a record that is equal to one, among the types, the functions or the terms, by the slots of the hash table.
-ghost use Rattle.search.specs.Found.{SameAt, Holds, Probes, Finds, Enrols};
+// The search for a record that is equal to one, among the types, the functions or the terms, or of a name, among the enums, by the slots of the hash table.
+pub mod names;
+
+ghost use Rattle.search.specs.Found.{SameAt, Holds, Probes, Enrols};
 
 // Whether the records at two offsets are equal: the same mark, and bodies that agree by the index.
 fn same_at(file: &[u8], work: &[u32], k: usize, o: usize, p: usize) -> bool
@@ -30,14 +32,14 @@ fn holds(
     if count <= n {
         return false;
     }
-    if 3 * (n as u64) + kind as u64 + 1 != v as u64 {
+    if 4 * (n as u64) + kind as u64 + 1 != v as u64 {
         return false;
     }
     let p = index::get(work, k, offsets, n as usize);
     same_at(file, work, k, p as usize, o)
 }
 
-// What `find` answers, from the slot b on.
+// The number of the first record of a kind that is equal to the one at an offset, or `count`, if the slot b is its home; two columns have the offsets and the first numbers.
 fn probe(
     file: &[u8],
     work: &[u32],
@@ -65,23 +67,6 @@ fn probe(
     count
 }
 
-// The number of the first record of a kind that is equal to the one at an offset, or `count`; two columns have the offsets and the first numbers.
-fn find(
-    file: &[u8],
-    work: &[u32],
-    k: usize,
-    offsets: usize,
-    firsts: usize,
-    kind: u32,
-    count: u32,
-    o: usize,
-) -> u32
-    ensures { λ r. ⌜ Finds (now (file .entry)) (now (work .entry)) k offsets firsts kind count o r ⌝ }
-{
-    let b = slots::home(file, work, k, o);
-    probe(file, work, k, offsets, firsts, kind, count, o, b)
-}
-
 // The same number; where there is none, a slot is taken for the record, with `count` for its number.
 pub fn enrol(
     file: &[u8],
@@ -95,9 +80,10 @@ pub fn enrol(
 ) -> u32
     ensures { λ r. ⌜ Enrols (now (file .entry)) (now (work .entry)) (now (work .exit)) k offsets firsts kind count o r ⌝ }
 {
-    let first = find(file, work, k, offsets, firsts, kind, count, o);
+    let b = slots::home(file, work, k, o);
+    let first = probe(file, work, k, offsets, firsts, kind, count, o, b);
     if first == count {
-        slots::store(file, work, k, o, slots::code(count, kind));
+        slots::store(work, k, b, slots::code(count, kind));
         return first;
     }
     first

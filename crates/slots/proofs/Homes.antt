@@ -1,7 +1,7 @@
--- The home slot of a record by the hash of the record at its offset.
+-- The home slot of a record by the hash of the record at its offset, that of a name, and a store from a home slot on.
 -- Assumes nothing.
 use mathlib.Core.Path.{_≡_, refl, sym, ap, _∙_}
-use Prim.Native.Nat.{ℕ, zero, suc, _%_, _<_}
+use Prim.Native.Nat.{ℕ, _%_, _<_}
 use native.Mathlib.Nat.{mod-lt}
 use native.Mathlib.Omega.{arith}
 use mathlib.Core.List.{List, map}
@@ -25,10 +25,12 @@ use Rattle.compare.proofs.Views.{viewed-first}
 use Rattle.compare.proofs.Listed.{segmentsAt-shown}
 use Rattle.record_rules.specs.Marks.{termBytes, markOf}
 use Rattle.record_rules.proofs.Marks.{entry-mark}
+use Rattle.index.specs.Names.{mixedBytes}
 use Rattle.hash.specs.Hash.{hashed, recordHash}
-use Rattle.slots.specs.Slots.{slot, empties, homeOf}
-use Rattle.slots.specs.Storing.{Home, FirstEmpty, Stores}
-use Rattle.slots.proofs.Ring.{empty-near}
+use Rattle.index.specs.Names.{slot, nameHome}
+use Rattle.slots.specs.Slots.{homeOf}
+use Rattle.slots.specs.Storing.{Home, NameHome, FirstEmpty, Stores}
+use Rattle.slots.proofs.Ring.{empties-some, empty-near}
 
 pub mark-canonical : (f : TermFile) (x : Entry) → markOf (canonical f x) ≡ markOf x
 unfolding markOf termBytes canonical renumbered renamed
@@ -76,17 +78,18 @@ module _ {file : Bytes} (work : List ℕ) {k : ℕ} (o : ℕ) where
   home-found {h} octets e q =
       record { inside = λ p. rw q (mod-lt h p); is = λ f x I reads in-range p. q ∙ ap (λ (m : ℕ). m % k) e ∙ home-is o octets I reads in-range }
 
-positive : (column : ℕ → ℕ) (k : ℕ) → 0 < empties column k → 0 < k
-unfolding empties
-positive column zero h = absurd (omega arith)
-positive column (suc k) h = omega arith
+module _ {k : ℕ} {name : Bytes} where
+  pub name-home-none : k ≡ 0 → NameHome k name 0
+  name-home-none e = record { inside = λ h. h; is = λ h. absurd (omega arith) }
 
-pub stored-there : {file : Bytes} {work work′ : List ℕ} {k o b d s v : ℕ} → Home file work k o b → FirstEmpty k (cell work k hash) b d → s ≡ slot k b d → work′ ≡ store work k hash s v → Stores file work work′ k o v
-stored-there {k = k} H F e q =
+  pub name-home-found : {h b : ℕ} → h ≡ mixedBytes 0 name → b ≡ h % k → NameHome k name b
+  unfolding nameHome
+  name-home-found {h} e q = record { inside = λ p. rw q (mod-lt h p); is = λ p. q ∙ ap (λ (m : ℕ). m % k) e }
+
+pub stored-there : {work work′ : List ℕ} {k b d s v : ℕ} → FirstEmpty k (cell work k hash) b d → s ≡ slot k b d → work′ ≡ store work k hash s v → Stores work work′ k b v
+stored-there {k = k} F e q =
     record {
-      go = λ f x I reads in-range p.
-          let l = positive _ k p in
-          let near = empty-near (H .inside l) p F in
-          let same = H .is f x I reads in-range l in
-          rw (← same) (record { inside = H .inside l; distance = _; near = near; first = F; is = rw (← e) q });
+      go = λ inside p.
+          let l = empties-some _ k p in
+          record { inside = inside l; distance = _; near = empty-near (inside l) p F; first = F; is = rw (← e) q };
     }

@@ -8,19 +8,16 @@ use native.Mathlib.Omega.{arith}
 use borrow.Author.Count.{below-more}
 use borrow.Author.Tests.{lt-ltb, le-ltb}
 use Rattle.index.specs.Cells.{placed}
-use Rattle.slots.specs.Slots.{slot, codeOf, oneIfEmpty, empties}
+use Rattle.index.specs.Names.{slot, codeOf}
+use Rattle.slots.specs.Slots.{oneIfEmpty, empties}
 use Rattle.slots.specs.Storing.{FirstEmpty}
 
 -- ---- codes
 
 -- the number that a code is of
-pub code-number : (n kind v : ℕ) → kind < 3 → v ≡ codeOf n kind → (v - 1) / 3 ≡ n
+pub code-number : (n kind v : ℕ) → kind < 4 → v ≡ codeOf n kind → (v - 1) / 4 ≡ n
 unfolding codeOf
-code-number n kind v h e = let p : 0 < 3 = omega arith in omega (arith, div-add-mod' (v - 1) 3, mod-lt (v - 1) p)
-
-pub code-some : (n kind : ℕ) → codeOf n kind ≡ 0 → ⊥
-unfolding codeOf
-code-some n kind e = omega arith
+code-number n kind v h e = let p : 0 < 4 = omega arith in omega (arith, div-add-mod' (v - 1) 4, mod-lt (v - 1) p)
 
 -- ---- the ring
 
@@ -66,6 +63,12 @@ empties-none : (column : ℕ → ℕ) (k : ℕ) → ((i : ℕ) → i < k → col
 unfolding empties
 empties-none column zero h = refl
 empties-none column (suc k) h = omega (arith, one-taken (column k) (h k (omega arith)), empties-none column k (λ i l. h i (omega arith)))
+
+-- there are slots where some are empty
+pub empties-some : (column : ℕ → ℕ) (k : ℕ) → 0 < empties column k → 0 < k
+unfolding empties
+empties-some column zero h = absurd (omega arith)
+empties-some column (suc k) h = omega arith
 
 pub empties-all : (column : ℕ → ℕ) (k : ℕ) → ((i : ℕ) → column i ≡ 0) → empties column k ≡ k
 unfolding empties oneIfEmpty

@@ -1,31 +1,23 @@
 -- What the slots of the hash table hold: for each type, function and term an equal one, which is met on the way from its home slot.
 -- Assumes nothing.
 use mathlib.Core.Path.{_≡_}
-use Prim.Native.Nat.{ℕ, zero, suc, _+_, _*_, _-_, _%_, _≤_, _<_}
+use Prim.Native.Nat.{ℕ, zero, suc, _+_, _%_, _≤_, _<_}
 use mathlib.Core.List.{List}
 use mathlib.Core.Option.{Option, none, some}
-use lib.Dec.{ltb}
 use lib.ListN.{length}
 use Rattle.script_spec.specs.Base.{Bytes}
 use Rattle.script_spec.specs.Fields.{Entry, input}
 use Rattle.script_spec.specs.File.{TermFile, types, funs, terms}
-use Rattle.index.specs.Cells.{placed, cell, typeOffset, funOffset, termOffset, hash}
+use Rattle.index.specs.Cells.{cell, typeOffset, funOffset, termOffset, hash}
 use Rattle.index.specs.First.{canonical}
 use Rattle.index.specs.Standing.{entryAt}
+use Rattle.index.specs.Names.{Reached}
 use Rattle.index.specs.Meaning.{Index, Depths}
 use Rattle.segments.specs.Printed.{segmentsOf}
 use Rattle.record_rules.specs.Marks.{markOf}
 use Rattle.hash.specs.Hash.{hashed}
 
 -- ---- slots
-
--- the slot that comes d steps after slot b, of k slots in a ring
-unfoldable pub slot : ℕ → ℕ → ℕ → ℕ
-slot k b d = placed (ltb d (k - b)) (b + d) (d - (k - b))
-
--- what a slot holds for the record of a kind with number n; kinds 0, 1 and 2 are types, functions and terms
-unfoldable pub codeOf : ℕ → ℕ → ℕ
-codeOf n kind = suc (3 * n + kind)
 
 -- 1 for a slot that is empty
 unfoldable pub oneIfEmpty : ℕ → ℕ
@@ -43,16 +35,6 @@ homeOf k x = hashed (markOf x) (segmentsOf x) % k
 
 -- ---- what they hold
 
--- an equal entry of the kind is in a slot that is met from the home of the entry n, with no empty slot before it
-pub record Reached (k : ℕ) (column : ℕ → ℕ) (kind count : ℕ) (ε : ℕ → Entry) (n : ℕ) : Type 0 where
-  pub number : ℕ
-  pub below : number < count
-  pub equal : ε number ≡ ε n
-  pub distance : ℕ
-  pub near : distance < k
-  pub holds : column (slot k (homeOf k (ε n)) distance) ≡ codeOf number kind
-  pub path : (d : ℕ) → d < distance → column (slot k (homeOf k (ε n)) d) ≡ 0 → ⊥
-
 -- the entry that was read; any entry where there is none
 unfoldable pub entryOr : Option Entry → Entry
 entryOr none = input 0
@@ -64,7 +46,7 @@ entries file work k offsets n = entryOr (entryAt file (cell work k offsets n))
 
 -- every record of a kind is reached, with first equal numbers for its references
 abbrev pub AllReached : Bytes → TermFile → List ℕ → ℕ → ℕ → ℕ → ℕ → Type 0
-AllReached file f work k offsets kind count = (n : ℕ) → n < count → Reached k (cell work k hash) kind count (λ m. canonical f (entries file work k offsets m)) n
+AllReached file f work k offsets kind count = (n : ℕ) → n < count → Reached (homeOf k) k (cell work k hash) kind count (λ m. canonical f (entries file work k offsets m)) n
 
 -- the slots for the records f: each is reached, and at most one slot a record is taken
 pub record Slots (file : Bytes) (f : TermFile) (work : List ℕ) (k : ℕ) : Type 0 where

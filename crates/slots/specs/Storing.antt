@@ -11,12 +11,18 @@ use Rattle.index.specs.Cells.{cell, store, hash}
 use Rattle.index.specs.First.{canonical, InRange}
 use Rattle.index.specs.Standing.{entryAt}
 use Rattle.index.specs.Meaning.{Index}
-use Rattle.slots.specs.Slots.{slot, empties, homeOf}
+use Rattle.index.specs.Names.{slot, nameHome}
+use Rattle.slots.specs.Slots.{empties, homeOf}
 
 -- b is the home slot of the entry at an offset, of k slots
 pub record Home (file : Bytes) (work : List ℕ) (k o b : ℕ) : Type 0 where
   pub inside : 0 < k → b < k
   pub is : (f : TermFile) (x : Entry) → Index file f work k → entryAt file o ≡ some x → InRange (earlier f) x → 0 < k → b ≡ homeOf k (canonical f x)
+
+-- b is the home slot of a name, of k slots
+pub record NameHome (k : ℕ) (name : Bytes) (b : ℕ) : Type 0 where
+  pub inside : 0 < k → b < k
+  pub is : 0 < k → b ≡ nameHome k name
 
 -- r is how many steps after slot b the first empty slot is, or k
 pub record FirstEmpty (k : ℕ) (column : ℕ → ℕ) (b r : ℕ) : Type 0 where
@@ -32,6 +38,6 @@ pub record Stored (work work′ : List ℕ) (k b v : ℕ) : Type 0 where
   pub first : FirstEmpty k (cell work k hash) b distance
   pub is : work′ ≡ store work k hash (slot k b distance) v
 
--- v is stored for the entry at an offset, if a slot is empty
-pub record Stores (file : Bytes) (work work′ : List ℕ) (k o v : ℕ) : Type 0 where
-  pub go : (f : TermFile) (x : Entry) → Index file f work k → entryAt file o ≡ some x → InRange (earlier f) x → 0 < empties (cell work k hash) k → Stored work work′ k (homeOf k (canonical f x)) v
+-- v is stored from slot b on, if a slot is empty
+pub record Stores (work work′ : List ℕ) (k b v : ℕ) : Type 0 where
+  pub go : (0 < k → b < k) → 0 < empties (cell work k hash) k → Stored work work′ k b v

@@ -2,14 +2,14 @@
 ghost use mathlib.Core.Path.{_≡_};
 ghost use Prim.Native.Nat.{_<_, _-_, _/_};
 ghost use Rattle.index.specs.Cells.{cell, hash};
-ghost use Rattle.slots.specs.Slots.{slot, codeOf};
-ghost use Rattle.slots.specs.Storing.{Home, FirstEmpty, Stores};
+ghost use Rattle.index.specs.Names.{slot, codeOf};
+ghost use Rattle.slots.specs.Storing.{Home, NameHome, FirstEmpty, Stores};
 
 // What a slot holds for the record of a kind with number n, 0 where it does not fit.
 pub fn code(n: u32, kind: u32) -> u32
-    ensures { λ r. ⌜ (n < 1048576 → kind < 3 → r ≡ codeOf n kind) ⌝ }
+    ensures { λ r. ⌜ (n < 1048576 → kind < 4 → r ≡ codeOf n kind) ⌝ }
 {
-    let c = 3 * (n as u64) + kind as u64 + 1;
+    let c = 4 * (n as u64) + kind as u64 + 1;
     if c < 4294967296 {
         return c as u32;
     }
@@ -18,12 +18,12 @@ pub fn code(n: u32, kind: u32) -> u32
 
 // The number that a slot holds.
 pub fn number_of(v: u32) -> u32
-    ensures { λ r. ⌜ r ≡ (v - 1) / 3 ⌝ }
+    ensures { λ r. ⌜ r ≡ (v - 1) / 4 ⌝ }
 {
     if v == 0 {
         return 0;
     }
-    (v - 1) / 3
+    (v - 1) / 4
 }
 
 // The slot that comes d steps after slot b, of k slots in a ring.
@@ -50,6 +50,17 @@ pub fn home(file: &[u8], work: &[u32], k: usize, o: usize) -> usize
     h % k
 }
 
+// The slot from which the enum of a name is looked for.
+pub fn name_home(name: &[u8], k: usize) -> usize
+    ensures { λ r. ⌜ NameHome k (now (name .entry)) r ⌝ }
+{
+    if k == 0 {
+        return 0;
+    }
+    let h = hash::mix_bytes(0, name) as usize;
+    h % k
+}
+
 // How many steps after slot b the first empty slot is, or k where none is empty.
 fn first_empty(work: &[u32], k: usize, b: usize) -> usize
     ensures { λ r. ⌜ FirstEmpty k (cell (now (work .entry)) k hash) b r ⌝ }
@@ -65,11 +76,10 @@ fn first_empty(work: &[u32], k: usize, b: usize) -> usize
     d
 }
 
-// Stores v for the record at an offset in the first empty slot from its home on.
-pub fn store(file: &[u8], work: &mut [u32], k: usize, o: usize, v: u32)
-    ensures { λ _. ⌜ Stores (now (file .entry)) (now (work .entry)) (now (work .exit)) k o v ⌝ }
+// Stores v in the first empty slot from slot b on.
+pub fn store(work: &mut [u32], k: usize, b: usize, v: u32)
+    ensures { λ _. ⌜ Stores (now (work .entry)) (now (work .exit)) k b v ⌝ }
 {
-    let b = home(file, work, k, o);
     let d = first_empty(work, k, b);
     index::set(work, k, index::HASH, slot(k, b, d), v);
 }

@@ -23,8 +23,10 @@ use Rattle.index.proofs.Search.{Searched, types-searched}
 use Rattle.entry.proofs.Rows.{type-stands}
 use Rattle.compare.specs.View.{Decides}
 use Rattle.compare.proofs.Compared.{Same}
-use Rattle.slots.specs.Slots.{slot, codeOf, homeOf, Reached, entries}
-use Rattle.slots.proofs.Ring.{code-number, code-some}
+use Rattle.index.specs.Names.{slot, codeOf, Reached}
+use Rattle.slots.specs.Slots.{homeOf, entries}
+use Rattle.index.proofs.Names.{code-some}
+use Rattle.slots.proofs.Ring.{code-number}
 use Rattle.search.specs.Found.{Held}
 use Rattle.search.proofs.Numbers.{entries-read, type-at}
 use Rattle.term_type.specs.Sought.{SameType}
@@ -65,15 +67,15 @@ module _ {file : Bytes} {work : List ℕ} {k count o : ℕ} where
       let b′ = below-larger (omega arith) rs b in
       rw (entries-read file work k typeOffset n reads) (decides-same (same-canonical f m t rs ps b′ (seeks-below S)) (D .go f t ps S m rs (rw row reads) b′)))
 
-  module _ {v n : ℕ} (is : n ≡ (v - 1) / 3) where
+  module _ {v n : ℕ} (is : n ≡ (v - 1) / 4) where
     pub holds-past : count ≤ n → Holds file work k count o v false
     holds-past h = record { go = λ f t ps L. record { true-of = λ H. absurd (omega (arith, H .below)); of-true = λ z. absurd (true-not-false (sym z)) } }
 
-    pub holds-other : (3 * n + 1 ≡ v → ⊥) → Holds file work k count o v false
+    pub holds-other : (4 * n + 1 ≡ v → ⊥) → Holds file work k count o v false
     unfolding codeOf
     holds-other h = record { go = λ f t ps L. record { true-of = λ H. absurd (h (omega (arith, H .is))); of-true = λ z. absurd (true-not-false (sym z)) } }
 
-    pub holds-same : {p : ℕ} {r : Bool} → n < count → 3 * n + 1 ≡ v → p ≡ cell work k typeOffset n → SameType file work k p o r → Holds file work k count o v r
+    pub holds-same : {p : ℕ} {r : Bool} → n < count → 4 * n + 1 ≡ v → p ≡ cell work k typeOffset n → SameType file work k p o r → Holds file work k count o v r
     unfolding codeOf
     holds-same below e row S =
         record {
@@ -89,7 +91,7 @@ module _ {file : Bytes} {work : List ℕ} {k count o : ℕ} where
 
 -- how the type n is reached
 abbrev Met : Bytes → List ℕ → ℕ → ℕ → TermFile → ℕ → Type 0
-Met file work k count f n = Reached k (cell work k hash) 0 count (λ m. canonical f (entries file work k typeOffset m)) n
+Met file work k count f n = Reached (homeOf k) k (cell work k hash) 0 count (λ m. canonical f (entries file work k typeOffset m)) n
 
 -- no slot in the first d steps from b is empty or has the type that is sought
 pub record Passed (file : Bytes) (work : List ℕ) (k count o b d : ℕ) : Type 0 where
@@ -132,9 +134,9 @@ module _ {file : Bytes} {work : List ℕ} {k count o b : ℕ} where
               go (no l) (no g) = R .path d (omega arith) (rw (← b-is) (sym is ∙ e))
 
       module _ {r : Bool} (H : Holds file work k count o v r) where
-        pub found-held : {n w : ℕ} → r ≡ true → n ≡ (v - 1) / 3 → w ≡ cell work k typeFirst n → Probes file work k count o b w
+        pub found-held : {n w : ℕ} → r ≡ true → n ≡ (v - 1) / 4 → w ≡ cell work k typeFirst n → Probes file work k count o b w
         found-held h e q =
-            record { go = λ f t ps L home. let K = H .go f t ps L .of-true h in inl (record { number = (v - 1) / 3; below = K .below; equal = K .equal; is = q ∙ ap (cell work k typeFirst) e }) }
+            record { go = λ f t ps L home. let K = H .go f t ps L .of-true h in inl (record { number = (v - 1) / 4; below = K .below; equal = K .equal; is = q ∙ ap (cell work k typeFirst) e }) }
 
         pub passed-more : r ≡ false → (v ≡ 0 → ⊥) → Passed file work k count o b (d + 1)
         passed-more h z =

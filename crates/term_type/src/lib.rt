@@ -128,7 +128,7 @@ fn holds(file: &[u8], work: &[u32], k: usize, types: u32, o: usize, v: u32) -> b
     if types <= n {
         return false;
     }
-    if 3 * (n as u64) + 1 != v as u64 {
+    if 4 * (n as u64) + 1 != v as u64 {
         return false;
     }
     let p = index::get(work, k, index::TYPE_OFFSET, n as usize);

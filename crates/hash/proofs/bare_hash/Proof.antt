@@ -1,7 +1,8 @@
 -- One segment of no bytes.
 -- Assumes nothing.
 use Rattle.compare.specs.View.{kindOf, numberOf, bytesOf}
-use Rattle.hash.specs.Hash.{mixedBytes, mixedSegments, hashed, typeHash}
+use Rattle.index.specs.Names.{mixedBytes}
+use Rattle.hash.specs.Hash.{mixedSegments, hashed, typeHash}
 use borrow.Author.Needs.{needs}
 use Rattle.hash.proofs.bare_hash.Statement.{statement}
 use Rattle.hash.proofs.bare_hash.Tie as tie

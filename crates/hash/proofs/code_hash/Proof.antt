@@ -1,7 +1,8 @@
 -- One segment of one byte.
 -- Assumes nothing.
 use Rattle.compare.specs.View.{kindOf, numberOf, bytesOf}
-use Rattle.hash.specs.Hash.{mixedBytes, mixedSegments, hashed, typeHash}
+use Rattle.index.specs.Names.{mixedBytes}
+use Rattle.hash.specs.Hash.{mixedSegments, hashed, typeHash}
 use Rattle.hash.proofs.Mixed.{then-mixed}
 use borrow.Author.Needs.{needs}
 use Rattle.hash.proofs.code_hash.Statement.{statement}

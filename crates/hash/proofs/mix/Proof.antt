@@ -1,7 +1,7 @@
 -- The sum and the product fit in 64 bits, and the rest in 32.
 -- Assumes nothing.
 use borrow.Author.Needs.{needs}
-use Rattle.hash.specs.Hash.{mixed}
+use Rattle.index.specs.Names.{mixed}
 use Rattle.hash.proofs.mix.Statement.{statement}
 use Rattle.hash.proofs.mix.Tie as tie
 

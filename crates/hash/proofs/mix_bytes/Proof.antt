@@ -4,7 +4,7 @@ use mathlib.Core.Path.{_≡_, refl, _∙_}
 use Prim.Native.Nat.{_-_}
 use native.Mathlib.Omega.{arith}
 use lib.ListN.{length, drop}
-use Rattle.hash.specs.Hash.{mixedBytes}
+use Rattle.index.specs.Names.{mixedBytes}
 use Rattle.hash.proofs.Mixed.{bytes-next, bytes-end}
 use borrow.Author.Needs.{needs}
 use Rattle.hash.proofs.mix_bytes.Statement.{statement}

@@ -3,7 +3,8 @@
 use mathlib.Core.Path.{refl}
 use Rattle.segments.specs.Printed.{lowBytes}
 use Rattle.compare.specs.View.{kindOf, numberOf, bytesOf}
-use Rattle.hash.specs.Hash.{mixedBytes, mixedSegments, hashed, typeHash}
+use Rattle.index.specs.Names.{mixedBytes}
+use Rattle.hash.specs.Hash.{mixedSegments, hashed, typeHash}
 use Rattle.hash.proofs.Mixed.{then-mixed}
 use borrow.Author.Needs.{needs}
 use Rattle.hash.proofs.number_hash.Statement.{statement}

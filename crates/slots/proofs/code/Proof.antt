@@ -1,7 +1,7 @@
 -- The code fits in 32 bits where the number is small.
 -- Assumes nothing.
 use native.Mathlib.Omega.{arith}
-use Rattle.slots.specs.Slots.{codeOf}
+use Rattle.index.specs.Names.{codeOf}
 use borrow.Author.Needs.{needs}
 use Rattle.slots.proofs.code.Statement.{statement}
 use Rattle.slots.proofs.code.Tie as tie

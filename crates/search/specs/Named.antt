@@ -1,0 +1,43 @@
+-- What a search among the enums for a name finds: an enum of that name, or that there is none.
+-- Assumes nothing.
+use mathlib.Core.Path.{_≡_}
+use mathlib.Core.Logic.{_⊎_}
+use Prim.Native.Nat.{ℕ, _-_, _/_, _<_}
+use mathlib.Core.Bool.{Bool}
+use mathlib.Core.List.{List}
+use lib.ListN.{length}
+use Rattle.script_spec.specs.Base.{Bytes}
+use Rattle.script_spec.specs.File.{TermFile, enums}
+use Rattle.index.specs.Meaning.{Index}
+use Rattle.compare.specs.View.{Decides}
+use Rattle.index.specs.Names.{codeOf, nameHome, enumName}
+
+-- the enums among which a name is looked for
+pub record Among (file : Bytes) (work : List ℕ) (k count : ℕ) (f : TermFile) : Type 0 where
+  pub index : Index file f work k
+  pub count-is : count ≡ length (enums f)
+
+module _ (f : TermFile) (count : ℕ) (name : Bytes) where
+  -- a slot that holds v has an enum of the name
+  pub record HeldNamed (v : ℕ) : Type 0 where
+    pub below : (v - 1) / 4 < count
+    pub is : v ≡ codeOf ((v - 1) / 4) 3
+    pub equal : enumName f ((v - 1) / 4) ≡ name
+
+  -- an enum of the name
+  pub record HitNamed (r : ℕ) : Type 0 where
+    pub below : r < count
+    pub equal : enumName f r ≡ name
+
+  -- no enum has the name
+  pub record MissNamed (r : ℕ) : Type 0 where
+    pub none : (n : ℕ) → n < count → enumName f n ≡ name → ⊥
+    pub is : r ≡ count
+
+-- r is whether a slot that holds v has an enum of the name
+pub record HoldsNamed (file : Bytes) (work : List ℕ) (k count : ℕ) (name : Bytes) (v : ℕ) (r : Bool) : Type 0 where
+  pub go : (f : TermFile) → Among file work k count f → Decides r (HeldNamed f count name v)
+
+-- what the search answers from the slot b on, if this is the home of the name
+pub record FindsNamed (file : Bytes) (work : List ℕ) (k count : ℕ) (name : Bytes) (b r : ℕ) : Type 0 where
+  pub go : (f : TermFile) → Among file work k count f → (0 < k → b ≡ nameHome k name) → HitNamed f count name r ⊎ MissNamed f count name r
