@@ -2,7 +2,7 @@
  * crates/sakyelbo/src, for every call that keeps the rules below.
  *
  * Answers. Each function answers 0 for acceptance, or a refusal's number times 2^32 plus the place of its record, counted from 0:
- * SAKYELBO_NUMBER and SAKYELBO_PLACE take it apart.
+ * SAKYELBO_NUMBER and SAKYELBO_PLACE take it apart. No refusal has the number 0, so 0 is always acceptance.
  *
  * Memory. A run of bytes, entries or texts is a pointer and a count. A pointer is never NULL, with the count 0 either, and is aligned for
  * its type. What is lent for writing overlaps nothing else that is lent. After a refusal all memory that was lent for writing is

@@ -8,7 +8,7 @@ use lib.ListN.{length, take}
 use lib.Seq.{take-at}
 use Rattle.script_spec.specs.Base.{Bytes, Answer, accepted, refused}
 use Rattle.script_spec.specs.File.{TermFile, checked}
-use Rattle.script_spec.specs.Command.{Command, left}
+use Rattle.script_spec.specs.Command.{Command, commandWritten, left}
 use Rattle.script_spec.specs.Walk.{encoded}
 use Rattle.script_spec.proofs.Demand.{encoded-faithful}
 use Rattle.writer.specs.declared.Written.{Written}
@@ -20,6 +20,7 @@ use Rattle.encoder.specs.declared.Encoded.{Encoded}
 use Rattle.encoder.specs.Promise.{encodedAs, Encodes}
 use Rattle.sakyelbo.specs.Answers.{code, sizeOf, checkedCode, Says}
 use Rattle.sakyelbo.specs.Promise.{ChecksFile, EncodesFile, WritesCommand}
+use Rattle.sakyelbo.proofs.Numbers.{Numbered, checked-numbered, encoded-numbered, command-numbered}
 
 -- a length is said by itself, with the number 0
 pub says-length : {a : Answer ℕ} {n : ℕ} → a ≡ accepted n → Says a n 0
@@ -37,19 +38,52 @@ unfolding checkedAs checkedCode code
 code-checkedAs (accepted f) = refl
 code-checkedAs (refused n p) = refl
 
+-- ---- the number 0
+
+-- the number of a refusal's answer is not 0
+code-refused : {A : Type 0} {greatest : ℕ} {a : Answer A} {n p : ℕ} → Numbered greatest a → a ≡ refused n p → n * 4294967296 + p ≡ 0 → ⊥
+code-refused {n = n} {p} h e z = let w = h .number n p e in omega (arith, w .least)
+
+-- the number 0 is that of acceptance
+code-zero : {A : Type 0} {greatest : ℕ} (a : Answer A) → Numbered greatest a → code a ≡ 0 → (x : A) × (a ≡ accepted x)
+unfolding code
+code-zero (accepted x) h e = (x, refl)
+code-zero (refused n p) h e = absurd (code-refused h refl e)
+
+-- what is no refusal stands at the start of its buffer
+starts : (w : Answer Bytes) (room : ℕ) {y : Bytes} {n r : ℕ} → Says (lengthOf w) n r → y ≡ left w room → ((m q : ℕ) → w ≡ refused m q → ⊥) → w ≡ accepted (take n y)
+unfolding lengthOf sizeOf left
+starts (accepted s) room S h never = ap accepted (sym (rw (S .size, h) (take-at s _ (length s) refl)))
+starts (refused m q) room S h never = absurd (never m q refl)
+
+module _ (w : Answer Bytes) (room : ℕ) {y : Bytes} {n r : ℕ} (S : Says (lengthOf w) n r) (h : y ≡ left w room) where
+  -- the number 0 is that of a text
+  starts-zero : Numbered 20 w → r ≡ 0 → w ≡ accepted (take n y)
+  unfolding lengthOf code
+  starts-zero N z = starts w room S h (λ m q e. code-refused N e (sym (S .number ∙ ap (λ (a : Answer Bytes). code (lengthOf a)) e) ∙ z))
+
+  -- a size above 0 is that of a text
+  starts-sized : 0 < n → w ≡ accepted (take n y)
+  unfolding lengthOf sizeOf
+  starts-sized p = starts w room S h (λ m q e. let z : n ≡ 0 = S .size ∙ ap (λ (a : Answer Bytes). sizeOf (lengthOf a)) e in omega arith)
+
+-- ---- promises
+
 -- check's promise
 pub checks-file : {file : Bytes} {work work′ : List ℕ} {c : Checked} {r : ℕ} → Checks file work work′ c → r ≡ checkedCode c → ChecksFile file work work′ r
-checks-file {file} {work} k e = record { answer = e ∙ (ap checkedCode (k .answer) ∙ code-checkedAs (checked file (length work))); cleared = k .cleared }
+checks-file {file} {work} {r = r} k e =
+    let is : r ≡ code (checked file (length work)) = e ∙ (ap checkedCode (k .answer) ∙ code-checkedAs (checked file (length work))) in
+    record {
+      answer = is;
+      accepts = λ z. code-zero (checked file (length work)) (checked-numbered file (length work)) (sym is ∙ z);
+      cleared = k .cleared;
+    }
 
 -- the promise of a call that writes a command
 pub writes-command : {c : Command} {x y : Bytes} {w : Written} {n r : ℕ} → Writes c x y w → Says (answer w) n r → WritesCommand c x y n r
-writes-command {n = n} {r = r} k s = record { says = subst (λ (a : Answer ℕ). Says a n r) (k .leaves .says) s; holds = k .leaves .holds }
-
--- a size above 0 is that of a script, which stands at the start of its buffer
-sized : (w : Answer Bytes) (x y : Bytes) (n r : ℕ) → Says (lengthOf w) n r → y ≡ left w (length x) → 0 < n → w ≡ accepted (take n y)
-unfolding lengthOf sizeOf left
-sized (accepted s) x y n r S h p = ap accepted (sym (rw (S .size, h) (take-at s _ (length s) refl)))
-sized (refused m q) x y n r S h p = absurd (let z : n ≡ 0 = S .size in omega arith)
+writes-command {c} {x} {n = n} {r = r} k s =
+    let says : Says (lengthOf (commandWritten c (length x))) n r = subst (λ (a : Answer ℕ). Says a n r) (k .leaves .says) s in
+    record { says = says; accepts = starts-zero (commandWritten c (length x)) (length x) says (k .leaves .holds) (command-numbered c (length x)); holds = k .leaves .holds }
 
 -- encode's promise
 pub encodes-file : {file : Bytes} {work : List ℕ} {x : Bytes} {work′ : List ℕ} {y : Bytes} {e : Encoded} {n r : ℕ} → Encodes file work x work′ y e → Says (encodedAs e) n r
@@ -58,7 +92,8 @@ encodes-file {file} {work} {x} {y = y} {n = n} {r = r} k s =
     let says : Says (lengthOf (encoded file (length work) (length x))) n r = subst (λ (a : Answer ℕ). Says a n r) (k .answer) s in
     record {
       says = says;
+      accepts = starts-zero (encoded file (length work) (length x)) (length x) says (k .script-is) (encoded-numbered file (length work) (length x));
       script-is = k .script-is;
       cleared = k .cleared;
-      faithful = λ f c p. encoded-faithful file (length work) (length x) f (take n y) c (sized (encoded file (length work) (length x)) x y n r says (k .script-is) p);
+      faithful = λ f c p. encoded-faithful file (length work) (length x) f (take n y) c (starts-sized (encoded file (length work) (length x)) (length x) says (k .script-is) p);
     }
