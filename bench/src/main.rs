@@ -70,7 +70,7 @@ fn time_encode(file: &TermFile) {
 
 /// The files of the benchmark, and those that are named.
 fn files() -> std::io::Result<Vec<TermFile>> {
-    let data = concat!(env!("CARGO_MANIFEST_DIR"), "/data/");
+    let data = concat!(env!("CARGO_MANIFEST_DIR"), "/../crates/check_cases/data/large/");
     let mut files = vec![
         files::ladder(200),
         TermFile::read(&format!("{data}shared-1000.term"))?,

@@ -28,7 +28,7 @@ fn a_cut_file_is_accepted_at_a_border_and_else_refused_there() {
     for case in cases().iter().filter(|c| c.answer.is_ok()) {
         let places = borders(&case.file);
         for end in (0..case.file.len()).take(2000) {
-            let whole = places.iter().filter(|&&p| p <= end).count() - 1;
+            let whole = places.partition_point(|&p| p <= end) - 1;
             let expected = if places[whole] == end { Ok(()) } else { refusal(3, whole as u32) };
             assert_eq!(check(&case.file[..end]), expected, "{} cut at {end}", case.name);
         }
@@ -55,7 +55,7 @@ fn a_damaged_file_is_answered_and_memory_is_zero() {
 
 #[test]
 fn memory_that_is_one_entry_short_is_2() {
-    for case in cases().iter().filter(|c| !c.file.is_empty()) {
+    for case in cases().iter().filter(|c| (1..=LONGEST_FILE).contains(&c.file.len())) {
         assert_eq!(check_lent(&case.file, 2 * case.file.len() - 1), refusal(2, 0), "{}", case.name);
         assert_eq!(check_lent(&case.file, 0), refusal(2, 0), "{}", case.name);
     }

@@ -78,13 +78,13 @@ fn fnv(bytes: &[u8]) -> u64 {
 
 #[test]
 fn the_large_vectors_are_accepted_and_the_plants_script_is_the_rusts() {
-    let plant = fs::read(path("bench/data/plant-11000.term")).unwrap();
+    let plant = fs::read(path("crates/check_cases/data/large/plant-11000.term")).unwrap();
     assert_eq!(check(&plant), Ok(()));
     let script = encode(&plant).unwrap();
     // The length and the hash of the script that the Rust wrote.
     assert_eq!((script.len(), fnv(&script)), (545_862, 0x27da_4e6f_9f0f_fdfd));
     // The Rust did not finish this one.
-    let shared = fs::read(path("bench/data/shared-1000.term")).unwrap();
+    let shared = fs::read(path("crates/check_cases/data/large/shared-1000.term")).unwrap();
     assert_eq!(check(&shared), Ok(()));
     assert!(encode(&shared).is_ok());
 }

@@ -1,6 +1,65 @@
-// Checks the files of standard input one after another, and writes a line for each: its name, and check's answer.
+// Checks term files, and writes a line for each: its name, and check's answer. The arguments name the first files; standard input has
+// the others, one after another.
+use libc::STDIN_FILENO;
+use libc::STDOUT_FILENO;
 use term_check::Checked;
 ghost use Prim.Native.Nat.{_<_};
+
+fn show(answer: Checked) {
+    match answer {
+        Checked::Accepted => {
+            io::write_all(STDOUT_FILENO, b": accepted\n");
+        }
+        Checked::Refused(n, place) => {
+            io::write_all(STDOUT_FILENO, b": refused ");
+            io::print_decimal(STDOUT_FILENO, n as u64);
+            io::write_all(STDOUT_FILENO, b" record ");
+            io::print_decimal(STDOUT_FILENO, place as u64);
+            io::write_all(STDOUT_FILENO, b"\n");
+        }
+    }
+}
+
+// Checks the first bytes of a file, so many, with so many entries of working memory.
+fn check_first(file: &[u8], size: usize, work: &mut [u32], entries: usize) {
+    if file.len() < size {
+        return;
+    }
+    if work.len() < entries {
+        return;
+    }
+    show(term_check::check(&file[..size], &mut work[..entries]))
+}
+
+// Checks the file of this name.
+fn check_file(path: &[u8], file: &mut [u8], work: &mut [u32]) {
+    io::write_all(STDOUT_FILENO, path);
+    let fd = os::open_read(path);
+    if fd < 0 {
+        io::write_all(STDOUT_FILENO, b": not read\n");
+        return;
+    }
+    let size = io::read_full(fd, file);
+    libc::close(fd);
+    let entries = work.len();
+    check_first(file, size, work, entries)
+}
+
+// Checks the file that argument i names.
+fn check_argument(i: usize, file: &mut [u8], work: &mut [u32]) {
+    let mut path = io::buffer();
+    let n = os::arg(i, &mut path);
+    check_file(&path[..n], file, work)
+}
+
+fn check_arguments(file: &mut [u8], work: &mut [u32]) {
+    let count = os::arg_count();
+    let mut i = 1;
+    while i < count {
+        check_argument(i, file, work);
+        i += 1;
+    }
+}
 
 fn wide(b: u8) -> usize
     ensures { λ r. ⌜ r < 256 ⌝ }
@@ -20,49 +79,17 @@ fn number(b: &[u8; 4]) -> usize {
 // The next number of standard input; none where it ends.
 fn next_number() -> usize {
     let mut bytes = [0u8; 4];
-    let n = io::read_full(0, &mut bytes);
+    let n = io::read_full(STDIN_FILENO, &mut bytes);
     if n < 4 {
         return usize::MAX;
     }
     number(&bytes)
 }
 
-fn show(answer: Checked) {
-    match answer {
-        Checked::Accepted => {
-            io::write_all(1, b": accepted\n");
-        }
-        Checked::Refused(n, place) => {
-            io::write_all(1, b": refused ");
-            io::print_decimal(1, n as u64);
-            io::write_all(1, b" record ");
-            io::print_decimal(1, place as u64);
-            io::write_all(1, b"\n");
-        }
-    }
-}
-
-// Reads a file of this length, and checks it with this working memory.
-fn check_read(file: &mut [u8], work: &mut [u32]) {
-    io::read_full(0, file);
-    show(term_check::check(file, work))
-}
-
-// Reads a file of so many bytes, and checks it with so many entries of working memory.
-fn check_next(file: &mut [u8], work: &mut [u32], entries: usize, size: usize) {
-    if work.len() < entries {
-        return;
-    }
-    if file.len() < size {
-        return;
-    }
-    check_read(&mut file[..size], &mut work[..entries])
-}
-
 // Reads a text of this length, and writes it.
 fn copy(part: &mut [u8]) {
-    io::read_full(0, part);
-    io::write_all(1, part);
+    io::read_full(STDIN_FILENO, part);
+    io::write_all(STDOUT_FILENO, part);
 }
 
 // Reads a name and writes it; answers whether there was one.
@@ -75,23 +102,56 @@ fn copy_name(name: &mut [u8]) -> bool {
     true
 }
 
+// Reads the first n bytes of a file.
+fn read_first(file: &mut [u8], n: usize) {
+    if n <= file.len() {
+        io::read_full(STDIN_FILENO, &mut file[..n]);
+    }
+}
+
+// Repeats the first n bytes of a file until it has so many.
+fn repeat(file: &mut [u8], n: usize, size: usize) {
+    let mut i = n;
+    while i < size && i < file.len() {
+        file[i] = file[i - n];
+        i += 1;
+    }
+}
+
 // Reads a case and checks it; answers whether there was one.
-fn check_case() -> bool {
+fn check_case(file: &mut [u8], work: &mut [u32]) -> bool {
     let mut name = [0u8; 128];
-    let mut file = [0u8; 8192];
-    let mut work = [0u32; 16384];
     if !copy_name(&mut name) {
         return false;
     }
     let entries = next_number();
     let size = next_number();
-    check_next(&mut file, &mut work, entries, size);
+    let n = next_number();
+    read_first(file, n);
+    repeat(file, n, size);
+    check_first(file, size, work, entries);
     true
 }
 
-fn main() {
+fn check_cases(file: &mut [u8], work: &mut [u32]) {
     let mut turns = u64::MAX;
-    while turns > 0 && check_case() {
+    while turns > 0 && check_case(file, work) {
         turns -= 1;
     }
+}
+
+// Room for a file and a byte more than a file may have.
+fn file_buffer() -> [u8; 1048577] {
+    [0; 1048577]
+}
+
+fn work_buffer() -> [u32; 850000] {
+    [0; 850000]
+}
+
+fn main() {
+    let mut file = file_buffer();
+    let mut work = work_buffer();
+    check_arguments(&mut file, &mut work);
+    check_cases(&mut file, &mut work);
 }

@@ -17,23 +17,31 @@ pub fn path(name: &str) -> PathBuf {
     PathBuf::from(env!("CARGO_MANIFEST_DIR")).join("../..").join(name)
 }
 
-/// The cases of check_cases: its standard input, with the lines of its standard output.
+/// The cases of check_cases: the files that its arguments name and those of its standard input, with the lines of its standard output.
 pub fn cases() -> Vec<Case> {
+    let names = fs::read_to_string(path("crates/check_cases/args")).unwrap();
     let input = fs::read(path("crates/check_cases/stdin")).unwrap();
     let output = fs::read_to_string(path("crates/check_cases/stdout")).unwrap();
+    let mut lines = output.lines();
+    let mut found = vec![];
+    for name in names.lines() {
+        let file = fs::read(path("crates/check_cases/data").join(name)).unwrap();
+        found.push(case(name.to_string(), 2 * file.len(), file, lines.next()));
+    }
     let mut rest = &input[..];
-    let found: Vec<Case> = output
-        .lines()
-        .map(|line| {
-            let name = String::from_utf8(block(&mut rest).to_vec()).unwrap();
-            let entries = number(&mut rest);
-            let file = block(&mut rest).to_vec();
-            let answer = answer(line.strip_prefix(&format!("{name}: ")).unwrap());
-            Case { name, entries, file, answer }
-        })
-        .collect();
-    assert!(rest.is_empty() && found.len() > 600);
+    while !rest.is_empty() {
+        let name = String::from_utf8(block(&mut rest).to_vec()).unwrap();
+        let (entries, size) = (number(&mut rest), number(&mut rest));
+        let file = block(&mut rest).iter().copied().cycle().take(size).collect();
+        found.push(case(name, entries, file, lines.next()));
+    }
+    assert!(lines.next().is_none() && found.len() > 600);
     found
+}
+
+fn case(name: String, entries: usize, file: Vec<u8>, line: Option<&str>) -> Case {
+    let answer = answer(line.unwrap().strip_prefix(&format!("{name}: ")).unwrap());
+    Case { name, entries, file, answer }
 }
 
 /// The answer of a line `accepted` or `refused N record P`.
