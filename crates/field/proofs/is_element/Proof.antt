@@ -1,4 +1,5 @@
 -- The tests in their order.
+-- Assumes nothing.
 use borrow.Author.Needs.{needs}
 use borrow.Author.Tests.{eq-eqb, ne-eqb, le-leb, lt-leb}
 use Rattle.script_spec.specs.Tree.{wildcard}

@@ -1,4 +1,5 @@
 -- The second test decides where the first is not passed.
+-- Assumes nothing.
 use borrow.Author.Tests.{lt-ltb, le-ltb}
 use Rattle.field.proofs.is_prefix.Statement.{statement}
 use Rattle.field.proofs.is_prefix.Tie as tie

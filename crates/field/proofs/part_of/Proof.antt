@@ -1,4 +1,5 @@
 -- The three tests leave an empty part, the rest of the file, and the part as it is asked for.
+-- Assumes nothing.
 use native.Mathlib.Nat.{add-sub-cancel-left}
 use borrow.Author.Needs.{needs}
 use denote.Ref.{now}

@@ -1,4 +1,5 @@
 -- The code of an extension operator, below ten.
+-- Assumes nothing.
 use mathlib.Core.Path.{refl, ap}
 use native.Mathlib.Nat.{le-trans}
 use lib.Dec.{lit≤}

@@ -1,4 +1,5 @@
 -- Each code by its arm; the last arm has the code that is left.
+-- Assumes nothing.
 use Prim.Native.Nat.{zero-le}
 use Rattle.script_spec.specs.Base.{at}
 use Rattle.operator.specs.Operators.{extOps, extOf}

@@ -1,4 +1,5 @@
 -- The four ranges of codes.
+-- Assumes nothing.
 use borrow.Author.Needs.{needs}
 use Rattle.operator.proofs.operand.Statement.{statement}
 use Rattle.operator.proofs.operand.Tie as tie

@@ -1,4 +1,5 @@
 -- The code, and then the operand.
+-- Assumes nothing.
 use mathlib.Core.Path.{ap}
 use borrow.Author.Needs.{needs}
 use Rattle.script_spec.specs.Fields.{operator, coded}

@@ -1,4 +1,5 @@
 -- Each code by its arm; past the last code there is no operator.
+-- Assumes nothing.
 use mathlib.Core.Path.{refl}
 use borrow.Author.Needs.{needs}
 use Rattle.script_spec.specs.Base.{at}

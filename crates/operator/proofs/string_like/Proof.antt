@@ -1,4 +1,5 @@
 -- The count of elements, and the elements.
+-- Assumes nothing.
 use mathlib.Core.Path.{ap}
 use borrow.Author.Needs.{needs}
 use Rattle.script_spec.specs.Fields.{list}

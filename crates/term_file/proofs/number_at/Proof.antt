@@ -1,4 +1,5 @@
 -- By cases on what is read.
+-- Assumes nothing.
 use mathlib.Core.Path.{ap}
 use borrow.Author.Needs.{needs}
 use denote.Ref.{now}

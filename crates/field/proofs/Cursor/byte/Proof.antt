@@ -1,4 +1,5 @@
 -- A byte of the body, where one is left.
+-- Assumes nothing.
 use native.Mathlib.Omega.{arith}
 use borrow.Author.Needs.{needs}
 use Rattle.field.specs.Answers.{numberTold}

@@ -1,4 +1,5 @@
 -- A byte below the bound.
+-- Assumes nothing.
 use mathlib.Core.Path.{ap}
 use borrow.Author.Needs.{needs}
 use Rattle.field.specs.Answers.{numberTold}

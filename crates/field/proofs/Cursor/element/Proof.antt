@@ -1,4 +1,5 @@
 -- A number that is the wildcard or a code point.
+-- Assumes nothing.
 use mathlib.Core.Path.{ap}
 use borrow.Author.Needs.{needs}
 use Rattle.script_spec.specs.Fields.{element}

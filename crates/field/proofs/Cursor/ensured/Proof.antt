@@ -1,4 +1,5 @@
 -- The number where the test is passed, else the refusal.
+-- Assumes nothing.
 use Rattle.field.specs.Answers.{numberTold}
 use Rattle.field.proofs.Laws.{reads-ensured, reads-refused}
 use Rattle.field.proofs.Cursor.ensured.Statement.{statement}

@@ -1,4 +1,5 @@
 -- The next bytes of the body, where so many are left.
+-- Assumes nothing.
 use native.Mathlib.Omega.{arith}
 use borrow.Author.Needs.{needs}
 use Rattle.field.specs.Answers.{textTold, spanned}

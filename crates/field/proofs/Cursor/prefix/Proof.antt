@@ -1,4 +1,5 @@
 -- A byte below the bound, or 255.
+-- Assumes nothing.
 use mathlib.Core.Path.{ap}
 use borrow.Author.Needs.{needs}
 use Rattle.script_spec.specs.Fields.{prefix}

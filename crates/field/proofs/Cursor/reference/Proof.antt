@@ -1,4 +1,5 @@
 -- A number below the count of earlier records.
+-- Assumes nothing.
 use mathlib.Core.Path.{ap}
 use borrow.Author.Needs.{needs}
 use Rattle.script_spec.specs.Fields.{ref}

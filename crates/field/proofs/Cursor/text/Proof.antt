@@ -1,4 +1,5 @@
 -- A text: its count, its bytes, and the test that they are UTF-8, each refusal where the definition has it.
+-- Assumes nothing.
 use mathlib.Core.Path.{sym, _∙_, ap}
 use borrow.Author.Needs.{needs}
 use Rattle.script_spec.specs.Fields.{text}

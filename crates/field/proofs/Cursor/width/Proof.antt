@@ -1,4 +1,5 @@
 -- A number from 1 to 128.
+-- Assumes nothing.
 use mathlib.Core.Path.{ap}
 use borrow.Author.Needs.{needs}
 use Rattle.script_spec.specs.Fields.{width}

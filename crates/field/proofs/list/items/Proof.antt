@@ -1,4 +1,5 @@
 -- The invariant: whatever the items that are left tell, all items tell from the start.
+-- Assumes nothing.
 use mathlib.Core.Path.{ap}
 use native.Mathlib.Omega.{arith}
 use borrow.Author.Needs.{needs}

@@ -1,4 +1,5 @@
 -- The count, and then the items.
+-- Assumes nothing.
 use mathlib.Core.Path.{ap}
 use borrow.Author.Needs.{needs}
 use Rattle.field.specs.Answers.{numberTold, movedTold}

@@ -1,4 +1,5 @@
 -- A text and then a reference.
+-- Assumes nothing.
 use mathlib.Core.Path.{ap}
 use borrow.Author.Needs.{needs}
 use Rattle.script_spec.specs.Fields.{pair}

@@ -1,4 +1,5 @@
 -- By cases on what the items are.
+-- Assumes nothing.
 use borrow.Author.Needs.{needs}
 use Rattle.field.specs.Items.{itemReader}
 use Rattle.field.proofs.Laws.{skims-text, skims-number}

@@ -1,4 +1,5 @@
 -- The address bytes, and then the prefix.
+-- Assumes nothing.
 use mathlib.Core.Path.{ap}
 use borrow.Author.Needs.{needs}
 use Rattle.script_spec.specs.Fields.{address}

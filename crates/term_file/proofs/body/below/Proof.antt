@@ -1,4 +1,5 @@
 -- The value bytes, and the test of their number by its halves.
+-- Assumes nothing.
 use mathlib.Core.Path.{ap}
 use borrow.Author.Needs.{needs}
 use Rattle.script_spec.specs.Fields.{number}

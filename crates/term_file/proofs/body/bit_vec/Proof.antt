@@ -1,4 +1,5 @@
 -- The width, and then the value.
+-- Assumes nothing.
 use mathlib.Core.Path.{ap}
 use borrow.Author.Needs.{needs}
 use Rattle.field.proofs.Laws.{reads-stop, reads-next, tells}

@@ -1,4 +1,5 @@
 -- Each code by the table of values.
+-- Assumes nothing.
 use borrow.Author.Needs.{needs}
 use Rattle.field.proofs.Coded.{chosen-refused}
 use Rattle.field.proofs.Laws.{skims-text, reads-skim, skimmed}

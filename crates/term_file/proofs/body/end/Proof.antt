@@ -1,4 +1,5 @@
 -- By how many bytes are left.
+-- Assumes nothing.
 use borrow.Author.Needs.{needs}
 use denote.Ref.{now}
 use Rattle.term_file.proofs.Verdicts.{ended-at, ended-before}

@@ -1,4 +1,5 @@
 -- The reference, and then the mark of the type that it names.
+-- Assumes nothing.
 use mathlib.Core.Path.{ap, sym, _∙_}
 use borrow.Author.Needs.{needs}
 use Rattle.field.proofs.Laws.{reads-stop, reads-next, reads-skim, reads-ensured, reads-refused, skimmed, tells}

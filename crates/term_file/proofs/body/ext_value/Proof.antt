@@ -1,4 +1,5 @@
 -- The code, and then what it says.
+-- Assumes nothing.
 use mathlib.Core.Path.{ap}
 use borrow.Author.Needs.{needs}
 use Rattle.script_spec.specs.Fields.{value, coded}

@@ -1,4 +1,5 @@
 -- The tests in their order: the offset, two bytes at it, and the mark.
+-- Assumes nothing.
 use native.Mathlib.Omega.{arith}
 use lib.ListN.{getD}
 use borrow.Author.Needs.{needs}

@@ -1,4 +1,5 @@
 -- The three fields in their order, and the end of the body.
+-- Assumes nothing.
 use mathlib.Core.Path.{refl, ap}
 use borrow.Author.Needs.{needs}
 use Rattle.field.proofs.Laws.{reads-stop, reads-next, tells}

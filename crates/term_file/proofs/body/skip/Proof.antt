@@ -1,4 +1,5 @@
 -- Each field by its own reader.
+-- Assumes nothing.
 use borrow.Author.Needs.{needs}
 use Rattle.field.proofs.Laws.{reads-pure, skims-text, skims-number}
 use Rattle.field.specs.Answers.{movedTold}

@@ -1,4 +1,5 @@
 -- Each kind's fields by its arm.
+-- Assumes nothing.
 use borrow.Author.Needs.{needs}
 use Rattle.term_file.proofs.fields.fields_of.Statement.{statement}
 use Rattle.term_file.proofs.fields.fields_of.Tie as tie

@@ -1,4 +1,5 @@
 -- Every kind but `Unknown` has a mark.
+-- Assumes nothing.
 use borrow.Author.Needs.{needs}
 use Rattle.script_spec.specs.Base.{isSome}
 use Rattle.term_file.specs.Marks.{readerOf, readerFor, mark}

@@ -1,4 +1,5 @@
 -- By the first byte, and then by the second.
+-- Assumes nothing.
 use borrow.Author.Needs.{needs}
 use borrow.Author.Tests.{ne-eqb}
 use Rattle.script_spec.specs.Base.{bytes, any, same}
