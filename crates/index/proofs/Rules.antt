@@ -9,14 +9,14 @@ use lib.Dec.{T, eqb, eqb→eq}
 use borrow.Author.Tests.{eq-eqb}
 use lib.ListN.{length}
 use Rattle.script_spec.specs.Base.{any, empty, place, isSome}
-use Rattle.script_spec.specs.Tree.{Tree, node, nil, forest, trees, depth, depths, Bool·, Option·, Declared, recordOf, TypeMark, eqTy, eqTm, typeOf, typesOf, typeFrom, datatype, attributes}
+use Rattle.script_spec.specs.Tree.{Tree, node, nil, forest, trees, depth, depths, Bool·, Option·, Declared, recordOf, eqTy, eqTm, typeOf, typesOf, typeFrom, datatype, attributes}
 use Rattle.script_spec.specs.Tree.{TermMark, Var, BoolLit, BitVecLit, StringLit, Entity, ExtLit, None, Some, Set, Record, App}
 use Rattle.script_spec.specs.Fields.{Entry}
 use Rattle.script_spec.specs.Fields as fields
 use Rattle.script_spec.specs.File.{TermFile, type, types, terms, typeAt, termAt, namedMark, named, earlier, distinct, listRules, rules}
 use Rattle.script_spec.proofs.Laws.{eqTm-eq, eqTm-refl}
 use Rattle.index.specs.First.{firstType, firstTerm, All, Below, MarkInRange, InRange}
-use Rattle.index.specs.Rules.{different, greatest, reference, listed, typeBy, typeNamed, parts, listRulesBy, limits, rulesBy}
+use Rattle.index.specs.Rules.{different, greatest, reference, typeBy, typeNamed, parts, listRulesBy, limits, rulesBy}
 use Rattle.index.proofs.Firsts.{first-injective, first-terms, equal-types, place-first, any-place}
 use Rattle.index.proofs.Renamed.{Agree, map-agree}
 
@@ -119,11 +119,6 @@ module _ (f : TermFile) where
   pub reference-listed : (n : ℕ) → n < length (types f) → place (eqTy (typeNamed f (reference n))) (types f) ≡ some (firstType f n)
   unfolding typeNamed firstType typeAt
   reference-listed n h = place-first equal-types (node Bool· nil) (types f) n h (typeAt f n) refl
-
-  -- a type by its mark and parts is what the entry with these names
-  pub listed-entry : (m : TypeMark) (rs : List ℕ) → named f (fields.type m rs) ≡ type (typeNamed f (listed m rs))
-  unfolding named typeNamed
-  listed-entry m rs = refl
 
 -- ---- the rules of a record
 

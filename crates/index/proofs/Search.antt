@@ -1,13 +1,11 @@
 -- The search for a first equal record is a search for an equal canonical entry: for types, functions and terms, once for any
 -- elements.
 -- Assumes nothing.
-use Prim.Native.Nat.{ℕ, suc, _<_}
+use Prim.Native.Nat.{ℕ, _<_}
 use mathlib.Core.Path.{_≡_, sym, ap, _∙_}
 use mathlib.Core.Bool.{Bool}
-use mathlib.Core.List.{List, [], _∷_, _++_}
+use mathlib.Core.List.{List}
 use mathlib.Core.Option.{Option, none, some}
-use native.Mathlib.Omega.{arith}
-use borrow.Author.Count.{below-more}
 use lib.ListN.{length, getD}
 use Rattle.script_spec.specs.Base.{place}
 use Rattle.script_spec.specs.Tree.{eqTy, eqFun, eqTm}
@@ -16,32 +14,12 @@ use Rattle.script_spec.specs.File.{TermFile, Named, type, func, term, types, fu
 use Rattle.index.specs.First.{first, firstType, firstFun, firstTerm, canonical, InRange, Entries}
 use Rattle.index.proofs.Firsts.{Equality, equal-types, equal-funs, equal-terms, place-first, place-none}
 use Rattle.index.proofs.Canonical.{canonical-equal, canonical-injective}
-use Rattle.index.proofs.Renamed.{Agree}
-use Rattle.index.proofs.Later.{more-append, in-range-more, named-kept}
 
 module _ (f : TermFile) {A : Type 0} (wrap : A → Named) where
   -- what a search over these entries finds for an entry e that names x: a record equal to x, or that there is none
   pub record Searched (count : ℕ) (first : ℕ → ℕ) (place : A → Option ℕ) (ε : ℕ → Entry) : Type 0 where
     pub found : (e : Entry) (x : A) → InRange (earlier f) e → named f e ≡ wrap x → (n : ℕ) → n < count → canonical f (ε n) ≡ canonical f e → place x ≡ some (first n)
     pub absent : (e : Entry) (x : A) → named f e ≡ wrap x → ((n : ℕ) → n < count → canonical f (ε n) ≡ canonical f e → ⊥) → place x ≡ none
-
--- the entries of the old numbers in a file with one record more, where ε′ has them too
-pub entries-kept : (f : TermFile) (r : Named) {A : Type 0} {wrap : A → Named} {count : ℕ} {name name′ : ℕ → A} {ε ε′ : ℕ → Entry} → Entries f wrap count name ε
-    → Agree count ε′ ε → Agree count name′ name → Entries (f ++ (r ∷ [])) wrap count name′ ε′
-entries-kept f r {ε} {ε′} N same names =
-    record {
-      in-range = λ n h. rw (same n h) (in-range-more (more-append f r) (ε n) (N .in-range n h));
-      names = λ n h. rw (same n h, named-kept f r (ε n) (N .in-range n h), names n h) (N .names n h);
-    }
-
--- one entry more
-pub entries-more : {f : TermFile} {A : Type 0} {wrap : A → Named} {count : ℕ} {name : ℕ → A} {ε : ℕ → Entry} → Entries f wrap count name ε
-    → InRange (earlier f) (ε count) → named f (ε count) ≡ wrap (name count) → Entries f wrap (suc count) name ε
-entries-more {f} {A} {wrap} {count} {name} {ε} N h q =
-    record {
-      in-range = λ n l. below-more (λ k. InRange (earlier f) (ε k)) count (N .in-range) h n (omega arith);
-      names = λ n l. below-more (λ k. named f (ε k) ≡ wrap (name k)) count (N .names) q n (omega arith);
-    }
 
 module _ (f : TermFile) {A : Type 0} {eq : A → A → Bool} (E : Equality eq) (d : A) (xs : List A) (wrap : A → Named) (injective : (a b : A) → wrap a ≡ wrap b → a ≡ b) where
   searched : (ε : ℕ → Entry) → Entries f wrap (length xs) (λ n. getD xs n d) ε → Searched f wrap (length xs) (λ n. first eq xs (getD xs n d)) (λ x. place (eq x) xs) ε

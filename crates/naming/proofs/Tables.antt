@@ -76,15 +76,6 @@ free-taken column column′ i v (suc k) l z s h = go (ℕ-discrete k i) (λ m. f
     go (yes e) less = rw (e, z, s, free-same column column′ i (λ j m. h j (omega arith))) (omega arith)
     go (no n) less = rw (h k n) (omega (arith, less (omega arith)))
 
-free-some : (column : ℕ → ℕ) (i k : ℕ) → i < k → column i ≡ 0 → 0 < free column k
-unfolding free oneIfFree
-free-some column i zero l z = absurd (not-suc-le-zero l)
-free-some column i (suc k) l z = go (ℕ-discrete k i) (λ m. free-some column i k m z)
-  where
-    go : Dec (k ≡ i) → (i < k → 0 < free column k) → 0 < free column (suc k)
-    go (yes e) rest = rw (e, z) (omega arith)
-    go (no n) rest = omega (arith, rest (omega arith))
-
 -- ---- tables
 
 module _ {A : Type 0} {eq : A → A → Bool} {count : ℕ} {name : ℕ → A} {first : ℕ → ℕ} where
@@ -107,11 +98,6 @@ module _ {A : Type 0} {eq : A → A → Bool} {count : ℕ} {name : ℕ → A} {
   pub table-place : {k : ℕ} {column : ℕ → ℕ} {table : List A} → Table eq count name first k column table
       → (n : ℕ) → n < count → place (eq (name n)) table ≡ placeOf (column (first n))
   table-place {table = table} t n l = sym (placeOf-num (place (eq (name n)) table)) ∙ ap placeOf (sym (t .place-is n l))
-
-  -- a table has fewer entries than its column while one is free
-  pub table-room : {k : ℕ} {column : ℕ → ℕ} {table : List A} → Table eq count name first k column table
-      → (i : ℕ) → i < k → column i ≡ 0 → length table < k
-  table-room {k} {column} t i l z = omega (arith, t .taken, free-some column i k l z)
 
   -- a record that is not in the table is entered, and its entry is set
   module _ (E : Equality eq) (F : FirstEqual count name first) where

@@ -7,7 +7,7 @@ use mathlib.Core.Bool.{Bool, true, false}
 use lib.Dec.{ltb}
 use borrow.Author.Tests.{ltb-true}
 use Rattle.script_spec.specs.Base.{Bytes}
-use Rattle.script_spec.specs.Fields.{Read, got, bad, _>>=_, ensure, u32, ref, Earlier, entityRef, marks}
+use Rattle.script_spec.specs.Fields.{Read, got, bad, _>>=_, ensure, u32, ref, Earlier, entityRef}
 use Rattle.field.proofs.Skims.{bind-got, bind-bad}
 
 module _ (count : ℕ) where
@@ -37,7 +37,3 @@ module _ (e : Earlier) (isEntity : ℕ → Bool) (h : (n : ℕ) → n < e .types
       go : (x : Read ℕ) → ref (e .types) s ≡ x → entityRef e s ≡ entityRef testing s
       go (got n rest) p = bind-got (ref (e .types)) _ p ∙ ap (λ b. ensure 8 b n rest) (h n (ref-below (e .types) s n rest p)) ∙ sym (bind-got (ref (e .types)) _ p)
       go (bad m) p = bind-bad (ref (e .types)) _ p ∙ sym (bind-bad (ref (e .types)) _ p)
-
-  pub marks-alike : marks e ≡ marks testing
-  unfolding marks
-  marks-alike = let p : entityRef e ≡ entityRef testing = λ i s. entityRef-alike s i in rw p

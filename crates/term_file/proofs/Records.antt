@@ -17,7 +17,7 @@ use Rattle.field.specs.Reads.{value, refusal, asRead, Reads}
 use Rattle.field.proofs.Skims.{bind-got}
 use Rattle.term_file.specs.Marks.{readerOf, Marked}
 use Rattle.term_file.specs.Bodies.{outcome, verdictOf}
-use Rattle.term_file.specs.Records.{followed, readRecord, numberOf, IsRecord, Said, NextRecord}
+use Rattle.term_file.specs.Records.{followed, readRecord, numberOf, Said, NextRecord}
 use Rattle.term_file.specs.declared.mark.Kind.{Kind}
 use Rattle.term_file.specs.declared.Next.the-variants as next
 use Rattle.term_file.specs.declared.body.Verdict.the-variants as verdict
@@ -154,29 +154,6 @@ unfolding whole
 whole-got (got b []) a left h = let q : b ≡ a = cc in rw q
 whole-got (got b (c ∷ rest)) a left h = cc
 whole-got (bad n) a left h = cc
-
-followed-got : (rest end : Bytes) (y : Read Entry) (a : Entry) → followed rest (whole y) ≡ got a end → y ≡ got a []
-unfolding followed
-followed-got rest end y a = go (whole y) refl
-  where
-    go : (x : Read Entry) → whole y ≡ x → followed rest x ≡ got a end → y ≡ got a []
-    go (got b left) e h = let q : b ≡ a = cc in whole-got y a left (rw q at e)
-    go (bad n) e h = cc
-
--- its mark's reader reads the whole body as the entry
-pub record-body : {e : Earlier} {file : Bytes} {at start end : ℕ} {k : Kind} (h : IsRecord e file at k start end) (r : Reader Entry)
-    → readerOf e k ≡ some r → r (take (end - start) (drop start file)) ≡ got (h .entry) []
-record-body {e} {file} {at} {start} {end} {k} h r l =
-    let size = low (take 4 (drop 2 (drop at file))) in
-    let after : start ≡ at + 6 = h .starts in
-    let until : end ≡ start + size = h .ends in
-    let inside : end ≤ length file = h .within in
-    let six : leb 6 (length (drop at file)) ≡ true = le-leb 6 (length (drop at file)) (rw length-drop (omega arith)) in
-    let fits : leb size (length (drop 6 (drop at file))) ≡ true = le-leb size _ (rw (drop-drop 6 at file, length-drop) (omega arith)) in
-    let read = record-read e (drop at file) r six (lookup-kind _ k e (h .marked) ∙ l) fits in
-    let length-is : end - start ≡ size = omega arith in
-    let body-is : take (end - start) (drop start file) ≡ take size (drop 6 (drop at file)) = rw (length-is, after, drop-drop 6 at file) in
-    ap r body-is ∙ followed-got _ _ (r (take size (drop 6 (drop at file)))) (h .entry) (sym read ∙ h .is)
 
 -- ---- check
 
