@@ -34,7 +34,7 @@ module _ {work work′ : List ℕ} {k b v : ℕ} (fits : 12 * k ≤ length work)
       rw (S .is) (cell-store-same work k hash (slot k b (S .distance)) v (record { fits = fits; column-is = omega arith; index-is = slot-inside k b (S .distance) (S .inside) (S .near) }))
 
   elsewhere : (i : ℕ) → (i ≡ slot k b (S .distance) → ⊥) → cell work′ k hash i ≡ cell work k hash i
-  elsewhere i h = rw (S .is) (cell-store-other work k hash (slot k b (S .distance)) v hash i (λ e q. h (sym q)))
+  elsewhere i h = rw (S .is) (cell-store-other work k hash (slot k b (S .distance)) v hash i (omega arith) (omega arith) (λ e q. h (sym q)))
 
   was-empty : cell work k hash (slot k b (S .distance)) ≡ 0
   was-empty = S .first .empty (S .near)
