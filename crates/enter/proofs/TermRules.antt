@@ -23,7 +23,7 @@ use Rattle.segments.proofs.Prints.{Octets}
 use Rattle.compare.specs.View.{viewed, numbers, segmentsAt}
 use Rattle.compare.specs.declared.View.the-variants.{Depth}
 use Rattle.compare.proofs.Listed.{greatest-term}
-use Rattle.slots.specs.Slots.{Indexed}
+use Rattle.search.specs.Searchable.{Indexed}
 use Rattle.search.specs.Found.{Enrols}
 use Rattle.search.proofs.Entered.{indexed-term}
 use Rattle.record_rules.specs.Terms.{ruleTold, TermRule}
@@ -175,7 +175,7 @@ module _ {file : Bytes} {work : List ℕ} {k o n r : ℕ} (octets : Octets file)
     -- what is sought is the place of the type
     sought-is : (f : TermFile) (I : Indexed file f work k) → types ≡ typeCount f → {t : Tm} (P : TermParts file f o t) → ty ≡ orElse types (sought I P)
     unfolding typeCount sought
-    sought-is f I c P = T .go f (I .index) (I .slots) c (P .m) (P .rs) (P .reads) (P .in-range)
+    sought-is f I c P = T .go f I c (P .m) (P .rs) (P .reads) (P .in-range)
 
     -- rules 12 and 13 are left
     rules-left : {f : TermFile} {t : Tm} (I : Indexed file f work k) (P : TermParts file f o t) → broken (rules f (term t)) ≡ broken ((12, isSome (sought I P)) ∷ (13, ltb (length (terms f)) 60000 && leb (suc (deepest work k termDepth P)) 256) ∷ [])

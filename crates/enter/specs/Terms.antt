@@ -9,7 +9,7 @@ use Rattle.script_spec.specs.Tree.{Tm, typeOf, depth}
 use Rattle.script_spec.specs.File.{TermFile, term, types, terms, typeAt, earlier}
 use Rattle.index.specs.First.{firstType}
 use Rattle.index.specs.Meaning.{Stands}
-use Rattle.slots.specs.Slots.{Indexed}
+use Rattle.search.specs.Searchable.{Indexed}
 use Rattle.term_type.specs.Sought.{TypeSought}
 use Rattle.enter.specs.Entering.{Outcome, typeCount}
 use Rattle.enter.specs.declared.Entered.{Entered}

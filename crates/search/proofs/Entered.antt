@@ -1,11 +1,11 @@
--- The index with depths and slots: of no records, and after a record of each kind is entered.
+-- The memory that is indexed and can be searched: for no records, and after a record of each kind is entered.
 -- Assumes nothing.
 use mathlib.Core.Path.{_≡_, refl, sym, ap, _∙_, subst}
 use Prim.Native.Nat.{ℕ, suc, _+_, _*_, _≤_, _<_}
 use native.Mathlib.Nat.{not-suc-le-zero, le-refl}
 use native.Mathlib.Omega.{arith}
 use mathlib.Core.List.{List, [], _∷_, _++_}
-use lib.ListN.{length, length-append}
+use lib.ListN.{length, length-append, replicate}
 use Rattle.script_spec.specs.Base.{Bytes, collect}
 use Rattle.script_spec.specs.Tree.{Ty, Fun, Tm, typeOf, depth}
 use Rattle.script_spec.specs.File.{TermFile, Named, type, enum, func, term, input, types, funs, terms, enums, typeAt, earlier}
@@ -14,37 +14,38 @@ use Rattle.index.specs.First.{canonical, firstType}
 use Rattle.index.specs.Standing.{entryAt}
 use Rattle.index.specs.Meaning.{Stands}
 use Rattle.index.specs.Meaning as meaning
-use Rattle.index.proofs.Cells.{cell-store-other}
+use Rattle.index.proofs.Cells.{cell-store-other, cell-zeros}
 use Rattle.index.proofs.Growth.{counts-fewer, lists-type, lists-func, lists-term, lists-enum, lists-input}
 use Rattle.index.proofs.Later.{canonical-kept}
 use Rattle.index.proofs.Stores.{Changed, changed-refl, type-stored, fun-stored, term-stored, enum-stored}
 use Rattle.index.proofs.Rows.{untouched}
 use Rattle.index.proofs.Entered as rows
 use Rattle.index.proofs.Names.{Stays, reached-kept, name-last, names-added}
-use Rattle.index.specs.Names.{codeOf, nameHome, Reached, enumName}
-use Rattle.slots.specs.Slots.{empties, homeOf, entries, Indexed}
-use Rattle.slots.specs.Storing.{Stored}
+use Rattle.index.specs.Names.{nameHome, Reached, enumName}
+use Rattle.slots.specs.Slots.{empties, homeOf, entries}
 use Rattle.slots.proofs.Ring.{empties-all, empties-same}
 use Rattle.slots.proofs.Reach.{stored-stays, stored-fewer, reached-new}
+use Rattle.search.specs.Searchable.{Indexed}
 use Rattle.search.specs.Found.{Enrols}
+use Rattle.search.specs.Named.{NewName}
 use Rattle.search.proofs.Numbers.{entries-read, type-looks, fun-looks, term-looks, type-found, fun-found, term-found}
 use Rattle.search.proofs.Growth.{stored-changed, enrolled-changed, enrolled-stays, enrolled-fewer, enrolled-reached, types-kept, funs-kept, terms-kept, slots-grown}
 
--- a memory whose slots are empty is the index of no records
-pub indexed-none : (file : Bytes) (work : List ℕ) (k : ℕ) → 12 * k ≤ length work → k ≤ 1048576 → ((i : ℕ) → cell work k hash i ≡ 0) → Indexed file [] work k
+-- a memory of zeros is the index of no records
+pub indexed-none : (file : Bytes) (work : List ℕ) (k size : ℕ) → 12 * k ≤ length work → k ≤ 1048576 → work ≡ replicate size 0 → Indexed file [] work k
 unfolding types funs terms collect
-indexed-none file work k fits small empty =
+indexed-none file work k size fits small zeros =
     let I = rows.indexed-none file work k fits in
     record {
       index = I .index;
       depths = I .depths;
-      slots =
+      searchable =
           record {
             small = small;
             type-slots = λ n l. absurd (not-suc-le-zero l);
             fun-slots = λ n l. absurd (not-suc-le-zero l);
             term-slots = λ n l. absurd (not-suc-le-zero l);
-            taken = omega (arith, empties-all (cell work k hash) k empty);
+            taken = omega (arith, empties-all (cell work k hash) k (λ i. rw zeros (cell-zeros size k hash i)));
           };
     }
 
@@ -63,10 +64,10 @@ one-more xs x e = rw (e, length-append) (omega arith)
 
 module _ {file : Bytes} {f : TermFile} {work : List ℕ} {k : ℕ} (I : Indexed file f work k) (room : suc (length f) ≤ k) where
   empty-left : 0 < empties (cell work k hash) k
-  empty-left = omega (arith, I .slots .taken)
+  empty-left = omega (arith, I .searchable .taken)
 
   few : length f < 1048576
-  few = omega (arith, I .slots .small)
+  few = omega (arith, I .searchable .small)
 
   without : meaning.Indexed file f work k
   without = record { index = I .index; depths = I .depths }
@@ -76,7 +77,7 @@ module _ {file : Bytes} {f : TermFile} {work : List ℕ} {k : ℕ} (I : Indexed 
   indexed-type {work₀} {o} {m} {d} {t} E s deep =
       let n = length (types f) in
       let work′ = store (store (store work₀ k typeOffset n o) k typeFirst n m) k typeDepth n d in
-      let A = E .go f (s .entry) (entries file work k typeOffset) (type-looks (I .index) (I .slots .type-slots) s) (omega (arith, few, counts-fewer f .types-fewer)) empty-left in
+      let A = E .go f (s .entry) (entries file work k typeOffset) (type-looks (I .index) (I .searchable .type-slots) s) (omega (arith, few, counts-fewer f .types-fewer)) empty-left in
       let C = enrolled-changed A 0 3 n in
       let fits = I .index .fits in
       let S = type-stored work₀ k n (rw (C .same-size) fits) (omega (arith, counts-fewer f .types-fewer)) o m d in
@@ -89,10 +90,10 @@ module _ {file : Bytes} {f : TermFile} {work : List ℕ} {k : ℕ} (I : Indexed 
       record {
         index = J .index;
         depths = J .depths;
-        slots =
-            slots-grown file f (type t) k work work′ (I .index) U (I .slots) (enrolled-stays A fits work′ same) (enrolled-fewer A fits work′ same)
+        searchable =
+            slots-grown file f (type t) k work work′ (I .index) U (I .searchable) (enrolled-stays A fits work′ same) (enrolled-fewer A fits work′ same)
             (λ l. subst (λ (count : ℕ). Reached (homeOf k) k (cell work′ k hash) 0 count (λ m. canonical (f ++ (type t ∷ [])) (entries file work′ k typeOffset m)) n) (one-more (types f) t (L .types-are))
-            (enrolled-reached A fits work′ same _ (types-kept file f (type t) k work work′ (I .index) U) (entry-added file f (type t) k work′ typeOffset n (S .offset-is) s) (I .slots .type-slots)))
+            (enrolled-reached A fits work′ same _ (types-kept file f (type t) k work work′ (I .index) U) (entry-added file f (type t) k work′ typeOffset n (S .offset-is) s) (I .searchable .type-slots)))
             (λ l. absurd (omega (arith, ap length (L .funs-are))))
             (λ l. absurd (omega (arith, ap length (L .terms-are))));
       }
@@ -102,7 +103,7 @@ module _ {file : Bytes} {f : TermFile} {work : List ℕ} {k : ℕ} (I : Indexed 
   indexed-func {work₀} {o} {m} {g} E s =
       let n = length (funs f) in
       let work′ = store (store work₀ k funOffset n o) k funFirst n m in
-      let A = E .go f (s .entry) (entries file work k funOffset) (fun-looks (I .index) (I .slots .fun-slots) s) (omega (arith, few, counts-fewer f .funs-fewer)) empty-left in
+      let A = E .go f (s .entry) (entries file work k funOffset) (fun-looks (I .index) (I .searchable .fun-slots) s) (omega (arith, few, counts-fewer f .funs-fewer)) empty-left in
       let C = enrolled-changed A 3 6 n in
       let fits = I .index .fits in
       let S = fun-stored work₀ k n (rw (C .same-size) fits) (omega (arith, counts-fewer f .funs-fewer)) o m in
@@ -115,11 +116,11 @@ module _ {file : Bytes} {f : TermFile} {work : List ℕ} {k : ℕ} (I : Indexed 
       record {
         index = J .index;
         depths = J .depths;
-        slots =
-            slots-grown file f (func g) k work work′ (I .index) U (I .slots) (enrolled-stays A fits work′ same) (enrolled-fewer A fits work′ same)
+        searchable =
+            slots-grown file f (func g) k work work′ (I .index) U (I .searchable) (enrolled-stays A fits work′ same) (enrolled-fewer A fits work′ same)
             (λ l. absurd (omega (arith, ap length (L .types-are))))
             (λ l. subst (λ (count : ℕ). Reached (homeOf k) k (cell work′ k hash) 1 count (λ m. canonical (f ++ (func g ∷ [])) (entries file work′ k funOffset m)) n) (one-more (funs f) g (L .funs-are))
-            (enrolled-reached A fits work′ same _ (funs-kept file f (func g) k work work′ (I .index) U) (entry-added file f (func g) k work′ funOffset n (S .offset-is) s) (I .slots .fun-slots)))
+            (enrolled-reached A fits work′ same _ (funs-kept file f (func g) k work work′ (I .index) U) (entry-added file f (func g) k work′ funOffset n (S .offset-is) s) (I .searchable .fun-slots)))
             (λ l. absurd (omega (arith, ap length (L .terms-are))));
       }
 
@@ -130,7 +131,7 @@ module _ {file : Bytes} {f : TermFile} {work : List ℕ} {k : ℕ} (I : Indexed 
   indexed-term {work₀} {o} {m} {τ} {d} {t} E s below type-is type-first deep =
       let n = length (terms f) in
       let work′ = store (store (store (store work₀ k termOffset n o) k termFirst n m) k termType n τ) k termDepth n d in
-      let A = E .go f (s .entry) (entries file work k termOffset) (term-looks (I .index) (I .slots .term-slots) s) (omega (arith, few, counts-fewer f .terms-fewer)) empty-left in
+      let A = E .go f (s .entry) (entries file work k termOffset) (term-looks (I .index) (I .searchable .term-slots) s) (omega (arith, few, counts-fewer f .terms-fewer)) empty-left in
       let C = enrolled-changed A 6 10 n in
       let fits = I .index .fits in
       let S = term-stored work₀ k n (rw (C .same-size) fits) (omega (arith, counts-fewer f .terms-fewer)) o m τ d in
@@ -144,19 +145,19 @@ module _ {file : Bytes} {f : TermFile} {work : List ℕ} {k : ℕ} (I : Indexed 
       record {
         index = J .index;
         depths = J .depths;
-        slots =
-            slots-grown file f (term t) k work work′ (I .index) U (I .slots) (enrolled-stays A fits work′ same) (enrolled-fewer A fits work′ same)
+        searchable =
+            slots-grown file f (term t) k work work′ (I .index) U (I .searchable) (enrolled-stays A fits work′ same) (enrolled-fewer A fits work′ same)
             (λ l. absurd (omega (arith, ap length (L .types-are))))
             (λ l. absurd (omega (arith, ap length (L .funs-are))))
             (λ l. subst (λ (count : ℕ). Reached (homeOf k) k (cell work′ k hash) 2 count (λ m. canonical (f ++ (term t ∷ [])) (entries file work′ k termOffset m)) n) (one-more (terms f) t (L .terms-are))
-            (enrolled-reached A fits work′ same _ (terms-kept file f (term t) k work work′ (I .index) U) (entry-added file f (term t) k work′ termOffset n (S .offset-is) s) (I .slots .term-slots)));
+            (enrolled-reached A fits work′ same _ (terms-kept file f (term t) k work work′ (I .index) U) (entry-added file f (term t) k work′ termOffset n (S .offset-is) s) (I .searchable .term-slots)));
       }
 
-  pub indexed-enum : {work₀ : List ℕ} {o : ℕ} {name : Bytes} {members : List Bytes} → Stored work work₀ k (nameHome k name) (codeOf (length (enums f)) 3)
-      → ((n : ℕ) → n < length (enums f) → enumName f n ≡ name → ⊥) → Stands file f (earlier f) o (enum name members)
+  pub indexed-enum : {work₀ : List ℕ} {o r : ℕ} {name : Bytes} {members : List Bytes} → NewName work work₀ k f (length (enums f)) name r → Stands file f (earlier f) o (enum name members)
       → Indexed file (f ++ (enum name members ∷ [])) (store work₀ k enumOffset (length (enums f)) o) k
-  indexed-enum {work₀} {o} {name} {members} T fresh s =
+  indexed-enum {work₀} {o} {r} {name} {members} N s =
       let n = length (enums f) in
+      let T = N .stored in
       let work′ = store work₀ k enumOffset n o in
       let C = stored-changed T 10 11 n in
       let fits = I .index .fits in
@@ -167,16 +168,16 @@ module _ {file : Bytes} {f : TermFile} {work : List ℕ} {k : ℕ} (I : Indexed 
       let L = lists-enum f name members in
       let new : Reached (nameHome k) k (cell work′ k hash) 3 (suc n) (enumName (f ++ (enum name members ∷ []))) n
       = reached-kept (record { same = λ i g. same i }) (λ m l. refl) (omega arith) n (omega arith) (reached-new fits T refl (ap (nameHome k) (sym (name-last f (f ++ (enum name members ∷ [])) name members (L .enums-are))))) in
-      let N =
+      let M =
       names-added f (f ++ (enum name members ∷ [])) name members (L .enums-are) stays (I .index .names)
-      (subst (λ (count : ℕ). Reached (nameHome k) k (cell work′ k hash) 3 count (enumName (f ++ (enum name members ∷ []))) n) (one-more (enums f) (name, members) (L .enums-are)) new) fresh in
-      let J = rows.indexed-enum without room (record { changed = D; offset-is = S .offset-is }) N s in
+      (subst (λ (count : ℕ). Reached (nameHome k) k (cell work′ k hash) 3 count (enumName (f ++ (enum name members ∷ []))) n) (one-more (enums f) (name, members) (L .enums-are)) new) (N .miss .none) in
+      let J = rows.indexed-enum without room (record { changed = D; offset-is = S .offset-is }) M s in
       let U = untouched f D (record { no-type = λ a. omega arith; no-fun = λ a b. omega arith; no-term = λ a b. omega arith; no-enum = λ a. le-refl _ }) in
       record {
         index = J .index;
         depths = J .depths;
-        slots =
-            slots-grown file f (enum name members) k work work′ (I .index) U (I .slots) stays
+        searchable =
+            slots-grown file f (enum name members) k work work′ (I .index) U (I .searchable) stays
             (omega (arith, stored-fewer fits T, empties-same (cell work₀ k hash) (cell work′ k hash) k (λ i l. same i)))
             (λ l. absurd (omega (arith, ap length (L .types-are))))
             (λ l. absurd (omega (arith, ap length (L .funs-are))))
@@ -192,8 +193,8 @@ module _ {file : Bytes} {f : TermFile} {work : List ℕ} {k : ℕ} (I : Indexed 
       record {
         index = J .index;
         depths = J .depths;
-        slots =
-            slots-grown file f (input t) k work work (I .index) U (I .slots) (record { same = λ i g. refl }) (omega arith)
+        searchable =
+            slots-grown file f (input t) k work work (I .index) U (I .searchable) (record { same = λ i g. refl }) (omega arith)
             (λ l. absurd (omega (arith, ap length (L .types-are))))
             (λ l. absurd (omega (arith, ap length (L .funs-are))))
             (λ l. absurd (omega (arith, ap length (L .terms-are))));
