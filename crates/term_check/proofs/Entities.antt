@@ -1,7 +1,7 @@
 -- What a record may refer to by the offsets of the types is what it may refer to after the records: the mark of a type says
 -- whether it is an entity type.
 -- Assumes nothing.
-use mathlib.Core.Path.{_≡_, refl, sym, ap, _∙_}
+use mathlib.Core.Path.{_≡_, refl, ap, _∙_}
 use Prim.Native.Nat.{ℕ, _<_}
 use native.Mathlib.Omega.{arith}
 use native.Mathlib.Decide.{decLt}
