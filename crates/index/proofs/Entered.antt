@@ -1,6 +1,6 @@
 -- The index after a record of each kind is entered: its row is stored, and the index is that of the file with the record.
 -- Assumes nothing.
-use mathlib.Core.Path.{_≡_, refl, sym, ap, _∙_, subst}
+use mathlib.Core.Path.{_≡_, sym, ap, _∙_, subst}
 use Prim.Native.Nat.{ℕ, suc, _*_, _≤_, _<_}
 use native.Mathlib.Nat.{not-suc-le-zero, le-refl}
 use native.Mathlib.Omega.{arith}
@@ -12,20 +12,21 @@ use Rattle.script_spec.specs.Base.{Bytes, place, collect}
 use Rattle.script_spec.specs.Tree.{Ty, Fun, Tm, eqTy, eqFun, eqTm, typeOf, depth}
 use Rattle.script_spec.specs.Fields.{Entry}
 use Rattle.script_spec.specs.Fields as fields
-use Rattle.script_spec.specs.File.{TermFile, Named, type, enum, func, term, input, types, funs, terms, enums, typeAt, named, earlier}
+use Rattle.script_spec.specs.File.{TermFile, Named, type, enum, func, term, input, types, funs, terms, inputs, enums, typeAt, termAt, named, earlier}
 use Rattle.index.specs.Cells.{cell, hash}
 use Rattle.index.specs.Names.{Names}
 use Rattle.index.specs.First.{orElse, firstType, InRange}
-use Rattle.index.specs.Meaning.{Stands, counted, Indexed}
-use Rattle.index.proofs.Growth.{lists-type, lists-func, lists-term, lists-enum, lists-input, type-added, fun-added, term-added, types-kept}
+use Rattle.index.specs.Meaning.{Stands, counted, inputAt, Indexed}
+use Rattle.index.proofs.Growth.{lists-type, lists-func, lists-term, lists-enum, lists-input, type-added, fun-added, term-added, types-kept, terms-kept}
 use Rattle.index.proofs.Later.{more-append, in-range-more, named-kept}
-use Rattle.index.proofs.Stores.{changed-refl, TypeStored, FunStored, TermStored, EnumStored}
+use Rattle.index.proofs.Stores.{TypeStored, FunStored, TermStored, EnumStored, InputStored}
 use Rattle.index.proofs.Names.{Stays, names-none, names-same}
-use Rattle.index.proofs.Rows.{untouched, index-grown, depths-grown}
+use Rattle.index.proofs.Places.{place-last}
+use Rattle.index.proofs.Rows.{index-grown, depths-grown}
 
 -- any memory is the index of no records
 pub indexed-none : (file : Bytes) (work : List ℕ) (k : ℕ) → 12 * k ≤ length work → Indexed file [] work k
-unfolding types funs terms enums collect
+unfolding types funs terms inputs enums collect
 indexed-none file work k fits =
     record {
       index =
@@ -35,10 +36,8 @@ indexed-none file work k fits =
             fun-row = λ n l. absurd (not-suc-le-zero l);
             term-row = λ n l. absurd (not-suc-le-zero l);
             enum-row = λ n l. absurd (not-suc-le-zero l);
-            types-fit = omega arith;
-            funs-fit = omega arith;
-            terms-fit = omega arith;
-            enums-fit = omega arith;
+            input-row = λ n l. absurd (not-suc-le-zero l);
+            fit = omega arith;
             names = names-none work k;
           };
       depths = record { type-depth = λ n l. absurd (not-suc-le-zero l); term-depth = λ n l. absurd (not-suc-le-zero l) };
@@ -97,60 +96,59 @@ module _ {file : Bytes} {f : TermFile} {o : ℕ} {r : Named} (s : Stands file f 
 
 -- ---- each kind
 
-module _ {file : Bytes} {f : TermFile} {work work′ : List ℕ} {k : ℕ} (I : Indexed file f work k) (room : suc (length f) ≤ k) {o : ℕ} where
-  pub indexed-type : {m d : ℕ} {t : Ty} → TypeStored k (length (types f)) o m d work work′ → Stays (cell work k hash) (cell work′ k hash) → Stands file f (earlier f) o (type t) → m ≡ orElse (length (types f)) (place (eqTy t) (types f)) → d ≡ depth t
+module _ {file : Bytes} {f : TermFile} {work work′ : List ℕ} {k : ℕ} (I : Indexed file f work k) (room : suc (length f) ≤ k) where
+  pub indexed-type : {o m d : ℕ} {t : Ty} → TypeStored f k o m d work work′ → Stays (cell work k hash) (cell work′ k hash) → Stands file f (earlier f) o (type t) → m ≡ orElse (length (types f)) (place (eqTy t) (types f)) → d ≡ depth t
       → Indexed file (f ++ (type t ∷ [])) work′ k
   unfolding OnlyTypes
   indexed-type {t} S stays s first-is depth-is =
-      let U = untouched f (S .changed) (record { no-type = λ a. le-refl _; no-fun = λ a b. omega arith; no-term = λ a b. omega arith; no-enum = λ a. omega arith }) in
       let L = lists-type f t in
       let A = type-added f t in
       record {
         index =
-            index-grown file f (type t) k U (I .index) room
+            index-grown file f (type t) k (S .untouched) (I .index) room
             (λ l. record { stands = rw (S .offset-is, A .name-added) (stands-types s _ (le-refl _) tt); first = S .first-is ∙ first-is ∙ sym (A .first-added) })
             (λ l. absurd (omega (arith, ap length (L .funs-are))))
             (λ l. absurd (omega (arith, ap length (L .terms-are))))
             (λ l. absurd (omega (arith, ap length (L .enums-are))))
+            (λ l. absurd (omega (arith, ap length (L .inputs-are))))
             (names-same stays (I .index .names) (L .enums-are));
         depths =
-            depths-grown file f (type t) k U (I .depths)
+            depths-grown file f (type t) k (S .untouched) (I .depths)
             (λ l. S .depth-is ∙ depth-is ∙ ap depth (sym (A .name-added)))
             (λ l. absurd (omega (arith, ap length (L .terms-are))));
       }
 
-  pub indexed-func : {m : ℕ} {g : Fun} → FunStored k (length (funs f)) o m work work′ → Stays (cell work k hash) (cell work′ k hash) → Stands file f (earlier f) o (func g) → m ≡ orElse (length (funs f)) (place (eqFun g) (funs f))
+  pub indexed-func : {o m : ℕ} {g : Fun} → FunStored f k o m work work′ → Stays (cell work k hash) (cell work′ k hash) → Stands file f (earlier f) o (func g) → m ≡ orElse (length (funs f)) (place (eqFun g) (funs f))
       → Indexed file (f ++ (func g ∷ [])) work′ k
   unfolding OnlyTypes earlier
   indexed-func {g} S stays s first-is =
-      let U = untouched f (S .changed) (record { no-type = λ a. omega arith; no-fun = λ a b. le-refl _; no-term = λ a b. omega arith; no-enum = λ a. omega arith }) in
       let L = lists-func f g in
       let A = fun-added f g in
       record {
         index =
-            index-grown file f (func g) k U (I .index) room
+            index-grown file f (func g) k (S .untouched) (I .index) room
             (λ l. absurd (omega (arith, ap length (L .types-are))))
             (λ l. record { stands = rw (S .offset-is, A .name-added) (stands-types s _ (more-append f (func g) .types-more) tt); first = S .first-is ∙ first-is ∙ sym (A .first-added) })
             (λ l. absurd (omega (arith, ap length (L .terms-are))))
             (λ l. absurd (omega (arith, ap length (L .enums-are))))
+            (λ l. absurd (omega (arith, ap length (L .inputs-are))))
             (names-same stays (I .index .names) (L .enums-are));
         depths =
-            depths-grown file f (func g) k U (I .depths)
+            depths-grown file f (func g) k (S .untouched) (I .depths)
             (λ l. absurd (omega (arith, ap length (L .types-are))))
             (λ l. absurd (omega (arith, ap length (L .terms-are))));
       }
 
-  pub indexed-term : {m τ d : ℕ} {t : Tm} → TermStored k (length (terms f)) o m τ d work work′ → Stays (cell work k hash) (cell work′ k hash) → Stands file f (earlier f) o (term t) → m ≡ orElse (length (terms f)) (place (eqTm t) (terms f))
+  pub indexed-term : {o m τ d : ℕ} {t : Tm} → TermStored f k o m τ d (length f) work work′ → Stays (cell work k hash) (cell work′ k hash) → Stands file f (earlier f) o (term t) → m ≡ orElse (length (terms f)) (place (eqTm t) (terms f))
       → τ < length (types f) → typeAt f τ ≡ typeOf t → firstType f τ ≡ τ → d ≡ depth t → Indexed file (f ++ (term t ∷ [])) work′ k
   unfolding earlier
   indexed-term {τ} {t} S stays s first-is below type-is type-first depth-is =
-      let U = untouched f (S .changed) (record { no-type = λ a. omega arith; no-fun = λ a b. omega arith; no-term = λ a b. le-refl _; no-enum = λ a. omega arith }) in
       let L = lists-term f t in
       let A = term-added f t in
       let K = types-kept f (term t) in
       record {
         index =
-            index-grown file f (term t) k U (I .index) room
+            index-grown file f (term t) k (S .untouched) (I .index) room
             (λ l. absurd (omega (arith, ap length (L .types-are))))
             (λ l. absurd (omega (arith, ap length (L .funs-are))))
             (λ l. record {
@@ -159,50 +157,55 @@ module _ {file : Bytes} {f : TermFile} {work work′ : List ℕ} {k : ℕ} (I : 
               type-below = rw (S .type-is) (omega (arith, more-append f (term t) .types-more));
               type-is = rw (S .type-is, A .name-added) (K .name-kept τ below ∙ type-is);
               type-first = rw (S .type-is) (K .first-kept τ below ∙ type-first);
+              place-is = S .place-is ∙ sym (place-last f t);
             })
             (λ l. absurd (omega (arith, ap length (L .enums-are))))
+            (λ l. absurd (omega (arith, ap length (L .inputs-are))))
             (names-same stays (I .index .names) (L .enums-are));
         depths =
-            depths-grown file f (term t) k U (I .depths)
+            depths-grown file f (term t) k (S .untouched) (I .depths)
             (λ l. absurd (omega (arith, ap length (L .types-are))))
             (λ l. S .depth-is ∙ depth-is ∙ ap depth (sym (A .name-added)));
       }
 
-  pub indexed-enum : {name : Bytes} {members : List Bytes} → EnumStored k (length (enums f)) o work work′ → Names (f ++ (enum name members ∷ [])) work′ k → Stands file f (earlier f) o (enum name members) → Indexed file (f ++ (enum name members ∷ [])) work′ k
+  pub indexed-enum : {o : ℕ} {name : Bytes} {members : List Bytes} → EnumStored f k o work work′ → Names (f ++ (enum name members ∷ [])) work′ k → Stands file f (earlier f) o (enum name members) → Indexed file (f ++ (enum name members ∷ [])) work′ k
   indexed-enum {name} {members} S names s =
-      let U = untouched f (S .changed) (record { no-type = λ a. omega arith; no-fun = λ a b. omega arith; no-term = λ a b. omega arith; no-enum = λ a. le-refl _ }) in
       let L = lists-enum f name members in
       let last : getD (enums (f ++ (enum name members ∷ []))) (length (enums f)) ([], []) ≡ (name, members) = rw (L .enums-are) (getD-append-seam (enums f) (name, members) [] ([], [])) in
       record {
         index =
-            index-grown file f (enum name members) k U (I .index) room
+            index-grown file f (enum name members) k (S .untouched) (I .index) room
             (λ l. absurd (omega (arith, ap length (L .types-are))))
             (λ l. absurd (omega (arith, ap length (L .funs-are))))
             (λ l. absurd (omega (arith, ap length (L .terms-are))))
             (λ l. rw last record { stands = rw (S .offset-is) (s .reads ∙ ap some (enum-entry f (s .entry) name members (s .names))) })
+            (λ l. absurd (omega (arith, ap length (L .inputs-are))))
             names;
         depths =
-            depths-grown file f (enum name members) k U (I .depths)
+            depths-grown file f (enum name members) k (S .untouched) (I .depths)
             (λ l. absurd (omega (arith, ap length (L .types-are))))
             (λ l. absurd (omega (arith, ap length (L .terms-are))));
       }
 
--- an input has no row
-pub indexed-input : {file : Bytes} {f : TermFile} {work : List ℕ} {k : ℕ} → Indexed file f work k → suc (length f) ≤ k → (t : Tm) → Indexed file (f ++ (input t ∷ [])) work k
-indexed-input {file} {f} {work} {k} I room t =
-    let n = length (types f) in
-    let U = untouched f {n = n} (changed-refl k 0 0 n work) (record { no-type = λ a. le-refl _; no-fun = λ a b. omega arith; no-term = λ a b. omega arith; no-enum = λ a. omega arith }) in
-    let L = lists-input f t in
-    record {
-      index =
-          index-grown file f (input t) k U (I .index) room
-          (λ l. absurd (omega (arith, ap length (L .types-are))))
-          (λ l. absurd (omega (arith, ap length (L .funs-are))))
-          (λ l. absurd (omega (arith, ap length (L .terms-are))))
-          (λ l. absurd (omega (arith, ap length (L .enums-are))))
-          (names-same (record { same = λ i h. refl }) (I .index .names) (L .enums-are));
-      depths =
-          depths-grown file f (input t) k U (I .depths)
-          (λ l. absurd (omega (arith, ap length (L .types-are))))
-          (λ l. absurd (omega (arith, ap length (L .terms-are))));
-    }
+  pub indexed-input : {n : ℕ} → InputStored f k n work work′ → Stays (cell work k hash) (cell work′ k hash) → n < length (terms f) → Indexed file (f ++ (input (termAt f n) ∷ [])) work′ k
+  unfolding earlier inputAt
+  indexed-input {n} S stays below =
+      let t = termAt f n in
+      let L = lists-input f t in
+      record {
+        index =
+            index-grown file f (input t) k (S .untouched) (I .index) room
+            (λ l. absurd (omega (arith, ap length (L .types-are))))
+            (λ l. absurd (omega (arith, ap length (L .funs-are))))
+            (λ l. absurd (omega (arith, ap length (L .terms-are))))
+            (λ l. absurd (omega (arith, ap length (L .enums-are))))
+            (λ l. record {
+              below = rw (S .term-is) (omega (arith, more-append f (input t) .terms-more));
+              is = rw (S .term-is) (terms-kept f (input t) .name-kept n below ∙ sym (rw (L .inputs-are) (getD-append-seam (inputs f) t [] _)));
+            })
+            (names-same stays (I .index .names) (L .enums-are));
+        depths =
+            depths-grown file f (input t) k (S .untouched) (I .depths)
+            (λ l. absurd (omega (arith, ap length (L .types-are))))
+            (λ l. absurd (omega (arith, ap length (L .terms-are))));
+      }

@@ -140,14 +140,15 @@ module _ (f : TermFile) where
 
 -- ---- all numbers
 
--- a record is at most one type, one function, one term and one enum
-one-each : (r : Named) → (length (types (r ∷ [])) ≤ 1) × (length (funs (r ∷ [])) ≤ 1) × (length (terms (r ∷ [])) ≤ 1) × (length (enums (r ∷ [])) ≤ 1)
-unfolding types funs terms enums collect
-one-each (type t) = (omega arith, omega arith, omega arith, omega arith)
-one-each (enum n ms) = (omega arith, omega arith, omega arith, omega arith)
-one-each (func g) = (omega arith, omega arith, omega arith, omega arith)
-one-each (term t) = (omega arith, omega arith, omega arith, omega arith)
-one-each (input t) = (omega arith, omega arith, omega arith, omega arith)
+-- a record is at most one of each kind
+one-each : (r : Named)
+    → (length (types (r ∷ [])) ≤ 1) × (length (funs (r ∷ [])) ≤ 1) × (length (terms (r ∷ [])) ≤ 1) × (length (enums (r ∷ [])) ≤ 1) × (length (inputs (r ∷ [])) ≤ 1)
+unfolding types funs terms enums inputs collect
+one-each (type t) = (omega arith, omega arith, omega arith, omega arith, omega arith)
+one-each (enum n ms) = (omega arith, omega arith, omega arith, omega arith, omega arith)
+one-each (func g) = (omega arith, omega arith, omega arith, omega arith, omega arith)
+one-each (term t) = (omega arith, omega arith, omega arith, omega arith, omega arith)
+one-each (input t) = (omega arith, omega arith, omega arith, omega arith, omega arith)
 
 -- a place of the longer list is one of the shorter, or the next
 abbrev pub Grown : {A : Type 0} → List A → List A → Type 0
@@ -171,31 +172,27 @@ module _ (f : TermFile) (r : Named) where
   pub enums-grown : Grown (enums f) (enums (f ++ (r ∷ [])))
   enums-grown = grown-append (enums f) (enums (r ∷ [])) (lists-append f r .enums-are) (one-each r .3)
 
+  pub inputs-grown : Grown (inputs f) (inputs (f ++ (r ∷ [])))
+  inputs-grown = grown-append (inputs f) (inputs (r ∷ [])) (lists-append f r .inputs-are) (one-each r .4)
+
 -- ---- counts
 
--- a file has no more types, functions, terms and enums than records
+-- a file has as many types, functions, terms, enums and inputs together as records
+pub counts-together : (f : TermFile) → length (types f) + length (funs f) + length (terms f) + length (enums f) + length (inputs f) ≡ length f
+unfolding types funs terms inputs enums collect
+counts-together [] = refl
+counts-together (type t ∷ f) = omega (arith, counts-together f)
+counts-together (enum n ms ∷ f) = omega (arith, counts-together f)
+counts-together (func g ∷ f) = omega (arith, counts-together f)
+counts-together (term t ∷ f) = omega (arith, counts-together f)
+counts-together (input t ∷ f) = omega (arith, counts-together f)
+
+-- and no more of each kind
 pub record Counted (f : TermFile) : Type 0 where
   pub types-fewer : length (types f) ≤ length f
   pub funs-fewer : length (funs f) ≤ length f
   pub terms-fewer : length (terms f) ≤ length f
   pub enums-fewer : length (enums f) ≤ length f
 
--- one list more
-counts-append : {A : Type 0} (xs ys : List A) {zs : List A} (n : ℕ) → zs ≡ xs ++ ys → length xs ≤ 1 → length ys ≤ n → length zs ≤ suc n
-counts-append xs ys n e one h = rw (e, length-append) (omega arith)
-
-counts-none : Counted []
-unfolding types funs terms enums collect
-counts-none = record { types-fewer = omega arith; funs-fewer = omega arith; terms-fewer = omega arith; enums-fewer = omega arith }
-
 pub counts-fewer : (f : TermFile) → Counted f
-unfolding types funs terms enums
-counts-fewer [] = counts-none
-counts-fewer (r ∷ f) =
-    let h = counts-fewer f in
-    record {
-      types-fewer = counts-append (types (r ∷ [])) (types f) (length f) (collect-append _ (r ∷ []) f) (one-each r .0) (h .types-fewer);
-      funs-fewer = counts-append (funs (r ∷ [])) (funs f) (length f) (collect-append _ (r ∷ []) f) (one-each r .1) (h .funs-fewer);
-      terms-fewer = counts-append (terms (r ∷ [])) (terms f) (length f) (collect-append _ (r ∷ []) f) (one-each r .2) (h .terms-fewer);
-      enums-fewer = counts-append (enums (r ∷ [])) (enums f) (length f) (collect-append _ (r ∷ []) f) (one-each r .3) (h .enums-fewer);
-    }
+counts-fewer f = let few = counts-together f in record { types-fewer = omega arith; funs-fewer = omega arith; terms-fewer = omega arith; enums-fewer = omega arith }

@@ -1,4 +1,5 @@
 pub mod Cells
+pub mod Places
 pub mod Stores
 pub mod Names
 pub mod Rows

@@ -10,40 +10,14 @@ use lib.ListN.{length, getD, length-append, List·getD-append}
 use Rattle.script_spec.specs.Base.{Bytes}
 use Rattle.script_spec.specs.Tree.{typeOf, depth}
 use Rattle.script_spec.specs.Fields.{Earlier}
-use Rattle.script_spec.specs.File.{TermFile, Named, types, funs, terms, enums, typeAt, termAt, earlier}
-use Rattle.index.specs.Cells.{cell, typeOffset, typeFirst, typeDepth, funOffset, funFirst, termOffset, termFirst, termType, termDepth, enumOffset}
+use Rattle.script_spec.specs.File.{TermFile, Named, types, funs, terms, inputs, enums, typeAt, termAt, earlier}
+use Rattle.index.specs.Cells.{cell, typeOffset, typeFirst, typeDepth, funOffset, funFirst, termOffset, termFirst, termType, termDepth, enumOffset, termPlace, inputTerm}
 use Rattle.index.specs.Names.{Names}
-use Rattle.index.specs.Meaning.{Stands, counted, TypeRow, FunRow, TermRow, EnumRow, Index, Depths}
-use Rattle.index.proofs.Growth.{lists-append, types-kept, funs-kept, terms-kept, Grown, types-grown, funs-grown, terms-grown, enums-grown, counts-fewer}
+use Rattle.index.specs.Meaning.{Stands, counted, inputAt, TypeRow, FunRow, TermRow, EnumRow, InputRow, Index, Depths}
+use Rattle.index.proofs.Growth.{lists-append, types-kept, funs-kept, terms-kept, Grown, types-grown, funs-grown, terms-grown, enums-grown, inputs-grown, counts-fewer}
 use Rattle.index.proofs.Later.{More, more-append, in-range-more, named-kept}
-use Rattle.index.proofs.Stores.{Changed}
-
--- ---- entries that stay
-
--- the rows of the records f have what they had
-pub record Untouched (f : TermFile) (k : ℕ) (work work′ : List ℕ) : Type 0 where
-  pub same-size : length work′ ≡ length work
-  pub same-types : (n : ℕ) → n < length (types f) → (column : ℕ) → column < 3 → cell work′ k column n ≡ cell work k column n
-  pub same-funs : (n : ℕ) → n < length (funs f) → (column : ℕ) → 3 ≤ column → column < 6 → cell work′ k column n ≡ cell work k column n
-  pub same-terms : (n : ℕ) → n < length (terms f) → (column : ℕ) → 6 ≤ column → column < 10 → cell work′ k column n ≡ cell work k column n
-  pub same-enums : (n : ℕ) → n < length (enums f) → cell work′ k enumOffset n ≡ cell work k enumOffset n
-
--- the row n of these columns is of no record of f
-pub record Beyond (f : TermFile) (low high n : ℕ) : Type 0 where
-  pub no-type : low < 3 → length (types f) ≤ n
-  pub no-fun : low < 6 → 3 < high → length (funs f) ≤ n
-  pub no-term : low < 10 → 6 < high → length (terms f) ≤ n
-  pub no-enum : 10 < high → length (enums f) ≤ n
-
-pub untouched : (f : TermFile) {k low high n : ℕ} {work work′ : List ℕ} → Changed k low high n work work′ → Beyond f low high n → Untouched f k work work′
-untouched f C B =
-    record {
-      same-size = C .same-size;
-      same-types = λ i l column h. C .same column i (omega arith) (λ a b e. omega (arith, B .no-type (omega arith)));
-      same-funs = λ i l column g h. C .same column i (omega arith) (λ a b e. omega (arith, B .no-fun (omega arith) (omega arith)));
-      same-terms = λ i l column g h. C .same column i (omega arith) (λ a b e. omega (arith, B .no-term (omega arith) (omega arith)));
-      same-enums = λ i l. C .same enumOffset i (omega arith) (λ a b e. omega (arith, B .no-enum (omega arith)));
-    }
+use Rattle.index.proofs.Places.{place-kept}
+use Rattle.index.proofs.Stores.{used, Untouched}
 
 -- what holds of the old numbers, and of the new one where there is one, holds of all
 all-rows : {A : Type 0} (xs zs : List A) (P : ℕ → Type 0) → Grown xs zs → ((n : ℕ) → n < length xs → P n) → (length xs < length zs → P (length xs)) → (n : ℕ) → n < length zs → P n
@@ -63,41 +37,52 @@ module _ (file : Bytes) (f : TermFile) (r : Named) (k : ℕ) {work work′ : Lis
       }
 
   type-kept : (n : ℕ) → n < length (types f) → TypeRow file f work k n → TypeRow file (f ++ (r ∷ [])) work′ k n
-  unfolding earlier counted
+  unfolding earlier counted used
   type-kept n l R =
       record {
         stands =
-            rw (U .same-types n l typeOffset (omega arith), types-kept f r .name-kept n l)
+            rw (U .same typeOffset n l, types-kept f r .name-kept n l)
             (stands-kept (record { types-more = omega arith; funs-more = omega arith; terms-more = omega arith }) (record { types-more = le-refl _; funs-more = le-refl _; terms-more = le-refl _ }) (R .stands));
-        first = U .same-types n l typeFirst (omega arith) ∙ R .first ∙ sym (types-kept f r .first-kept n l);
+        first = U .same typeFirst n l ∙ R .first ∙ sym (types-kept f r .first-kept n l);
       }
 
   fun-kept : (n : ℕ) → n < length (funs f) → FunRow file f work k n → FunRow file (f ++ (r ∷ [])) work′ k n
-  unfolding earlier counted
+  unfolding earlier counted used
   fun-kept n l R =
       record {
         stands =
-            rw (U .same-funs n l funOffset (omega arith) (omega arith), funs-kept f r .name-kept n l)
+            rw (U .same funOffset n l, funs-kept f r .name-kept n l)
             (stands-kept (record { types-more = le-refl _; funs-more = omega arith; terms-more = omega arith }) (record { types-more = more-append f r .types-more; funs-more = le-refl _; terms-more = le-refl _ }) (R .stands));
-        first = U .same-funs n l funFirst (omega arith) (omega arith) ∙ R .first ∙ sym (funs-kept f r .first-kept n l);
+        first = U .same funFirst n l ∙ R .first ∙ sym (funs-kept f r .first-kept n l);
       }
 
   term-kept : (n : ℕ) → n < length (terms f) → TermRow file f work k n → TermRow file (f ++ (r ∷ [])) work′ k n
-  unfolding earlier counted
+  unfolding earlier counted used
   term-kept n l R =
-      let same : cell work′ k termType n ≡ cell work k termType n = U .same-terms n l termType (omega arith) (omega arith) in
+      let same : cell work′ k termType n ≡ cell work k termType n = U .same termType n l in
       record {
         stands =
-            rw (U .same-terms n l termOffset (omega arith) (omega arith), terms-kept f r .name-kept n l)
+            rw (U .same termOffset n l, terms-kept f r .name-kept n l)
             (stands-kept (record { types-more = le-refl _; funs-more = le-refl _; terms-more = omega arith }) (record { types-more = more-append f r .types-more; funs-more = more-append f r .funs-more; terms-more = le-refl _ }) (R .stands));
-        first = U .same-terms n l termFirst (omega arith) (omega arith) ∙ R .first ∙ sym (terms-kept f r .first-kept n l);
+        first = U .same termFirst n l ∙ R .first ∙ sym (terms-kept f r .first-kept n l);
         type-below = rw same (omega (arith, R .type-below, more-append f r .types-more));
         type-is = rw same (types-kept f r .name-kept _ (R .type-below) ∙ R .type-is ∙ ap typeOf (sym (terms-kept f r .name-kept n l)));
         type-first = rw same (types-kept f r .first-kept _ (R .type-below) ∙ R .type-first);
+        place-is = U .same termPlace n l ∙ R .place-is ∙ sym (place-kept f r n l);
       }
 
   enum-kept : (n : ℕ) → n < length (enums f) → (p q : Bytes × List Bytes) → q ≡ p → EnumRow file f work k n (p .0) (p .1) → EnumRow file (f ++ (r ∷ [])) work′ k n (q .0) (q .1)
-  enum-kept n l p q e R = rw e record { stands = rw (U .same-enums n l) (R .stands) }
+  unfolding used
+  enum-kept n l p q e R = rw e record { stands = rw (U .same enumOffset n l) (R .stands) }
+
+  input-kept : (n : ℕ) → n < length (inputs f) → InputRow file f work k n → InputRow file (f ++ (r ∷ [])) work′ k n
+  unfolding used inputAt earlier
+  input-kept n l R =
+      let same : cell work′ k inputTerm n ≡ cell work k inputTerm n = U .same inputTerm n l in
+      record {
+        below = rw same (omega (arith, R .below, more-append f r .terms-more));
+        is = rw same (terms-kept f r .name-kept _ (R .below) ∙ R .is ∙ sym (rw (lists-append f r .inputs-are) (List·getD-append (inputs f) (inputs (r ∷ [])) _ n l)));
+      }
 
   -- ---- all rows
 
@@ -109,11 +94,10 @@ module _ (file : Bytes) (f : TermFile) (r : Named) (k : ℕ) {work work′ : Lis
       → (length (funs f) < length (funs (f ++ (r ∷ []))) → FunRow file (f ++ (r ∷ [])) work′ k (length (funs f)))
       → (length (terms f) < length (terms (f ++ (r ∷ []))) → TermRow file (f ++ (r ∷ [])) work′ k (length (terms f)))
       → (length (enums f) < length (enums (f ++ (r ∷ []))) → EnumRow file (f ++ (r ∷ [])) work′ k (length (enums f)) (getD (enums (f ++ (r ∷ []))) (length (enums f)) ([], []) .0) (getD (enums (f ++ (r ∷ []))) (length (enums f)) ([], []) .1))
+      → (length (inputs f) < length (inputs (f ++ (r ∷ []))) → InputRow file (f ++ (r ∷ [])) work′ k (length (inputs f)))
       → Names (f ++ (r ∷ [])) work′ k
       → Index file (f ++ (r ∷ [])) work′ k
-  index-grown I room new-type new-fun new-term new-enum names =
-      let few = counts-fewer (f ++ (r ∷ [])) in
-      let more : length (f ++ (r ∷ [])) ≤ k = rw length-append (omega arith) in
+  index-grown I room new-type new-fun new-term new-enum new-input names =
       record {
         fits = rw (U .same-size) (I .fits);
         type-row = all-rows (types f) (types (f ++ (r ∷ []))) (TypeRow file (f ++ (r ∷ [])) work′ k) (types-grown f r) (λ n l. type-kept n l (I .type-row n l)) new-type;
@@ -122,10 +106,8 @@ module _ (file : Bytes) (f : TermFile) (r : Named) (k : ℕ) {work work′ : Lis
         enum-row =
             all-rows (enums f) (enums (f ++ (r ∷ []))) (λ n. EnumRow file (f ++ (r ∷ [])) work′ k n (getD (enums (f ++ (r ∷ []))) n ([], []) .0) (getD (enums (f ++ (r ∷ []))) n ([], []) .1)) (enums-grown f r)
             (λ n l. enum-kept n l (getD (enums f) n ([], [])) (getD (enums (f ++ (r ∷ []))) n ([], [])) (enum-old n l) (I .enum-row n l)) new-enum;
-        types-fit = omega (arith, few .types-fewer);
-        funs-fit = omega (arith, few .funs-fewer);
-        terms-fit = omega (arith, few .terms-fewer);
-        enums-fit = omega (arith, few .enums-fewer);
+        input-row = all-rows (inputs f) (inputs (f ++ (r ∷ []))) (InputRow file (f ++ (r ∷ [])) work′ k) (inputs-grown f r) (λ n l. input-kept n l (I .input-row n l)) new-input;
+        fit = rw length-append (omega arith);
         names = names;
       }
 
@@ -133,12 +115,25 @@ module _ (file : Bytes) (f : TermFile) (r : Named) (k : ℕ) {work work′ : Lis
       → (length (types f) < length (types (f ++ (r ∷ []))) → cell work′ k typeDepth (length (types f)) ≡ depth (typeAt (f ++ (r ∷ [])) (length (types f))))
       → (length (terms f) < length (terms (f ++ (r ∷ []))) → cell work′ k termDepth (length (terms f)) ≡ depth (termAt (f ++ (r ∷ [])) (length (terms f))))
       → Depths file (f ++ (r ∷ [])) work′ k
+  unfolding used
   depths-grown D new-type new-term =
       record {
         type-depth =
             all-rows (types f) (types (f ++ (r ∷ []))) (λ n. cell work′ k typeDepth n ≡ depth (typeAt (f ++ (r ∷ [])) n)) (types-grown f r)
-            (λ n l. U .same-types n l typeDepth (omega arith) ∙ D .type-depth n l ∙ ap depth (sym (types-kept f r .name-kept n l))) new-type;
+            (λ n l. U .same typeDepth n l ∙ D .type-depth n l ∙ ap depth (sym (types-kept f r .name-kept n l))) new-type;
         term-depth =
             all-rows (terms f) (terms (f ++ (r ∷ []))) (λ n. cell work′ k termDepth n ≡ depth (termAt (f ++ (r ∷ [])) n)) (terms-grown f r)
-            (λ n l. U .same-terms n l termDepth (omega arith) (omega arith) ∙ D .term-depth n l ∙ ap depth (sym (terms-kept f r .name-kept n l))) new-term;
+            (λ n l. U .same termDepth n l ∙ D .term-depth n l ∙ ap depth (sym (terms-kept f r .name-kept n l))) new-term;
       }
+
+-- ---- counts that fit
+
+module _ {file : Bytes} {f : TermFile} {work : List ℕ} {k : ℕ} (I : Index file f work k) where
+  pub types-fit : length (types f) ≤ k
+  types-fit = omega (arith, I .fit, counts-fewer f .types-fewer)
+
+  pub funs-fit : length (funs f) ≤ k
+  funs-fit = omega (arith, I .fit, counts-fewer f .funs-fewer)
+
+  pub terms-fit : length (terms f) ≤ k
+  terms-fit = omega (arith, I .fit, counts-fewer f .terms-fewer)

@@ -1,106 +1,172 @@
--- Stores in one row: what the row has after them, and that every other row is as it was.
+-- Stores of the row of a record that a file has more: what the row has after them, and that the rows of the file are as they were.
 -- Assumes nothing.
 use mathlib.Core.Path.{_≡_, refl, _∙_}
-use Prim.Native.Nat.{ℕ, _*_, _≤_, _<_}
+use Prim.Native.Nat.{ℕ, suc, _+_, _*_, _≤_, _<_}
 use native.Mathlib.Omega.{arith}
-use mathlib.Core.List.{List}
-use lib.ListN.{length}
-use Rattle.index.specs.Cells.{cell, store, typeOffset, typeFirst, typeDepth, funOffset, funFirst, termOffset, termFirst, termType, termDepth, enumOffset}
-use Rattle.index.proofs.Cells.{length-store, cell-store-same, cell-store-other}
+use mathlib.Core.List.{List, [], _∷_}
+use lib.ListN.{length, getD}
+use Rattle.script_spec.specs.File.{TermFile, types, funs, terms, inputs, enums}
+use Rattle.index.specs.Cells.{placed, cell, store, typeOffset, typeFirst, typeDepth, funOffset, funFirst, termOffset, termFirst, termType, termDepth, enumOffset, hash, termPlace, inputTerm}
+use Rattle.index.proofs.Cells.{shared, Apart, length-store, cell-store-same, cell-store-apart}
+use Rattle.index.proofs.Growth.{counts-together}
 
--- only the entry n of the columns from `low` up to `high` has changed, and the column of hashes
-pub record Changed (k low high n : ℕ) (work work′ : List ℕ) : Type 0 where
+-- ---- rows that stay
+
+-- how many entries of each column the records f have
+unfoldable pub used : TermFile → ℕ → ℕ
+used f column =
+    let ty = length (types f) in
+    let fn = length (funs f) in
+    let tm = length (terms f) in
+    getD (ty ∷ ty ∷ ty ∷ fn ∷ fn ∷ fn ∷ tm ∷ tm ∷ tm ∷ tm ∷ length (enums f) ∷ 0 ∷ tm ∷ 0 ∷ 0 ∷ 0 ∷ 0 ∷ 0 ∷ 0 ∷ 0 ∷ 0 ∷ 0 ∷ length (inputs f) ∷ []) column 0
+
+-- the rows of the records f have what they had
+pub record Untouched (f : TermFile) (k : ℕ) (work work′ : List ℕ) : Type 0 where
   pub same-size : length work′ ≡ length work
-  pub same : (column i : ℕ) → column < 11 → (low ≤ column → column < high → i ≡ n → ⊥) → cell work′ k column i ≡ cell work k column i
+  pub same : (column i : ℕ) → i < used f column → cell work′ k column i ≡ cell work k column i
 
-module _ (k low high n : ℕ) (work : List ℕ) where
-  pub changed-refl : Changed k low high n work work
-  changed-refl = record { same-size = refl; same = λ column i h other. refl }
+pub untouched-refl : (f : TermFile) (k : ℕ) (work : List ℕ) → Untouched f k work work
+untouched-refl f k work = record { same-size = refl; same = λ column i l. refl }
 
-  pub changed-store : {work′ : List ℕ} → Changed k low high n work work′ → (column v : ℕ) → low ≤ column → column < high → Changed k low high n work (store work′ k column n v)
-  changed-store {work′} C column v a b =
-      record {
-        same-size = length-store work′ k column n v ∙ C .same-size;
-        same = λ column′ i h other. cell-store-other work′ k column n v column′ i (λ e q. other (omega arith) (omega arith) (omega arith)) ∙ C .same column′ i h other;
-      }
+pub untouched-then : {f : TermFile} {k : ℕ} {work work′ work″ : List ℕ} → Untouched f k work work′ → Untouched f k work′ work″ → Untouched f k work work″
+untouched-then U W = record { same-size = W .same-size ∙ U .same-size; same = λ column i l. W .same column i l ∙ U .same column i l }
+
+-- the entry n of a column is of no record of f, from whichever end the column is counted
+pub record Beyond (f : TermFile) (k column n : ℕ) : Type 0 where
+  pub after : used f column ≤ n
+  pub before : used f (shared column) + n < k
+
+pub untouched-store : {f : TermFile} {k : ℕ} {work work′ : List ℕ} → Untouched f k work work′ → (column n v : ℕ) → Beyond f k column n → Untouched f k work (store work′ k column n v)
+untouched-store {f} {k} {work} {work′} U column n v B =
+    record {
+      same-size = length-store work′ k column n v ∙ U .same-size;
+      same = λ column′ i l. cell-store-apart work′ k column n v column′ i (apart column′ i l) ∙ U .same column′ i l;
+    }
+  where
+    apart : (column′ i : ℕ) → i < used f column′ → Apart k column n column′ i
+    apart column′ i l = record { other = λ e q. omega (arith, rw e at (B .after)); facing = λ e q. omega (arith, rw e at (B .before)) }
+
+-- a slot
+pub untouched-slot : (f : TermFile) (k : ℕ) (work : List ℕ) (i v : ℕ) → i < k → Untouched f k work (store work k hash i v)
+unfolding used shared placed
+untouched-slot f k work i v l = untouched-store (untouched-refl f k work) hash i v (record { after = omega arith; before = omega arith })
 
 -- ---- whole rows
 
--- the row n of a type is stored
-pub record TypeStored (k n offset first depth : ℕ) (work work′ : List ℕ) : Type 0 where
-  pub changed : Changed k 0 3 n work work′
-  pub offset-is : cell work′ k typeOffset n ≡ offset
-  pub first-is : cell work′ k typeFirst n ≡ first
-  pub depth-is : cell work′ k typeDepth n ≡ depth
+module _ (f : TermFile) (k : ℕ) where
+  -- the row of a type is stored
+  pub record TypeStored (offset first depth : ℕ) (work work′ : List ℕ) : Type 0 where
+    pub untouched : Untouched f k work work′
+    pub offset-is : cell work′ k typeOffset (length (types f)) ≡ offset
+    pub first-is : cell work′ k typeFirst (length (types f)) ≡ first
+    pub depth-is : cell work′ k typeDepth (length (types f)) ≡ depth
 
--- the row n of a function
-pub record FunStored (k n offset first : ℕ) (work work′ : List ℕ) : Type 0 where
-  pub changed : Changed k 3 6 n work work′
-  pub offset-is : cell work′ k funOffset n ≡ offset
-  pub first-is : cell work′ k funFirst n ≡ first
+  -- the row of a function
+  pub record FunStored (offset first : ℕ) (work work′ : List ℕ) : Type 0 where
+    pub untouched : Untouched f k work work′
+    pub offset-is : cell work′ k funOffset (length (funs f)) ≡ offset
+    pub first-is : cell work′ k funFirst (length (funs f)) ≡ first
 
--- the row n of a term
-pub record TermStored (k n offset first type depth : ℕ) (work work′ : List ℕ) : Type 0 where
-  pub changed : Changed k 6 10 n work work′
-  pub offset-is : cell work′ k termOffset n ≡ offset
-  pub first-is : cell work′ k termFirst n ≡ first
-  pub type-is : cell work′ k termType n ≡ type
-  pub depth-is : cell work′ k termDepth n ≡ depth
+  -- the row of a term
+  pub record TermStored (offset first type depth place : ℕ) (work work′ : List ℕ) : Type 0 where
+    pub untouched : Untouched f k work work′
+    pub offset-is : cell work′ k termOffset (length (terms f)) ≡ offset
+    pub first-is : cell work′ k termFirst (length (terms f)) ≡ first
+    pub type-is : cell work′ k termType (length (terms f)) ≡ type
+    pub depth-is : cell work′ k termDepth (length (terms f)) ≡ depth
+    pub place-is : cell work′ k termPlace (length (terms f)) ≡ place
 
--- the row n of an enum
-pub record EnumStored (k n offset : ℕ) (work work′ : List ℕ) : Type 0 where
-  pub changed : Changed k 10 11 n work work′
-  pub offset-is : cell work′ k enumOffset n ≡ offset
+  -- the row of an enum
+  pub record EnumStored (offset : ℕ) (work work′ : List ℕ) : Type 0 where
+    pub untouched : Untouched f k work work′
+    pub offset-is : cell work′ k enumOffset (length (enums f)) ≡ offset
 
-module _ (work : List ℕ) (k n : ℕ) (fits : 12 * k ≤ length work) (below : n < k) where
+  -- the row of an input
+  pub record InputStored (term : ℕ) (work work′ : List ℕ) : Type 0 where
+    pub untouched : Untouched f k work work′
+    pub term-is : cell work′ k inputTerm (length (inputs f)) ≡ term
+
+module _ (f : TermFile) (k : ℕ) (work : List ℕ) (fits : 12 * k ≤ length work) (room : suc (length f) ≤ k) where
   -- what was stored stays under a store in another column of the row
-  under : (work′ : List ℕ) (column column′ v : ℕ) → (column ≡ column′ → ⊥) → cell (store work′ k column n v) k column′ n ≡ cell work′ k column′ n
-  under work′ column column′ v other = cell-store-other work′ k column n v column′ n (λ e q. other e)
+  under : (work′ : List ℕ) (n column column′ v : ℕ) → (column ≡ column′ → ⊥) → (shared column ≡ column′ → ⊥) → cell (store work′ k column n v) k column′ n ≡ cell work′ k column′ n
+  under work′ n column column′ v other facing = cell-store-apart work′ k column n v column′ n (record { other = λ e q. other e; facing = λ e q. facing e })
 
   -- what was stored is read back
-  stored : {low high : ℕ} {work′ : List ℕ} → Changed k low high n work work′ → (column v : ℕ) → column < 12 → cell (store work′ k column n v) k column n ≡ v
-  stored {work′} C column v h = cell-store-same work′ k column n v (record { fits = omega (arith, C .same-size); column-is = h; index-is = below })
+  stored : {work′ : List ℕ} → Untouched f k work work′ → (column n v : ℕ) → column < 24 → n < k → cell (store work′ k column n v) k column n ≡ v
+  stored {work′} U column n v h l = cell-store-same work′ k column n v (record { fits = omega (arith, U .same-size); column-is = h; index-is = l })
 
-  module _ (offset first : ℕ) where
-    pub type-stored : (depth : ℕ) → TypeStored k n offset first depth work (store (store (store work k typeOffset n offset) k typeFirst n first) k typeDepth n depth)
-    type-stored depth =
-        let a = changed-store k 0 3 n work (changed-refl k 0 3 n work) typeOffset offset (omega arith) (omega arith) in
-        let b = changed-store k 0 3 n work a typeFirst first (omega arith) (omega arith) in
-        record {
-          changed = changed-store k 0 3 n work b typeDepth depth (omega arith) (omega arith);
-          offset-is = under _ typeDepth typeOffset depth (λ e. omega arith) ∙ under _ typeFirst typeOffset first (λ e. omega arith) ∙ stored (changed-refl k 0 3 n work) typeOffset offset (omega arith);
-          first-is = under _ typeDepth typeFirst depth (λ e. omega arith) ∙ stored a typeFirst first (omega arith);
-          depth-is = stored b typeDepth depth (omega arith);
-        }
-
-    pub fun-stored : FunStored k n offset first work (store (store work k funOffset n offset) k funFirst n first)
-    fun-stored =
-        let a = changed-store k 3 6 n work (changed-refl k 3 6 n work) funOffset offset (omega arith) (omega arith) in
-        record {
-          changed = changed-store k 3 6 n work a funFirst first (omega arith) (omega arith);
-          offset-is = under _ funFirst funOffset first (λ e. omega arith) ∙ stored (changed-refl k 3 6 n work) funOffset offset (omega arith);
-          first-is = stored a funFirst first (omega arith);
-        }
-
-    pub term-stored : (type depth : ℕ)
-        → TermStored k n offset first type depth work (store (store (store (store work k termOffset n offset) k termFirst n first) k termType n type) k termDepth n depth)
-    term-stored type depth =
-        let a = changed-store k 6 10 n work (changed-refl k 6 10 n work) termOffset offset (omega arith) (omega arith) in
-        let b = changed-store k 6 10 n work a termFirst first (omega arith) (omega arith) in
-        let c = changed-store k 6 10 n work b termType type (omega arith) (omega arith) in
-        record {
-          changed = changed-store k 6 10 n work c termDepth depth (omega arith) (omega arith);
-          offset-is =
-              under _ termDepth termOffset depth (λ e. omega arith) ∙ under _ termType termOffset type (λ e. omega arith) ∙ under _ termFirst termOffset first (λ e. omega arith)
-              ∙ stored (changed-refl k 6 10 n work) termOffset offset (omega arith);
-          first-is = under _ termDepth termFirst depth (λ e. omega arith) ∙ under _ termType termFirst type (λ e. omega arith) ∙ stored a termFirst first (omega arith);
-          type-is = under _ termDepth termType depth (λ e. omega arith) ∙ stored b termType type (omega arith);
-          depth-is = stored c termDepth depth (omega arith);
-        }
-
-  pub enum-stored : (offset : ℕ) → EnumStored k n offset work (store work k enumOffset n offset)
-  enum-stored offset =
+  pub type-stored : (offset first depth : ℕ) → TypeStored f k offset first depth work
+      (store (store (store work k typeOffset (length (types f)) offset) k typeFirst (length (types f)) first) k typeDepth (length (types f)) depth)
+  unfolding used shared placed
+  type-stored offset first depth =
+      let few = counts-together f in
+      let n = length (types f) in
+      let a = untouched-store (untouched-refl f k work) typeOffset n offset (record { after = omega arith; before = omega arith }) in
+      let b = untouched-store a typeFirst n first (record { after = omega arith; before = omega arith }) in
       record {
-        changed = changed-store k 10 11 n work (changed-refl k 10 11 n work) enumOffset offset (omega arith) (omega arith);
-        offset-is = stored (changed-refl k 10 11 n work) enumOffset offset (omega arith);
+        untouched = untouched-store b typeDepth n depth (record { after = omega arith; before = omega arith });
+        offset-is =
+            under _ n typeDepth typeOffset depth (λ e. omega arith) (λ e. omega arith) ∙ under _ n typeFirst typeOffset first (λ e. omega arith) (λ e. omega arith)
+            ∙ stored (untouched-refl f k work) typeOffset n offset (omega arith) (omega arith);
+        first-is = under _ n typeDepth typeFirst depth (λ e. omega arith) (λ e. omega arith) ∙ stored a typeFirst n first (omega arith) (omega arith);
+        depth-is = stored b typeDepth n depth (omega arith) (omega arith);
+      }
+
+  pub fun-stored : (offset first : ℕ) → FunStored f k offset first work (store (store work k funOffset (length (funs f)) offset) k funFirst (length (funs f)) first)
+  unfolding used shared placed
+  fun-stored offset first =
+      let few = counts-together f in
+      let n = length (funs f) in
+      let a = untouched-store (untouched-refl f k work) funOffset n offset (record { after = omega arith; before = omega arith }) in
+      record {
+        untouched = untouched-store a funFirst n first (record { after = omega arith; before = omega arith });
+        offset-is = under _ n funFirst funOffset first (λ e. omega arith) (λ e. omega arith) ∙ stored (untouched-refl f k work) funOffset n offset (omega arith) (omega arith);
+        first-is = stored a funFirst n first (omega arith) (omega arith);
+      }
+
+  pub term-stored : (offset first type depth place : ℕ) → TermStored f k offset first type depth place work
+      (store (store (store (store (store work k termOffset (length (terms f)) offset) k termFirst (length (terms f)) first) k termType (length (terms f)) type) k termDepth (length (terms f)) depth)
+      k termPlace (length (terms f)) place)
+  unfolding used shared placed
+  term-stored offset first type depth place =
+      let few = counts-together f in
+      let n = length (terms f) in
+      let a = untouched-store (untouched-refl f k work) termOffset n offset (record { after = omega arith; before = omega arith }) in
+      let b = untouched-store a termFirst n first (record { after = omega arith; before = omega arith }) in
+      let c = untouched-store b termType n type (record { after = omega arith; before = omega arith }) in
+      let d = untouched-store c termDepth n depth (record { after = omega arith; before = omega arith }) in
+      record {
+        untouched = untouched-store d termPlace n place (record { after = omega arith; before = omega arith });
+        offset-is =
+            under _ n termPlace termOffset place (λ e. omega arith) (λ e. omega arith) ∙ under _ n termDepth termOffset depth (λ e. omega arith) (λ e. omega arith)
+            ∙ under _ n termType termOffset type (λ e. omega arith) (λ e. omega arith) ∙ under _ n termFirst termOffset first (λ e. omega arith) (λ e. omega arith)
+            ∙ stored (untouched-refl f k work) termOffset n offset (omega arith) (omega arith);
+        first-is =
+            under _ n termPlace termFirst place (λ e. omega arith) (λ e. omega arith) ∙ under _ n termDepth termFirst depth (λ e. omega arith) (λ e. omega arith)
+            ∙ under _ n termType termFirst type (λ e. omega arith) (λ e. omega arith) ∙ stored a termFirst n first (omega arith) (omega arith);
+        type-is =
+            under _ n termPlace termType place (λ e. omega arith) (λ e. omega arith) ∙ under _ n termDepth termType depth (λ e. omega arith) (λ e. omega arith)
+            ∙ stored b termType n type (omega arith) (omega arith);
+        depth-is = under _ n termPlace termDepth place (λ e. omega arith) (λ e. omega arith) ∙ stored c termDepth n depth (omega arith) (omega arith);
+        place-is = stored d termPlace n place (omega arith) (omega arith);
+      }
+
+  pub enum-stored : (offset : ℕ) → EnumStored f k offset work (store work k enumOffset (length (enums f)) offset)
+  unfolding used shared placed
+  enum-stored offset =
+      let few = counts-together f in
+      let n = length (enums f) in
+      record {
+        untouched = untouched-store (untouched-refl f k work) enumOffset n offset (record { after = omega arith; before = omega arith });
+        offset-is = stored (untouched-refl f k work) enumOffset n offset (omega arith) (omega arith);
+      }
+
+  pub input-stored : (term : ℕ) → InputStored f k term work (store work k inputTerm (length (inputs f)) term)
+  unfolding used shared placed
+  input-stored term =
+      let few = counts-together f in
+      let n = length (inputs f) in
+      record {
+        untouched = untouched-store (untouched-refl f k work) inputTerm n term (record { after = omega arith; before = omega arith });
+        term-is = stored (untouched-refl f k work) inputTerm n term (omega arith) (omega arith);
       }

@@ -1,6 +1,6 @@
 -- The working memory as a table of columns with k entries each: what stands at an entry, and the memory after a store.
 -- Assumes nothing.
-use Prim.Native.Nat.{ℕ, _+_, _*_}
+use Prim.Native.Nat.{ℕ, _+_, _-_, _*_}
 use mathlib.Core.Bool.{Bool, true, false, _&&_}
 use mathlib.Core.List.{List}
 use lib.Dec.{leb, ltb}
@@ -11,9 +11,13 @@ unfoldable pub placed : Bool → ℕ → ℕ → ℕ
 placed true at size = at
 placed false at size = size
 
+-- the place of the entry i of a column: the columns from 12 to 23 are those from 0 to 11, counted from their ends
+unfoldable pub standing : ℕ → ℕ → ℕ → ℕ
+standing k column i = placed (ltb column 12) (column * k + i) ((column - 12) * k + (k - 1 - i))
+
 -- the place of the entry i of a column in a memory of `size` entries, or `size` where there is none
 unfoldable pub offset : ℕ → ℕ → ℕ → ℕ → ℕ
-offset size k column i = placed (leb (12 * k) size && (ltb column 12 && ltb i k)) (column * k + i) size
+offset size k column i = placed (leb (12 * k) size && (ltb i k && ltb column 24)) (standing k column i) size
 
 -- the entry i of a column, 0 where there is none
 unfoldable pub cell : List ℕ → ℕ → ℕ → ℕ → ℕ
@@ -60,3 +64,9 @@ enumOffset = 10
 
 abbrev pub hash : ℕ
 hash = 11
+
+abbrev pub termPlace : ℕ
+termPlace = 12
+
+abbrev pub inputTerm : ℕ
+inputTerm = 22

@@ -2,16 +2,17 @@
 -- whatever else walks a file build on this and not on the layout.
 -- Assumes nothing.
 use mathlib.Core.Path.{_≡_}
-use Prim.Native.Nat.{ℕ, _<_, _≤_, _*_}
+use Prim.Native.Nat.{ℕ, zero, suc, _<_, _≤_, _*_}
 use mathlib.Core.Bool.{true}
-use mathlib.Core.List.{List, []}
-use mathlib.Core.Option.{Option, some}
+use mathlib.Core.List.{List, [], _∷_}
+use mathlib.Core.Option.{some}
 use lib.ListN.{length, getD}
 use Rattle.script_spec.specs.Base.{Bytes}
-use Rattle.script_spec.specs.Tree.{typeOf, depth}
-use Rattle.script_spec.specs.Fields.{Entry, Earlier, enum}
-use Rattle.script_spec.specs.File.{TermFile, Named, type, func, term, types, funs, terms, enums, typeAt, funAt, termAt, named, earlier}
-use Rattle.index.specs.Cells.{cell, typeOffset, typeFirst, typeDepth, funOffset, funFirst, termOffset, termFirst, termType, termDepth, enumOffset}
+use Rattle.script_spec.specs.Tree.{Tm, typeOf, depth, node, nil, Some}
+use Rattle.script_spec.specs.Fields.{Entry, Earlier}
+use Rattle.script_spec.specs.Fields as fields
+use Rattle.script_spec.specs.File.{TermFile, Named, type, enum, func, term, input, types, funs, terms, inputs, enums, typeAt, funAt, termAt, named}
+use Rattle.index.specs.Cells.{cell, typeOffset, typeFirst, typeDepth, funOffset, funFirst, termOffset, termFirst, termType, termDepth, enumOffset, termPlace, inputTerm}
 use Rattle.index.specs.First.{firstType, firstFun, firstTerm, InRange}
 use Rattle.index.specs.Standing.{entryAt}
 use Rattle.index.specs.Names.{Names}
@@ -26,6 +27,24 @@ pub record Stands (file : Bytes) (f : TermFile) (e : Earlier) (offset : ℕ) (r 
 -- what a record of these numbers of types, functions and terms may refer to
 unfoldable pub counted : ℕ → ℕ → ℕ → Earlier
 counted ty fn tm = record { types = ty; funs = fn; terms = tm; isEntity = λ n. true }
+
+-- the place of the term with number n, where a record comes before the others
+unfoldable pub placeAfter : Named → (ℕ → ℕ) → ℕ → ℕ
+placeAfter (type t) rest n = suc (rest n)
+placeAfter (enum name members) rest n = suc (rest n)
+placeAfter (func g) rest n = suc (rest n)
+placeAfter (term t) rest zero = zero
+placeAfter (term t) rest (suc n) = suc (rest n)
+placeAfter (input t) rest n = suc (rest n)
+
+-- the place of the term with number n among the records of a file
+unfoldable pub termPlaceOf : TermFile → ℕ → ℕ
+termPlaceOf [] n = zero
+termPlaceOf (r ∷ f) n = placeAfter r (λ m. termPlaceOf f m) n
+
+-- the term of the input with number n; the default is for numbers that no input has
+unfoldable pub inputAt : TermFile → ℕ → Tm
+inputAt f n = getD (inputs f) n (node Some nil)
 
 module _ (file : Bytes) (f : TermFile) (work : List ℕ) (k : ℕ) where
   -- the row of a type, which refers to types of lower numbers
@@ -45,22 +64,26 @@ module _ (file : Bytes) (f : TermFile) (work : List ℕ) (k : ℕ) where
     pub type-below : cell work k termType n < length (types f)
     pub type-is : typeAt f (cell work k termType n) ≡ typeOf (termAt f n)
     pub type-first : firstType f (cell work k termType n) ≡ cell work k termType n
+    pub place-is : cell work k termPlace n ≡ termPlaceOf f n
 
   -- the row of an enum
   pub record EnumRow (n : ℕ) (name : Bytes) (members : List Bytes) : Type 0 where
-    pub stands : entryAt file (cell work k enumOffset n) ≡ some (enum name members)
+    pub stands : entryAt file (cell work k enumOffset n) ≡ some (fields.enum name members)
 
-  -- every type, function, term and enum of the file has its row, and every enum its slot
+  -- the row of an input, which has the number of its term
+  pub record InputRow (n : ℕ) : Type 0 where
+    pub below : cell work k inputTerm n < length (terms f)
+    pub is : termAt f (cell work k inputTerm n) ≡ inputAt f n
+
+  -- every type, function, term, enum and input of the file has its row, and every enum its slot
   pub record Index : Type 0 where
     pub fits : 12 * k ≤ length work
     pub type-row : (n : ℕ) → n < length (types f) → TypeRow n
     pub fun-row : (n : ℕ) → n < length (funs f) → FunRow n
     pub term-row : (n : ℕ) → n < length (terms f) → TermRow n
     pub enum-row : (n : ℕ) → n < length (enums f) → EnumRow n (getD (enums f) n ([], []) .0) (getD (enums f) n ([], []) .1)
-    pub types-fit : length (types f) ≤ k
-    pub funs-fit : length (funs f) ≤ k
-    pub terms-fit : length (terms f) ≤ k
-    pub enums-fit : length (enums f) ≤ k
+    pub input-row : (n : ℕ) → n < length (inputs f) → InputRow n
+    pub fit : length f ≤ k
     pub names : Names f work k
 
   -- the depths, which check needs

@@ -3,7 +3,9 @@ ghost use mathlib.Core.Path.{_≡_};
 ghost use Prim.Native.Nat.{_/_};
 ghost use Rattle.index.specs.Cells.{offset, cell, store};
 
-// The columns. A record has at least 6 bytes and `work` two entries a byte, so that twelve columns fit.
+// The columns. A record has at least 6 bytes and `work` two entries a byte, so that twelve columns fit. Each has an entry for every
+// record of whatever kind, so that two kinds can share one: the entries of the first kind are counted from its start, and those of the
+// second from its end, under a number 12 higher.
 pub const COLUMNS: usize = 12;
 
 pub const TYPE_OFFSET: usize = 0;
@@ -30,6 +32,12 @@ pub const ENUM_OFFSET: usize = 10;
 
 pub const HASH: usize = 11;
 
+// The places of the terms, counted in records, at the end of the offsets of the types.
+pub const TERM_PLACE: usize = 12;
+
+// The terms of the inputs, at the end of the offsets of the enums.
+pub const INPUT_TERM: usize = 22;
+
 // How many entries each column has for a file of n bytes.
 pub fn capacity(n: usize) -> usize
     ensures { λ r. ⌜ r ≡ n / 6 ⌝ }
@@ -44,13 +52,16 @@ fn offset(size: usize, k: usize, column: usize, i: usize) -> usize
     if size / COLUMNS < k {
         return size;
     }
-    if COLUMNS <= column {
-        return size;
-    }
     if k <= i {
         return size;
     }
-    column * k + i
+    if column < COLUMNS {
+        return column * k + i;
+    }
+    if column < 2 * COLUMNS {
+        return (column - COLUMNS) * k + (k - 1 - i);
+    }
+    size
 }
 
 // An entry of a column, 0 where there is none.

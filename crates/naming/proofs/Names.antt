@@ -2,11 +2,13 @@
 -- other tables and the index.
 -- Assumes nothing.
 use mathlib.Core.Path.{_≡_, refl, sym, ap, _∙_}
-use mathlib.Core.Bool.{Bool, true, false}
+use mathlib.Core.Bool.{Bool, true, false, _||_}
 use mathlib.Core.List.{List, [], _∷_, _++_}
 use Prim.Native.Nat.{ℕ, zero, suc, _+_, _-_, _*_, _≤_, _<_}
 use native.Mathlib.Numerals.{add-one}
+use native.Mathlib.Decide.{decLt}
 use native.Mathlib.Omega.{arith}
+use borrow.Author.Tests.{ne-eqb, lt-ltb}
 use lib.ListN.{length}
 use Rattle.script_spec.specs.Base.{Bytes, bytes, place}
 use Rattle.script_spec.specs.Tree.{eqTy}
@@ -14,13 +16,14 @@ use Rattle.script_spec.specs.File.{TermFile, types, funs, terms, typeAt, funAt,
 use Rattle.script_spec.specs.Text.{decimal}
 use Rattle.script_spec.specs.Command.{Command}
 use Rattle.script_spec.specs.Walk.{State, start, enterType, enterFun, enterTerm, write, numbered, names}
-use Rattle.index.specs.Cells.{cell, store, typeFirst, funFirst, termFirst}
+use Rattle.index.specs.Cells.{placed, cell, store, typeFirst, funFirst, termFirst}
 use Rattle.index.specs.First.{firstType, firstFun, firstTerm}
 use Rattle.index.specs.Meaning.{Index}
 use Rattle.index.proofs.Names.{names-same}
-use Rattle.index.proofs.Cells.{length-store, cell-store-same, cell-store-other}
+use Rattle.index.proofs.Cells.{shared, length-store, cell-store-same, cell-store-apart, cell-store-other}
+use Rattle.index.proofs.Rows.{types-fit, funs-fit, terms-fit}
 use Rattle.index.proofs.Firsts.{FirstEqual, Equality, first-below, first-types, first-funs, first-terms, equal-types, equal-funs, equal-terms}
-use Rattle.naming.specs.Naming.{typeName, funName, termName, isName, nameAt, placeOf, Table, Numbers, Kept}
+use Rattle.naming.specs.Naming.{typeName, funName, termName, isName, hasNames, nameAt, placeOf, Table, Numbers, Kept}
 use Rattle.naming.proofs.Tables.{table-start, table-same, table-place, table-enter}
 
 -- ---- memories that differ in names alone
@@ -31,17 +34,41 @@ kept-refl work k = record { size = refl; others = λ column i h. refl }
 pub kept-trans : {work work′ work″ : List ℕ} {k : ℕ} → Kept work work′ k → Kept work′ work″ k → Kept work work″ k
 kept-trans p q = record { size = q .size ∙ p .size; others = λ column i h. q .others column i h ∙ p .others column i h }
 
+-- no column is one of names and not
+not-both : (b : Bool) → b ≡ true → b ≡ false → ⊥
+not-both b p q = let z : _≡_ {A = Bool} true false = sym p ∙ q in absurd (let o : _≡_ {A = ℕ} 0 1 = cc in omega arith)
+
+-- the columns of names are counted from their starts
+name-start : (column : ℕ) → isName column ≡ true → column < 12
+unfolding isName
+name-start column h = go (decLt column 12)
+  where
+    go : Dec (column < 12) → column < 12
+    go (yes l) = l
+    go (no n) = absurd (not-both (isName column) h (rw (ne-eqb column typeName (omega arith), ne-eqb column funName (omega arith), ne-eqb column termName (omega arith))))
+
+-- where a column has no names, neither it nor the one 12 below is a column of names
+no-names : (a b : Bool) → (a || b) ≡ false → (a ≡ false) × (b ≡ false)
+no-names true b h = absurd (not-both true refl h)
+no-names false b h = (refl, h)
+
 pub kept-store : (work : List ℕ) (k column i v : ℕ) → isName column ≡ true → Kept work (store work k column i v) k
+unfolding hasNames shared placed
 kept-store work k column i v h =
     record {
       size = length-store work k column i v;
-      others = λ column′ i′ n. cell-store-other work k column i v column′ i′ (λ e _. let z : _≡_ {A = Bool} true false = sym h ∙ ap isName e ∙ n in absurd (let o : _≡_ {A = ℕ} 0 1 = cc in omega arith));
+      others = λ column′ i′ n.
+          let N = no-names (isName column′) (isName (column′ - 12)) n in
+          cell-store-apart work k column i v column′ i′ (record { other = λ e _. not-both (isName column) h (ap isName e ∙ N .0); facing = λ e _. not-both (isName column) h (ap isName (above column′ e) ∙ N .1) });
     }
+  where
+    above : (column′ : ℕ) → shared column ≡ column′ → column ≡ column′ - 12
+    above column′ e = let l = name-start column h in let s : shared column ≡ column + 12 = rw (lt-ltb column 12 l) in omega arith
 
 module _ {file : Bytes} {f : TermFile} {work work′ : List ℕ} {k : ℕ} (K : Kept work work′ k) where
   -- the index speaks of no name
   pub index-kept : Index file f work k → Index file f work′ k
-  unfolding isName
+  unfolding isName hasNames
   index-kept I =
       record {
         fits = rw (K .size) (I .fits);
@@ -54,12 +81,11 @@ module _ {file : Bytes} {f : TermFile} {work work′ : List ℕ} {k : ℕ} (K : 
               type-below = rw (K .others 8 n refl) (r .type-below);
               type-is = rw (K .others 8 n refl) (r .type-is);
               type-first = rw (K .others 8 n refl) (r .type-first);
+              place-is = K .others 12 n refl ∙ r .place-is;
             };
         enum-row = λ n l. record { stands = rw (K .others 10 n refl) (I .enum-row n l .stands) };
-        types-fit = I .types-fit;
-        funs-fit = I .funs-fit;
-        terms-fit = I .terms-fit;
-        enums-fit = I .enums-fit;
+        input-row = λ n l. record { below = rw (K .others 22 n refl) (I .input-row n l .below); is = rw (K .others 22 n refl) (I .input-row n l .is) };
+        fit = I .fit;
         names = names-same (record { same = λ i h. K .others 11 i refl }) (I .names) refl;
       }
 
@@ -73,14 +99,14 @@ module _ {A : Type 0} {eq : A → A → Bool} {count : ℕ} {name : ℕ → A} {
   table-stored work k column {table} fits c le n v l t z e =
       let inside : first n < k = omega (arith, first-below F n l) in
       table-enter E F (cell (store work k column (first n) v) k column) n l inside t z
-      (cell-store-same work k column (first n) v (record { fits = fits; column-is = c; index-is = inside }) ∙ e ∙ add-one (length table))
-      (λ j h. cell-store-other work k column (first n) v column j (λ _ q. h (sym q)))
+      (cell-store-same work k column (first n) v (record { fits = fits; column-is = omega arith; index-is = inside }) ∙ e ∙ add-one (length table))
+      (λ j h. cell-store-other work k column (first n) v column j c c (λ _ q. h (sym q)))
 
 -- a store in another column
-table-beside : {A : Type 0} {eq : A → A → Bool} {count : ℕ} {name : ℕ → A} {first : ℕ → ℕ} (work : List ℕ) (k column column′ i v : ℕ) {table : List A} → (column′ ≡ column → ⊥)
+table-beside : {A : Type 0} {eq : A → A → Bool} {count : ℕ} {name : ℕ → A} {first : ℕ → ℕ} (work : List ℕ) (k column column′ i v : ℕ) {table : List A} → column < 12 → column′ < 12 → (column′ ≡ column → ⊥)
     → Table eq count name first k (cell work k column) table → Table eq count name first k (cell (store work k column′ i v) k column) table
-table-beside work k column column′ i v h t =
-    table-same (cell (store work k column′ i v) k column) (λ j. cell-store-other work k column′ i v column j (λ e _. h e)) t
+table-beside work k column column′ i v c c′ h t =
+    table-same (cell (store work k column′ i v) k column) (λ j. cell-store-other work k column′ i v column j c′ c (λ e _. h e)) t
 
 -- ---- the tables of a state
 
@@ -101,9 +127,9 @@ module _ {file : Bytes} {f : TermFile} {work : List ℕ} {k : ℕ} {S : State} (
   unfolding enterType
   numbers-type l z e =
       record {
-        type-table = table-stored equal-types (first-types f) work k typeName (I .fits) (omega arith) (I .types-fit) n v l (N .type-table) z e;
-        fun-table = table-beside work k funName typeName (firstType f n) v (omega arith) (N .fun-table);
-        term-table = table-beside work k termName typeName (firstType f n) v (omega arith) (N .term-table);
+        type-table = table-stored equal-types (first-types f) work k typeName (I .fits) (omega arith) (types-fit I) n v l (N .type-table) z e;
+        fun-table = table-beside work k funName typeName (firstType f n) v (omega arith) (omega arith) (omega arith) (N .fun-table);
+        term-table = table-beside work k termName typeName (firstType f n) v (omega arith) (omega arith) (omega arith) (N .term-table);
       }
 
   pub numbers-fun : n < length (funs f) → cell work k funName (firstFun f n) ≡ 0 → v ≡ length (S .funs) + 1
@@ -111,9 +137,9 @@ module _ {file : Bytes} {f : TermFile} {work : List ℕ} {k : ℕ} {S : State} (
   unfolding enterFun
   numbers-fun l z e =
       record {
-        type-table = table-beside work k typeName funName (firstFun f n) v (omega arith) (N .type-table);
-        fun-table = table-stored equal-funs (first-funs f) work k funName (I .fits) (omega arith) (I .funs-fit) n v l (N .fun-table) z e;
-        term-table = table-beside work k termName funName (firstFun f n) v (omega arith) (N .term-table);
+        type-table = table-beside work k typeName funName (firstFun f n) v (omega arith) (omega arith) (omega arith) (N .type-table);
+        fun-table = table-stored equal-funs (first-funs f) work k funName (I .fits) (omega arith) (funs-fit I) n v l (N .fun-table) z e;
+        term-table = table-beside work k termName funName (firstFun f n) v (omega arith) (omega arith) (omega arith) (N .term-table);
       }
 
   pub numbers-term : n < length (terms f) → cell work k termName (firstTerm f n) ≡ 0 → v ≡ length (S .terms) + 1
@@ -121,9 +147,9 @@ module _ {file : Bytes} {f : TermFile} {work : List ℕ} {k : ℕ} {S : State} (
   unfolding enterTerm
   numbers-term l z e =
       record {
-        type-table = table-beside work k typeName termName (firstTerm f n) v (omega arith) (N .type-table);
-        fun-table = table-beside work k funName termName (firstTerm f n) v (omega arith) (N .fun-table);
-        term-table = table-stored equal-terms (first-terms f) work k termName (I .fits) (omega arith) (I .terms-fit) n v l (N .term-table) z e;
+        type-table = table-beside work k typeName termName (firstTerm f n) v (omega arith) (omega arith) (omega arith) (N .type-table);
+        fun-table = table-beside work k funName termName (firstTerm f n) v (omega arith) (omega arith) (omega arith) (N .fun-table);
+        term-table = table-stored equal-terms (first-terms f) work k termName (I .fits) (omega arith) (terms-fit I) n v l (N .term-table) z e;
       }
 
 -- ---- names by numbers of records

@@ -4,7 +4,7 @@ use mathlib.Core.Path.{_≡_}
 use mathlib.Core.Bool.{Bool, false, _||_}
 use mathlib.Core.List.{List}
 use mathlib.Core.Option.{Option, none, some}
-use Prim.Native.Nat.{ℕ, zero, suc, _+_, _<_}
+use Prim.Native.Nat.{ℕ, zero, suc, _+_, _-_, _<_}
 use lib.Dec.{eqb}
 use lib.ListN.{length}
 use Rattle.script_spec.specs.Base.{place}
@@ -29,6 +29,10 @@ termName = termDepth
 
 unfoldable pub isName : ℕ → Bool
 isName column = eqb column typeName || (eqb column funName || eqb column termName)
+
+-- a column whose entries are names, from whichever end they are counted
+unfoldable pub hasNames : ℕ → Bool
+hasNames column = isName column || isName (column - 12)
 
 -- what stands for the name of the record with number n, by the columns of first equal records and of names
 unfoldable pub nameAt : List ℕ → ℕ → ℕ → ℕ → ℕ → ℕ
@@ -71,4 +75,4 @@ pub record Numbers (f : TermFile) (work : List ℕ) (k : ℕ) (S : State) : Type
 -- two memories that differ in names alone
 pub record Kept (work work′ : List ℕ) (k : ℕ) : Type 0 where
   pub size : length work′ ≡ length work
-  pub others : (column i : ℕ) → isName column ≡ false → cell work′ k column i ≡ cell work k column i
+  pub others : (column i : ℕ) → hasNames column ≡ false → cell work′ k column i ≡ cell work k column i

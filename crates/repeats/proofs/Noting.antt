@@ -1,6 +1,6 @@
 -- Notes are made at empty entries, so that no two are of equal numbers, and clearing them in the other order brings the memory back.
 -- Assumes nothing.
-use mathlib.Core.Path.{_≡_, refl, sym, ap, _∙_, subst}
+use mathlib.Core.Path.{_≡_, refl, sym, ap, _∙_}
 use Prim.Native.Nat.{ℕ, zero, suc, _+_, _*_, _-_, _/_, _≤_, _<_}
 use native.Mathlib.Nat.{div-add-mod', mod-lt}
 use native.Mathlib.Decide.{ℕ-discrete}
@@ -43,10 +43,10 @@ module _ (work : List ℕ) (k : ℕ) (φ : ℕ → ℕ) where
   noted-length (suc n) = length-store (noted work k φ n) k funName (φ n) (suc n) ∙ noted-length n
 
   -- other columns are as they were
-  noted-other : (n column j : ℕ) → (funName ≡ column → ⊥) → cell (noted work k φ n) k column j ≡ cell work k column j
+  noted-other : (n column j : ℕ) → column < 12 → (funName ≡ column → ⊥) → cell (noted work k φ n) k column j ≡ cell work k column j
   unfolding noted
-  noted-other zero column j h = refl
-  noted-other (suc n) column j h = cell-store-other (noted work k φ n) k funName (φ n) (suc n) column j (λ e q. h e) ∙ noted-other n column j h
+  noted-other zero column j l h = refl
+  noted-other (suc n) column j l h = cell-store-other (noted work k φ n) k funName (φ n) (suc n) column j (omega arith) l (λ e q. h e) ∙ noted-other n column j l h
 
   -- a number that was noted has a note
   module _ (fits : 12 * k ≤ length work) where
@@ -62,7 +62,7 @@ module _ (work : List ℕ) (k : ℕ) (φ : ℕ → ℕ) where
         go (yes q) less = let z : suc n ≡ 0 = sym here ∙ rw (← q) at e in omega arith
         go (no q) less =
             less (lower i n l (λ p. q (ap φ (sym p))))
-            (sym (cell-store-other (noted work k φ n) k funName (φ n) (suc n) funName (φ i) (λ a b. q b)) ∙ e)
+            (sym (cell-store-other (noted work k φ n) k funName (φ n) (suc n) funName (φ i) (omega arith) (omega arith) (λ a b. q b)) ∙ e)
 
 -- no two numbers that were noted are equal
 pub noted-different : {work work′ : List ℕ} {k : ℕ} {φ : ℕ → ℕ} {n : ℕ} → Noted work work′ k φ n → Different φ n
@@ -76,7 +76,7 @@ noted-different {work} {k = k} {φ} {n} N =
 -- what is read of the references is as it was
 first-noted : (body : Bytes) (work : List ℕ) (k from : ℕ) (φ : ℕ → ℕ) (n i : ℕ) → firstAt body (noted work k φ n) k from i ≡ firstAt body work k from i
 unfolding firstAt
-first-noted body work k from φ n i = noted-other work k φ n termFirst (refAt body from i) (λ e. omega arith)
+first-noted body work k from φ n i = noted-other work k φ n termFirst (refAt body from i) (omega arith) (λ e. omega arith)
 
 -- ---- noting
 

@@ -1,11 +1,11 @@
 -- Records stay reached where the slots that are taken stay as they are, and a record that is stored in the first empty slot is reached.
 -- Assumes nothing.
 use mathlib.Core.Path.{_≡_, refl, sym, ap, _∙_}
-use Prim.Native.Nat.{ℕ, suc, _*_, _≤_, _<_}
+use Prim.Native.Nat.{ℕ, suc, _*_, _≤_}
 use native.Mathlib.Omega.{arith}
 use mathlib.Core.List.{List}
 use lib.ListN.{length}
-use Rattle.index.specs.Cells.{cell, store, hash}
+use Rattle.index.specs.Cells.{cell, hash}
 use Rattle.index.proofs.Names.{Stays, path-stays}
 use Rattle.index.proofs.Cells.{cell-store-same, cell-store-other}
 use Rattle.index.specs.Names.{slot, codeOf, Reached}
@@ -34,7 +34,7 @@ module _ {work work′ : List ℕ} {k b v : ℕ} (fits : 12 * k ≤ length work)
       rw (S .is) (cell-store-same work k hash (slot k b (S .distance)) v (record { fits = fits; column-is = omega arith; index-is = slot-inside k b (S .distance) (S .inside) (S .near) }))
 
   elsewhere : (i : ℕ) → (i ≡ slot k b (S .distance) → ⊥) → cell work′ k hash i ≡ cell work k hash i
-  elsewhere i h = rw (S .is) (cell-store-other work k hash (slot k b (S .distance)) v hash i (λ e q. h (sym q)))
+  elsewhere i h = rw (S .is) (cell-store-other work k hash (slot k b (S .distance)) v hash i (omega arith) (omega arith) (λ e q. h (sym q)))
 
   was-empty : cell work k hash (slot k b (S .distance)) ≡ 0
   was-empty = S .first .empty (S .near)
