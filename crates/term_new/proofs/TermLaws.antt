@@ -37,8 +37,8 @@ use Rattle.progress.specs.Progress.{Advances}
 use Rattle.progress.specs.declared.Progress.{Progress}
 use Rattle.progress.proofs.Advancing.{advances-nothing}
 use Rattle.progress.proofs.Running.{advances-by}
-use Rattle.term_step.specs.Steps.{NewAt, OperatorAt, textWalk, newWalk, TestsText}
-use Rattle.term_new.specs.News.{VariableAt, EntityAt, defineWalk, entityWalk, appWalk}
+use Rattle.term_step.specs.Steps.{NewAt, textWalk, newWalk, TestsText}
+use Rattle.term_new.specs.News.{VariableAt, EntityAt, OperatorAt, defineWalk, entityWalk, appWalk}
 
 -- ---- the term of an entry
 

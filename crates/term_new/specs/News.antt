@@ -7,9 +7,11 @@ use lib.ListN.{length}
 use Rattle.script_spec.specs.Base.{Bytes}
 use Rattle.script_spec.specs.Utf8.{isUtf8}
 use Rattle.script_spec.specs.Tree.{Op, enumOf, isVariable, negation}
-use Rattle.script_spec.specs.File.{TermFile, types, members, typeAt, termAt, namedOp}
-use Rattle.script_spec.specs.Walk.{Step, Walk, _>>_, defineTerm, defineEntity, defineApp}
-use Rattle.term_step.specs.Steps.{NewAt, textWalk, operatorWalk}
+use Rattle.script_spec.specs.File.{TermFile, types, funs, members, typeAt, termAt, namedOp}
+use Rattle.script_spec.specs.Walk.{Step, Walk, _>>_, defineTerm, defineEntity, operatorStep, defineApp}
+use Rattle.index.specs.First.{OpInRange}
+use Rattle.index.specs.Meaning.{counted}
+use Rattle.term_step.specs.Steps.{NewAt, textWalk, getWalk}
 
 -- ---- what a step is ready for
 
@@ -29,6 +31,11 @@ pub record EntityAt (n t : ℕ) (id : Bytes) (f : TermFile) (x : Step) : Type 0 
   pub type-below : t < length (types f)
   pub utf8 : isUtf8 id ≡ true
 
+-- it is new, and the function of an operator is one of the file's
+pub record OperatorAt (n : ℕ) (op : Op ℕ) (f : TermFile) (x : Step) : Type 0 where
+  pub at : NewAt n f x
+  pub in-range : OpInRange (counted (length (types f)) (length (funs f)) n) op
+
 -- ---- steps over the term with number n
 
 -- it is defined
@@ -42,6 +49,14 @@ stringWalk n s f = _>>_ (textWalk n s f) (defineWalk n f)
 -- an entity of the type with number t
 unfoldable pub entityWalk : ℕ → ℕ → Bytes → TermFile → Walk
 entityWalk n t id f = defineEntity (members f) (termAt f n) id (enumOf (members f) (typeAt f t))
+
+-- an attribute of the first child is asked for, and it is defined
+unfoldable pub recordGetWalk : ℕ → Bytes → TermFile → Walk
+recordGetWalk n a f = _>>_ (getWalk n a f) (defineWalk n f)
+
+-- what an operator asks for
+unfoldable pub operatorWalk : ℕ → Op ℕ → TermFile → Walk
+operatorWalk n op f = operatorStep (members f) (termAt f n) (namedOp f op)
 
 -- and the definition after it
 unfoldable pub ordinaryWalk : ℕ → Op ℕ → TermFile → Walk
