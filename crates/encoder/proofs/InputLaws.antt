@@ -24,7 +24,8 @@ use Rattle.listing.specs.declared.Item.{Item}
 use Rattle.listing.specs.declared.Item.the-variants as item
 use Rattle.listing.proofs.Passing.{Passed, passed-start, passed-on, passed-end}
 use Rattle.encoder.proofs.AssertionLaws.{inputs-more}
-use Rattle.term_walk.specs.Terms.{termReady, termWalk}
+use Rattle.term_step.specs.Steps.{termReady}
+use Rattle.term_walk.specs.Terms.{termWalk}
 use Rattle.encoder.specs.Inputs.{itemReady, itemWalk, inputsReady, inputsWalk}
 
 -- ---- inputs one after the other
