@@ -27,8 +27,8 @@ use Rattle.progress.specs.Progress.{Advances}
 use Rattle.progress.specs.declared.Progress.{Progress}
 use Rattle.progress.proofs.Advancing.{advances-nothing, advances-then}
 use Rattle.progress.proofs.Running.{advances-by}
-use Rattle.term_step.specs.Steps.{NewAt, termReady, getWalk, patternWalk, Tests, TestsPattern}
-use Rattle.term_new.specs.News.{OperatorAt, defineWalk, recordGetWalk, operatorWalk, ordinaryWalk}
+use Rattle.term_step.specs.Steps.{termReady, getWalk, patternWalk, Tests, TestsPattern}
+use Rattle.term_new.specs.News.{DefinedAt, OperatorAt, defineWalk, recordGetWalk, operatorWalk, ordinaryWalk}
 use Rattle.term_new.proofs.EntityLaws.{new-after}
 
 -- the places of the operators that ask for nothing
@@ -74,7 +74,7 @@ asks-nothing e t f body S (op.ZeroExtend n) h = refl
 module _ {file : Bytes} {k many limit n : ℕ} {work work₁ work′ : List ℕ} {out out₁ out′ : Bytes} {p p₁ q : Progress} where
   -- an application is defined after what its operator asks for
   ordinary-then : (o : tree.Op ℕ) → Advances file k many limit (OperatorAt n o) (operatorWalk n o) work out p work₁ out₁ p₁
-      → Advances file k many limit (NewAt n) (defineWalk n) work₁ out₁ p₁ work′ out′ q → Advances file k many limit (OperatorAt n o) (ordinaryWalk n o) work out p work′ out′ q
+      → Advances file k many limit (DefinedAt n) (defineWalk n) work₁ out₁ p₁ work′ out′ q → Advances file k many limit (OperatorAt n o) (ordinaryWalk n o) work out p work′ out′ q
   unfolding ordinaryWalk operatorWalk
   ordinary-then o A D =
       advances-then (operatorWalk n o) (defineWalk n) A D
@@ -82,35 +82,35 @@ module _ {file : Bytes} {k many limit n : ℕ} {work work₁ work′ : List ℕ}
 
 module _ {file : Bytes} {k many limit n : ℕ} {work work′ : List ℕ} {out out′ : Bytes} {p q : Progress} where
   -- `RecordGet`: what it asks of its first child's type, then the definition
-  pub record-get-then : (a : Bytes) {p₁ : Progress} → Tests file k (termReady n) (getWalk n a) work p p₁ → Advances file k many limit (NewAt n) (defineWalk n) work out p₁ work′ out′ q
-      → Advances file k many limit (NewAt n) (recordGetWalk n a) work out p work′ out′ q
+  pub record-get-then : (a : Bytes) {p₁ : Progress} → Tests file k (termReady n) (getWalk n a) work p p₁ → Advances file k many limit (DefinedAt n) (defineWalk n) work out p₁ work′ out′ q
+      → Advances file k many limit (DefinedAt n) (recordGetWalk n a) work out p work′ out′ q
   unfolding recordGetWalk getWalk termReady operatorStep
   record-get-then a T D =
-      advances-then (getWalk n a) (defineWalk n) (advances-by (λ f x I m s. (s .below, λ S. refl)) (T .go out many limit)) D
+      advances-then (getWalk n a) (defineWalk n) (advances-by (λ f x I m s. (s .at .below, λ S. refl)) (T .go out many limit)) D
       (λ f x s. new-after n f x (getWalk n a f) s (λ S new. operator-new (members f) (termAt f n) (termAt f n) (tree.RecordGet a) S new))
 
   module _ (body : Bytes) (o : Op) where
     pub ordinary-get : {a : Span} {name : Bytes} → o ≡ op.RecordGet a → name ≡ take (a .len) (drop (a .start) body)
-        → Advances file k many limit (NewAt n) (recordGetWalk n name) work out p work′ out′ q
+        → Advances file k many limit (DefinedAt n) (recordGetWalk n name) work out p work′ out′ q
         → Advances file k many limit (OperatorAt n (opOf body o)) (ordinaryWalk n (opOf body o)) work out p work′ out′ q
     unfolding ordinaryWalk operatorWalk recordGetWalk getWalk operatorStep namedOp opOf spanned
     ordinary-get e h A = advances-by (λ f x I m s. (s .at, λ S. rw (e, h))) A
 
     pub ordinary-pattern : {r : Pattern} {p₁ : Progress} → o ≡ op.StringLike r → TestsPattern n (numbers (r .count) (drop (r .start) body)) p p₁
-        → Advances file k many limit (NewAt n) (defineWalk n) work out p₁ work′ out′ q
+        → Advances file k many limit (DefinedAt n) (defineWalk n) work out p₁ work′ out′ q
         → Advances file k many limit (OperatorAt n (opOf body o)) (ordinaryWalk n (opOf body o)) work out p work′ out′ q
     unfolding operatorWalk patternWalk operatorStep namedOp opOf termReady
-    ordinary-pattern e T D = ordinary-then (opOf body o) (advances-by (λ f x I m s. (s .at .below, λ S. rw e)) (T .go file k work .go out many limit)) D
+    ordinary-pattern e T D = ordinary-then (opOf body o) (advances-by (λ f x I m s. (s .at .at .below, λ S. rw e)) (T .go file k work .go out many limit)) D
 
     pub ordinary-uuf : {g : ℕ} {work₁ : List ℕ} {out₁ : Bytes} {p₁ : Progress} → o ≡ op.Uuf g → Advances file k many limit (funReady g) (funWalk g) work out p work₁ out₁ p₁
-        → Advances file k many limit (NewAt n) (defineWalk n) work₁ out₁ p₁ work′ out′ q
+        → Advances file k many limit (DefinedAt n) (defineWalk n) work₁ out₁ p₁ work′ out′ q
         → Advances file k many limit (OperatorAt n (opOf body o)) (ordinaryWalk n (opOf body o)) work out p work′ out′ q
     unfolding operatorWalk operatorStep namedOp opOf OpInRange counted funReady funWalk
     ordinary-uuf e A D =
         ordinary-then (opOf body o)
         (advances-by (λ f x I m s. (subst (λ (y : Op). OpInRange (counted (length (types f)) (length (funs f)) n) (opOf body y)) e (s .in-range), λ S. rw e)) A) D
 
-    pub ordinary-other : OneOf others (tagOf the-type o) → Advances file k many limit (NewAt n) (defineWalk n) work out p work′ out′ q
+    pub ordinary-other : OneOf others (tagOf the-type o) → Advances file k many limit (DefinedAt n) (defineWalk n) work out p work′ out′ q
         → Advances file k many limit (OperatorAt n (opOf body o)) (ordinaryWalk n (opOf body o)) work out p work′ out′ q
     unfolding operatorWalk
     ordinary-other h D =

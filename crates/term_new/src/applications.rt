@@ -4,8 +4,7 @@ use progress::Progress;
 use query::Negated;
 ghost use Rattle.operator.specs.Operators.{opOf};
 ghost use Rattle.progress.specs.Progress.{Advances};
-ghost use Rattle.term_step.specs.Steps.{NewAt};
-ghost use Rattle.term_new.specs.News.{OperatorAt, recordGetWalk, ordinaryWalk, appWalk};
+ghost use Rattle.term_new.specs.News.{DefinedAt, OperatorAt, recordGetWalk, ordinaryWalk, appWalk};
 
 // Defines the application with number n of `RecordGet`, where the type of its first child has the attribute.
 fn define_record_get(
@@ -20,7 +19,7 @@ fn define_record_get(
     a: &[u8],
 ) -> Progress
     ensures { λ r.
-        ⌜ Advances (now (file .entry)) k many limit (NewAt n) (recordGetWalk n (now (a .entry))) (now (work .entry)) (now (out .entry)) p (now (work .exit)) (now (out .exit)) r ⌝ }
+        ⌜ Advances (now (file .entry)) k many limit (DefinedAt n) (recordGetWalk n (now (a .entry))) (now (work .entry)) (now (out .entry)) p (now (work .exit)) (now (out .exit)) r ⌝ }
 {
     let q = term_step::attributes::record_get(file, work, k, p, n, a);
     crate::define_term(file, work, k, many, out, limit, q, n)
