@@ -1,2 +1,3 @@
 pub mod AtomLaws
+pub mod MarkLaws
 pub mod QueryLaws

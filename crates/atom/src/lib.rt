@@ -2,6 +2,7 @@
 use query::Member;
 use query::Negated;
 use term_entry::TermEntry;
+use term_file::mark::Kind;
 ghost use Rattle.atom.specs.Atoms.{SpellsEntity, SpellsCall, SpellsAtom};
 
 // Writes the term with number n, an entity of the type with number t: a member of an enum by its place, or else by its name.
@@ -46,8 +47,8 @@ fn put_call(
     }
 }
 
-// Writes the term with number n as it is spelled where it is used.
-pub fn put_atom(
+// Writes the term with number n as it is spelled where it is used, by all that its record has.
+fn put_read(
     file: &[u8],
     work: &[u32],
     k: usize,
@@ -78,6 +79,30 @@ pub fn put_atom(
             put_entity(file, work, k, many, out, at, limit, n, t, id)
         }
         TermEntry::App(_, _, _) => put_call(file, work, k, out, at, limit, n),
+        _ => term_parts::put_term_name(work, k, out, at, limit, n),
+    }
+}
+
+// Writes the term with number n as it is spelled where it is used. The record of a term that has a name is not read in full.
+pub fn put_atom(
+    file: &[u8],
+    work: &[u32],
+    k: usize,
+    many: u32,
+    out: &mut [u8],
+    at: usize,
+    limit: usize,
+    n: u32,
+) -> usize
+    ensures { λ r.
+        ⌜ SpellsAtom (now (file .entry)) (now (work .entry)) k many n limit (now (out .entry)) at (now (out .exit)) r ⌝ }
+{
+    let offset = index::get(work, k, index::TERM_OFFSET, entry::wide(n));
+    match entry::kind_at(file, offset) {
+        Kind::XA => put_call(file, work, k, out, at, limit, n),
+        Kind::XB | Kind::XN | Kind::XS | Kind::XE => {
+            put_read(file, work, k, many, out, at, limit, n)
+        }
         _ => term_parts::put_term_name(work, k, out, at, limit, n),
     }
 }

@@ -37,7 +37,7 @@ use Rattle.term_entry.specs.declared.TermEntry.{TermEntry}
 use Rattle.term_entry.specs.declared.TermEntry.the-variants as terms-entry
 use Rattle.term_entry.proofs.TermEntry as term-type
 use Rattle.term_entry.proofs.ChildLaws.{no-children, length-children}
-use Rattle.query.specs.Negations.{negationSaid, IsNego, IsBool, NegationOver, Negates, NegationOf}
+use Rattle.query.specs.Negations.{negationSaid, IsNego, IsBool, NegationOver, Negates, IsOther, NegationOf}
 use Rattle.query.specs.declared.Negated.{Negated}
 use Rattle.query.specs.declared.Negated.the-variants as negated
 use Rattle.query.proofs.NegoLaws.{never, nego, namedOp-nego, negation-nego, negation-other, negation-ordinary, not-one-ordinary}
@@ -205,3 +205,27 @@ module _ {file : Bytes} {work : List ℕ} {k n o : ℕ} {r : TermEntry} (place :
         here .go f I (inside .0) (subst (λ (rs : List ℕ). Below (length (terms f)) rs) children-are (below-more rs (omega arith) below))
         ∙ (rw (← children-are, ← tree, mark-is)));
   }
+
+-- ---- a term that is told by its mark and its code
+
+-- a mark that is that of a `Bvnego` by its names
+named-nego : {P : Type 0} (f : TermFile) (m : TermMark ℕ ℕ) → namedMark f m ≡ nego → ((t : ℕ) → m ≡ App t (Plain Bvnego) → P) → P
+unfolding namedMark
+named-nego f (tree.Var id t) q next = never (cc)
+named-nego f (tree.BoolLit b) q next = never (cc)
+named-nego f (tree.BitVecLit n v) q next = never (cc)
+named-nego f (tree.StringLit s) q next = never (cc)
+named-nego f (tree.Entity t id) q next = never (cc)
+named-nego f (tree.ExtLit v) q next = never (cc)
+named-nego f (tree.None t) q next = never (cc)
+named-nego f tree.Some q next = never (cc)
+named-nego f (tree.Set t) q next = never (cc)
+named-nego f (tree.Record ns) q next = never (cc)
+named-nego f (App t o) q next = next t (ap (App t) (namedOp-nego f o (cc)))
+
+pub of-unlike : {file : Bytes} {work : List ℕ} {k n o : ℕ} {b : Bool} → o ≡ cell work k termOffset n → IsOther file o b → b ≡ true → NegationOf file work k n negated.Ordinary
+unfolding negationSaid
+of-unlike place O h = record {
+  go = λ f I l. term-stands (I .term-row _ l .stands) (λ m rs reads marks below tree.
+      rw (← tree) (sym (negation-other _ _ (λ q. named-nego f m q (λ t e. O .go h t rs (rw (place, ← e) reads))))));
+}

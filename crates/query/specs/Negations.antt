@@ -5,10 +5,13 @@ use mathlib.Core.Path.{_≡_}
 use mathlib.Core.Bool.{Bool, true, false}
 use mathlib.Core.List.{List, map}
 use lib.ListN.{length}
-use Rattle.script_spec.specs.Base.{Bytes}
+use mathlib.Core.Option.{some}
+use Rattle.script_spec.specs.Base.{Bytes, bytes}
 use Rattle.script_spec.specs.Tree.{node, nil, cons, forest, Bool·, App, Plain, Bvnego, Negation, ordinary, falsehood, comparison, negationWith, negation}
+use Rattle.script_spec.specs.Fields.{term}
 use Rattle.script_spec.specs.File.{TermFile, types, terms, typeAt, termAt}
 use Rattle.index.specs.First.{Below}
+use Rattle.index.specs.Standing.{entryOf, entryAt}
 use Rattle.index.specs.Meaning.{Index}
 use Rattle.operator.specs.Operators.{opOf}
 use Rattle.operator.specs.declared.Op.{Op}
@@ -27,6 +30,14 @@ negationSaid (negated.Comparison n) = comparison n
 pub record IsNego (o : Op) (r : Bool) : Type 0 where
   pub if-so : (body : Bytes) → r ≡ true → opOf body o ≡ Plain Bvnego
   pub if-not : (body : Bytes) → r ≡ false → opOf body o ≡ Plain Bvnego → ⊥
+
+-- a body of an application that is told by its code is no `Bvnego`
+pub record OtherCode (body : Bytes) (r : Bool) : Type 0 where
+  pub go : r ≡ true → (t : ℕ) (rs : List ℕ) → entryOf (bytes "XA") body ≡ some (term (App t (Plain Bvnego)) rs) → ⊥
+
+-- a record at an offset that is told by its mark and its code is no `Bvnego`
+pub record IsOther (file : Bytes) (o : ℕ) (r : Bool) : Type 0 where
+  pub go : r ≡ true → (t : ℕ) (rs : List ℕ) → entryAt file o ≡ some (term (App t (Plain Bvnego)) rs) → ⊥
 
 module _ (file : Bytes) (work : List ℕ) (k : ℕ) where
   -- whether the type with number t is Bool, whatever file was accepted

@@ -1,13 +1,16 @@
 // What the encoder asks of types and terms: what a `Bvnego` is written as, and where an attribute or a member stands.
 use entry::lists;
 use entry::types::TypeEntry;
+use field::Cursor;
+use field::ReadNumber;
 use operator::Op;
 use term_entry::Children;
 use term_entry::TermEntry;
+use term_file::mark::Kind;
 ghost use Rattle.index.specs.Cells.{cell, typeOffset};
 ghost use Rattle.entry.specs.Types.{TypeAt};
 ghost use Rattle.query.specs.Searches.{FindsText, FindsAttribute, IsEnum, FindsIn, FindsMember};
-ghost use Rattle.query.specs.Negations.{IsNego, IsBool, NegationOver, Negates, NegationOf};
+ghost use Rattle.query.specs.Negations.{IsNego, IsBool, NegationOver, Negates, OtherCode, IsOther, NegationOf};
 
 // What a term is as a `Bvnego`: over an argument of so many bits a comparison, over any other `false`.
 pub enum Negated {
@@ -88,11 +91,40 @@ fn negation_with(file: &[u8], work: &[u32], k: usize, t: u32, body: &[u8], c: Ch
     Negated::Ordinary
 }
 
+// Whether the body of an application has the code of another operator than `Bvnego`.
+fn is_other_code(body: &[u8]) -> bool
+    ensures { λ r. ⌜ OtherCode (now (body .entry)) r ⌝ }
+{
+    let c = Cursor { at: 4 };
+    match c.byte(body) {
+        ReadNumber::Bad(_) => false,
+        ReadNumber::Value(code, _) => {
+            if code == 5 {
+                return false;
+            }
+            true
+        }
+    }
+}
+
+// Whether the record at an offset is no `Bvnego`, as far as its mark and its operator's code tell.
+fn is_other(file: &[u8], offset: u32) -> bool
+    ensures { λ r. ⌜ IsOther (now (file .entry)) offset r ⌝ }
+{
+    match entry::kind_at(file, offset) {
+        Kind::XA => is_other_code(entry::body_at(file, offset)),
+        _ => true,
+    }
+}
+
 // What the term with number n is as a `Bvnego`.
 pub fn negation_of(file: &[u8], work: &[u32], k: usize, n: u32) -> Negated
     ensures { λ r. ⌜ NegationOf (now (file .entry)) (now (work .entry)) k n r ⌝ }
 {
     let offset = index::get(work, k, index::TERM_OFFSET, entry::wide(n));
+    if is_other(file, offset) {
+        return Negated::Ordinary;
+    }
     match term_entry::term_at(file, offset) {
         TermEntry::App(t, op, c) => {
             if is_nego(op) {

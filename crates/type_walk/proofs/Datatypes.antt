@@ -1,77 +1,103 @@
--- Whether a type is a datatype, by its entry.
+-- Whether a type is a datatype, and whether it has no parts either, by its mark.
 -- Assumes nothing.
-use mathlib.Core.Path.{_≡_, refl, ap, _∙_}
+use mathlib.Core.Path.{_≡_, refl, sym, ap, _∙_, subst}
 use mathlib.Core.Bool.{Bool, true, false}
 use mathlib.Core.List.{List, [], _∷_}
-use mathlib.Core.Option.{Option, none, some}
+use mathlib.Core.Option.{none, some}
 use Prim.Native.Nat.{ℕ}
+use native.Mathlib.Omega.{arith}
 use package.types.Run.{OneOf, miss}
 use denote.Enum.Declared.{tagOf}
 use Rattle.script_spec.specs.Base.{Bytes, isSome}
-use Rattle.script_spec.specs.Tree.{Ty, datatype, datatypeMark}
-use Rattle.script_spec.specs.Fields.{Entry, type, enum, func, term, input}
+use Rattle.script_spec.specs.Tree as tree
+use Rattle.script_spec.specs.Tree.{Ty, TypeMark, datatype, datatypeMark}
+use Rattle.script_spec.specs.Fields.{type}
 use Rattle.index.specs.Cells.{cell, typeOffset}
-use Rattle.index.specs.Standing.{bodyAt}
-use Rattle.entry.specs.Types.{typeSaid, TypeAt}
+use Rattle.index.specs.Standing.{markAt, bodyAt, entryAt}
+use Rattle.term_file.specs.Marks.{mark, Marked}
+use Rattle.term_file.proofs.mark.Kind.{the-type}
+use Rattle.term_file.specs.declared.mark.Kind.{Kind}
+use Rattle.term_file.specs.declared.mark.Kind.the-variants as kind
+use Rattle.entry.specs.Types.{typeSaid, IsType}
+use Rattle.entry.proofs.Classes.{typeShape, shape, kind-shape, marked-entry}
 use Rattle.entry.proofs.Rows.{type-stands}
-use Rattle.entry.proofs.types.TypeEntry.{the-type}
+use Rattle.entry.proofs.TypeEntries.{under, type-bool, type-string, type-bitvec, type-at}
 use Rattle.entry.specs.declared.types.TypeEntry.{TypeEntry}
 use Rattle.entry.specs.declared.types.TypeEntry.the-variants as entry
+use Rattle.type_walk.specs.Parts.{IsPlain}
 use Rattle.type_walk.specs.Types.{IsDatatype}
 
--- whether a type is a datatype as its record has it
-unfoldable pub isDeclared : TypeEntry → Bool
-isDeclared entry.Bool = false
-isDeclared entry.String = false
-isDeclared (entry.BitVec n) = false
-isDeclared (entry.Option n) = false
-isDeclared (entry.Set n) = false
-isDeclared (entry.Entity p) = true
-isDeclared (entry.Ext x) = true
-isDeclared (entry.Record n) = true
-isDeclared entry.Unreadable = false
+-- ---- datatypes
 
--- whether an entry is one of a datatype
-unfoldable declaredIn : Option Entry → Bool
-declaredIn none = false
-declaredIn (some (type m rs)) = isSome (datatypeMark m)
-declaredIn (some (enum n ms)) = false
-declaredIn (some (func id a r)) = false
-declaredIn (some (term m rs)) = false
-declaredIn (some (input n)) = false
+-- the places of the kinds that are datatypes, and of the others
+abbrev declared : List ℕ
+declared = 5 ∷ 6 ∷ 7 ∷ []
 
-declared-said : (body : Bytes) (ty : TypeEntry) → isDeclared ty ≡ declaredIn (typeSaid body ty)
-unfolding isDeclared declaredIn typeSaid datatypeMark isSome
-declared-said body entry.Bool = refl
-declared-said body entry.String = refl
-declared-said body (entry.BitVec n) = refl
-declared-said body (entry.Option n) = refl
-declared-said body (entry.Set n) = refl
-declared-said body (entry.Entity p) = refl
-declared-said body (entry.Ext x) = refl
-declared-said body (entry.Record n) = refl
-declared-said body entry.Unreadable = refl
+abbrev others : List ℕ
+others = 0 ∷ 1 ∷ 2 ∷ 3 ∷ 4 ∷ 8 ∷ 9 ∷ 10 ∷ 11 ∷ 12 ∷ 13 ∷ 14 ∷ 15 ∷ 16 ∷ 17 ∷ 18 ∷ 19 ∷ 20 ∷ 21 ∷ 22 ∷ []
 
-pub tells-datatype : {file : Bytes} {work : List ℕ} {k t : ℕ} {ty : TypeEntry} {r : Bool} → TypeAt file (cell work k typeOffset t) ty → r ≡ isDeclared ty → IsDatatype file work k t r
-unfolding datatype declaredIn
-tells-datatype {file} {work} {k} {t} {ty} T e = record {
-  go = λ f I l.
-      type-stands (I .type-row t l .stands) (λ m rs reads below tree.
-      e ∙ declared-said (bodyAt file (cell work k typeOffset t)) ty ∙ ap declaredIn (T .go m rs reads) ∙ ap (λ (u : Ty). isSome (datatype u)) tree);
-}
+declared-shape : (m : TypeMark) → OneOf declared (typeShape m) → true ≡ isSome (datatypeMark m)
+unfolding typeShape datatypeMark isSome
+declared-shape tree.Bool· h = absurd (miss declared 0 tt h)
+declared-shape tree.String· h = absurd (miss declared 1 tt h)
+declared-shape (tree.BitVec· n) h = absurd (miss declared 2 tt h)
+declared-shape tree.Option· h = absurd (miss declared 3 tt h)
+declared-shape tree.Set· h = absurd (miss declared 4 tt h)
+declared-shape (tree.Declared d) h = refl
 
--- the types that are no datatypes, by their places among the entries
-abbrev tags : List ℕ
-tags = 0 ∷ 1 ∷ 2 ∷ 3 ∷ 4 ∷ 8 ∷ []
+other-shape : (m : TypeMark) → OneOf others (typeShape m) → false ≡ isSome (datatypeMark m)
+unfolding typeShape datatypeMark isSome
+other-shape tree.Bool· h = refl
+other-shape tree.String· h = refl
+other-shape (tree.BitVec· n) h = refl
+other-shape tree.Option· h = refl
+other-shape tree.Set· h = refl
+other-shape (tree.Declared (tree.entity n)) h = absurd (miss others 5 tt h)
+other-shape (tree.Declared (tree.extension x)) h = absurd (miss others 6 tt h)
+other-shape (tree.Declared (tree.recordOf ns)) h = absurd (miss others 7 tt h)
 
-pub not-declared : (r : TypeEntry) → OneOf tags (tagOf the-type r) → false ≡ isDeclared r
-unfolding isDeclared
-not-declared entry.Bool h = refl
-not-declared entry.String h = refl
-not-declared (entry.BitVec n) h = refl
-not-declared (entry.Option n) h = refl
-not-declared (entry.Set n) h = refl
-not-declared (entry.Entity p) h = absurd (miss tags 5 tt h)
-not-declared (entry.Ext x) h = absurd (miss tags 6 tt h)
-not-declared (entry.Record n) h = absurd (miss tags 7 tt h)
-not-declared entry.Unreadable h = refl
+module _ {file : Bytes} {work : List ℕ} {k t o : ℕ} {kd : Kind} (place : o ≡ cell work k typeOffset t) (M : Marked (markAt file o) kd) where
+  tells-datatype : {r : Bool} → ((m : TypeMark) → typeShape m ≡ tagOf the-type kd → r ≡ isSome (datatypeMark m)) → IsDatatype file work k t r
+  unfolding datatype entryAt shape
+  tells-datatype {r} e = record {
+    go = λ f I l.
+        type-stands (I .type-row t l .stands) (λ m rs reads below tree.
+        let here : entryAt file o ≡ some (type m rs) = rw place reads in
+        marked-entry (bodyAt file o) (markAt file o) (mark kd) (M .is) here (λ s i q.
+        e m (kind-shape (bodyAt file o) kd s (type m rs) i q) ∙ ap (λ (u : Ty). isSome (datatype u)) tree));
+  }
+
+  pub is-declared : OneOf declared (tagOf the-type kd) → IsDatatype file work k t true
+  is-declared h = tells-datatype (λ m e. declared-shape m (subst (OneOf declared) (sym e) h))
+
+  pub not-declared : OneOf others (tagOf the-type kd) → IsDatatype file work k t false
+  not-declared h = tells-datatype (λ m e. other-shape m (subst (OneOf others) (sym e) h))
+
+-- ---- types without parts
+
+module _ {file : Bytes} {o : ℕ} {kd : Kind} (M : Marked (markAt file o) kd) where
+  -- by the type that a mark has for every body
+  plain-type : (ty : TypeEntry) (n : TypeMark) → ((body : Bytes) → typeSaid body ty ≡ some (type n [])) → datatypeMark n ≡ none → IsType (mark kd) (bodyAt file o) ty → IsPlain file o true
+  plain-type ty n said plain T = record {
+    go = λ h m rs g.
+        let x = type-at M refl T .go m rs g in
+        let y = said (bodyAt file o) in
+        let none-left : rs ≡ [] = cc in
+        let same : m ≡ n = cc in
+        (none-left, ap datatypeMark same ∙ plain);
+  }
+
+  pub plain-bool : kd ≡ kind.TB → IsPlain file o true
+  unfolding typeSaid datatypeMark
+  plain-bool e = plain-type entry.Bool tree.Bool· (λ body. refl) refl (under e type-bool)
+
+  pub plain-string : kd ≡ kind.TS → IsPlain file o true
+  unfolding typeSaid datatypeMark
+  plain-string e = plain-type entry.String tree.String· (λ body. refl) refl (under e type-string)
+
+  pub plain-bitvec : kd ≡ kind.TV → IsPlain file o true
+  unfolding typeSaid datatypeMark
+  plain-bitvec e = plain-type (entry.BitVec _) (tree.BitVec· _) (λ body. refl) refl (under e (type-bitvec refl))
+
+pub plain-any : {file : Bytes} {o : ℕ} → IsPlain file o false
+plain-any = record { go = λ h m rs g. absurd (let z : _≡_ {A = ℕ} 0 1 = cc in omega arith) }

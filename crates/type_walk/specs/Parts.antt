@@ -2,12 +2,12 @@
 -- Assumes nothing.
 use Prim.Native.Nat.{ℕ, suc, _+_, _<_}
 use mathlib.Core.Path.{_≡_}
-use mathlib.Core.Bool.{true, false}
-use mathlib.Core.List.{List, _∷_}
-use mathlib.Core.Option.{some}
+use mathlib.Core.Bool.{Bool, true, false}
+use mathlib.Core.List.{List, [], _∷_}
+use mathlib.Core.Option.{none, some}
 use lib.ListN.{drop, replicate}
 use Rattle.script_spec.specs.Base.{Bytes}
-use Rattle.script_spec.specs.Tree.{TypeMark}
+use Rattle.script_spec.specs.Tree.{TypeMark, datatypeMark}
 use Rattle.script_spec.specs.Fields.{type}
 use Rattle.index.specs.Standing.{bodyAt, entryAt}
 use Rattle.entry.specs.declared.types.TypeEntry.{TypeEntry}
@@ -42,6 +42,10 @@ partsSaid entry.Unreadable = noParts
 -- a record that is a type at an offset of a file has these parts
 pub record PartsAt (file : Bytes) (offset : ℕ) (r : Parts) : Type 0 where
   pub go : (m : TypeMark) (rs : List ℕ) → entryAt file offset ≡ some (type m rs) → partsIn (bodyAt file offset) r ≡ rs
+
+-- a type at an offset of a file that is told by its mark has no parts and is no datatype
+pub record IsPlain (file : Bytes) (offset : ℕ) (r : Bool) : Type 0 where
+  pub go : r ≡ true → (m : TypeMark) (rs : List ℕ) → entryAt file offset ≡ some (type m rs) → (rs ≡ []) × (datatypeMark m ≡ none)
 
 -- the attribute at a place of a body comes first, and so many after it
 pub record TakesNamed (body : Bytes) (at left : ℕ) (r : Part) : Type 0 where

@@ -1,8 +1,7 @@
 // Types and functions entered in their tables, and what declares them.
-use entry::types::TypeEntry;
 use progress::Progress;
 use spell::functions;
-use spell::sorts;
+use term_file::mark::Kind;
 ghost use mathlib.Core.Path.{_≡_};
 ghost use Rattle.progress.specs.Progress.{Advances};
 ghost use Rattle.type_walk.specs.Types.{IsDatatype, NewType, declareWalk, funReady, idWalk, NewFun, declareFunWalk};
@@ -11,10 +10,9 @@ ghost use Rattle.type_walk.specs.Types.{IsDatatype, NewType, declareWalk
 fn is_datatype(file: &[u8], work: &[u32], k: usize, t: u32) -> bool
     ensures { λ r. ⌜ IsDatatype (now (file .entry)) (now (work .entry)) k t r ⌝ }
 {
-    match sorts::type_at(file, work, k, t) {
-        TypeEntry::Entity(_) => true,
-        TypeEntry::Ext(_) => true,
-        TypeEntry::Record(_) => true,
+    let offset = index::get(work, k, index::TYPE_OFFSET, entry::wide(t));
+    match entry::kind_at(file, offset) {
+        Kind::TE | Kind::TX | Kind::TR => true,
         _ => false,
     }
 }

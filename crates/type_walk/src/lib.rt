@@ -11,7 +11,7 @@ ghost use Rattle.progress.specs.Progress.{Advances};
 ghost use Rattle.type_walk.specs.Parts.{partsIn};
 ghost use Rattle.type_walk.specs.Types.{typeReady, typeWalk, PartsReady, partsWalk, funReady, funWalk};
 
-// Encodes the type with number t: its parts, then itself. A type that has a name is left.
+// Encodes the type with number t: its parts, then itself. A type that has a name is left, and so is one that has no parts and is no datatype.
 pub fn encode_type(
     file: &[u8],
     work: &mut [u32],
@@ -33,6 +33,9 @@ pub fn encode_type(
         return p;
     }
     let offset = index::get(work, k, index::TYPE_OFFSET, entry::wide(t));
+    if parts::is_plain(file, offset) {
+        return p;
+    }
     let c = parts::parts_at(file, offset);
     let q = encode_types(file, work, k, many, out, limit, p, t, offset, c);
     declare::declare_type(file, work, k, many, out, limit, q, t)

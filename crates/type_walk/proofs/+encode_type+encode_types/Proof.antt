@@ -9,7 +9,7 @@ use Rattle.index.specs.Standing.{bodyAt}
 use Rattle.progress.proofs.Running.{advances-refused}
 use Rattle.type_walk.specs.Parts.{partsIn}
 use Rattle.type_walk.proofs.PartLaws.{no-parts}
-use Rattle.type_walk.proofs.Walking.{leaves-type, encodes-type, PartsLeft, parts-start, parts-on, parts-end, parts-never}
+use Rattle.type_walk.proofs.Walking.{leaves-type, passes-plain, encodes-type, PartsLeft, parts-start, parts-on, parts-end, parts-never}
 use borrow.Fn.Kinds.{In}
 use borrow.Fn.PlainCycle.{Measures, is, falls, and}
 use Rattle.type_walk.proofs.encode_type.Reads as encode-type
@@ -22,6 +22,7 @@ use Rattle.entry.proofs.wide.Reads as wide-reads
 use Rattle.index.proofs.get.Reads as get-reads
 use Rattle.spell.proofs.sorts.type_name.Reads as type-name-reads
 use Rattle.type_walk.proofs.declare.declare_type.Reads as declare-type-reads
+use Rattle.type_walk.proofs.parts.is_plain.Reads as is-plain-reads
 use Rattle.type_walk.proofs.parts.parts_at.Reads as parts-at-reads
 use Rattle.type_walk.proofs.parts.take_part.Reads as take-part-reads
 use Rattle.type_walk.proofs.+encode_type+encode_types.{statement}
@@ -54,7 +55,7 @@ encode-types-below t =
     encode-types.Pre
 
 abbrev encode-type-claims : ℕ → encode-type-lts.Claims
-encode-type-claims t = (type-name-reads.Asked, type-name-reads.Learnt, wide-reads.Asked, wide-reads.Learnt, get-reads.Asked, get-reads.Learnt, parts-at-reads.Asked, parts-at-reads.Learnt, encode-types-below t, encode-types.Post, declare-type-reads.Asked, declare-type-reads.Learnt)
+encode-type-claims t = (type-name-reads.Asked, type-name-reads.Learnt, wide-reads.Asked, wide-reads.Learnt, get-reads.Asked, get-reads.Learnt, is-plain-reads.Asked, is-plain-reads.Learnt, parts-at-reads.Asked, parts-at-reads.Learnt, encode-types-below t, encode-types.Post, declare-type-reads.Asked, declare-type-reads.Learnt)
 
 abbrev encode-types-claims : ℕ → encode-types-lts.Claims
 encode-types-claims t = (take-part-reads.Asked, take-part-reads.Learnt, encode-type-below t, encode-type.Post)
@@ -77,6 +78,15 @@ encode-type-wide-requires t c κs = search needs
 encode-type-get-requires : (t : ℕ) → encode-type-lts.Need-get-requires (encode-type-claims t) (encode-type-at t) encode-type.Post
 encode-type-get-requires t c κs = search needs
 
+encode-type-is-plain-requires : (t : ℕ) → encode-type-lts.Need-is-plain-requires (encode-type-claims t) (encode-type-at t) encode-type.Post
+encode-type-is-plain-requires t c κs = search needs
+
+encode-type-same-length-2 : (t : ℕ) → encode-type-lts.Need-same-length-2 (encode-type-claims t) (encode-type-at t) encode-type.Post
+encode-type-same-length-2 t c = search needs
+
+encode-type-returns-3 : (t : ℕ) → encode-type-lts.Need-returns-3 (encode-type-claims t) (encode-type-at t) encode-type.Post
+encode-type-returns-3 t c = passes-plain _ c.before.before.before.before.before.before.before.before.if1.left c.before.before.before.before.before.before.type-name.ensures c.before.before.before.before.before.if2.left (c.before.before.get.ensures ∙ (rw (c.before.before.before.wide.ensures .0))) c.before.is-plain.ensures c.if3.taken
+
 encode-type-parts-at-requires : (t : ℕ) → encode-type-lts.Need-parts-at-requires (encode-type-claims t) (encode-type-at t) encode-type.Post
 encode-type-parts-at-requires t c κs = search needs
 
@@ -86,14 +96,14 @@ encode-type-encode-types-requires t c κs = search needs
 encode-type-declare-type-requires : (t : ℕ) → encode-type-lts.Need-declare-type-requires (encode-type-claims t) (encode-type-at t) encode-type.Post
 encode-type-declare-type-requires t c κs = search needs
 
-encode-type-same-length-2 : (t : ℕ) → encode-type-lts.Need-same-length-2 (encode-type-claims t) (encode-type-at t) encode-type.Post
-encode-type-same-length-2 t c = search needs
-
 encode-type-same-length-3 : (t : ℕ) → encode-type-lts.Need-same-length-3 (encode-type-claims t) (encode-type-at t) encode-type.Post
 encode-type-same-length-3 t c = search needs
 
-encode-type-returns-3 : (t : ℕ) → encode-type-lts.Need-returns-3 (encode-type-claims t) (encode-type-at t) encode-type.Post
-encode-type-returns-3 t c = encodes-type _ c.before.before.before.before.before.before.before.before.before.before.before.before.before.before.before.before.before.before.before.before.before.if1.left c.before.before.before.before.before.before.before.before.before.before.before.before.before.before.before.before.before.before.before.type-name.ensures c.before.before.before.before.before.before.before.before.before.before.before.before.before.before.before.before.before.before.if2.left (c.before.before.before.before.before.before.before.before.before.before.before.before.before.before.before.get.ensures ∙ (rw (c.before.before.before.before.before.before.before.before.before.before.before.before.before.before.before.before.wide.ensures .0))) c.before.before.before.before.before.before.before.before.before.before.before.before.before.before.parts-at.ensures c.before.before.before.before.before.before.before.before.before.before.before.encode-types.ensures c.before.before.before.before.declare-type.ensures
+encode-type-same-length-4 : (t : ℕ) → encode-type-lts.Need-same-length-4 (encode-type-claims t) (encode-type-at t) encode-type.Post
+encode-type-same-length-4 t c = search needs
+
+encode-type-returns-4 : (t : ℕ) → encode-type-lts.Need-returns-4 (encode-type-claims t) (encode-type-at t) encode-type.Post
+encode-type-returns-4 t c = encodes-type _ c.before.before.before.before.before.before.before.before.before.before.before.before.before.before.before.before.before.before.before.before.before.before.before.if1.left c.before.before.before.before.before.before.before.before.before.before.before.before.before.before.before.before.before.before.before.before.before.type-name.ensures c.before.before.before.before.before.before.before.before.before.before.before.before.before.before.before.before.before.before.before.before.if2.left (c.before.before.before.before.before.before.before.before.before.before.before.before.before.before.before.before.before.get.ensures ∙ (rw (c.before.before.before.before.before.before.before.before.before.before.before.before.before.before.before.before.before.before.wide.ensures .0))) c.before.before.before.before.before.before.before.before.before.before.before.before.before.before.parts-at.ensures c.before.before.before.before.before.before.before.before.before.before.before.encode-types.ensures c.before.before.before.before.declare-type.ensures
 
 abbrev encode-types-Inv-loop : encode-types-lts.InvT-loop
 encode-types-Inv-loop file work₀ k many out₀ limit t offset q₀ left₀ work out q left =
@@ -144,12 +154,15 @@ pub +encode-type+encode-types-spec : {M : Type 1} → statement M
     (encode-type-returns-2 t)
     (encode-type-wide-requires t)
     (encode-type-get-requires t)
+    (encode-type-is-plain-requires t)
+    (encode-type-same-length-2 t)
+    (encode-type-returns-3 t)
     (encode-type-parts-at-requires t)
     (encode-type-encode-types-requires t)
     (encode-type-declare-type-requires t)
-    (encode-type-same-length-2 t)
     (encode-type-same-length-3 t)
-    (encode-type-returns-3 t))
+    (encode-type-same-length-4 t)
+    (encode-type-returns-4 t))
     λ t. encode-types-lts.spec (encode-types-claims t) (encode-types-at t)
     encode-types.Post
     encode-types-Inv-loop

@@ -1,0 +1,131 @@
+-- A record that is no `Bvnego`: by its mark, or by its operator's code, since only one place of the table has `Bvnego`.
+-- Assumes nothing.
+use Prim.Native.Nat.{ℕ, zero, suc, _^_}
+use native.Mathlib.Omega.{arith}
+use mathlib.Core.Path.{_≡_, refl, sym, ap, _∙_, subst}
+use mathlib.Core.Bool.{Bool, true, false}
+use mathlib.Core.List.{List, [], _∷_, _++_, map}
+use mathlib.Core.Option.{Option, none, some, Option·none-ne-some}
+use lib.ListN.{length, take, drop}
+use package.types.Run.{OneOf, miss}
+use denote.Enum.Declared.{tagOf}
+use Rattle.script_spec.specs.Base.{Bytes, bytes, at, same, lookup, andThen}
+use Rattle.script_spec.specs.Tree as tree
+use Rattle.script_spec.specs.Tree.{PlainOp, Op, App, Plain, Bvnego}
+use Rattle.script_spec.specs.Fields.{Entry, term, got, Reader, _>>=_, pure, present, byte, u32, text, list, ref, element, extOp, plain, operators, operator, marks}
+use Rattle.index.specs.First.{All}
+use Rattle.index.specs.Standing.{markAt, bodyAt, entryOf, entryAt, loose}
+use Rattle.index.proofs.Readers.{Gives, gives-after, gives-pure, got-value, bad-not-got}
+use Rattle.field.specs.Reads.{value, asRead, Reads}
+use Rattle.term_file.specs.Marks.{mark, Marked}
+use Rattle.term_file.proofs.mark.Kind.{the-type}
+use Rattle.term_file.specs.declared.mark.Kind.{Kind}
+use Rattle.term_file.specs.declared.mark.Kind.the-variants as kind
+use Rattle.entry.proofs.Classes.{termShape, shape, kind-shape, marked-entry}
+use Rattle.entry.proofs.Inverse.{entry-whole, bind-inverse, tested-inverse}
+use Rattle.entry.proofs.TypeEntries.{coded-by}
+use Rattle.query.specs.Negations.{OtherCode, IsOther}
+use Rattle.query.proofs.NegoLaws.{never}
+
+-- ---- the table of operators
+
+module _ {A : Type 0} (P : A → Type 0) where
+  at-all : (xs : List A) (n : ℕ) (a : A) → All P xs → at n xs ≡ some a → P a
+  unfolding at All
+  at-all [] n a q e = absurd (Option·none-ne-some a e)
+  at-all (x ∷ xs) zero a q e = let s : x ≡ a = cc in subst P s (q .0)
+  at-all (x ∷ xs) (suc n) a q e = at-all xs n a (q .1) e
+
+  -- what stands at any other place of a table
+  at-other : (xs : List A) (y : A) (zs : List A) (n : ℕ) (a : A) → All P xs → All P zs → (n ≡ length xs → ⊥) → at n (xs ++ y ∷ zs) ≡ some a → P a
+  unfolding at All
+  at-other [] y zs zero a p q h e = absurd (h refl)
+  at-other [] y zs (suc n) a p q h e = at-all zs n a q e
+  at-other (x ∷ xs) y zs zero a p q h e = let s : x ≡ a = cc in subst P s (p .0)
+  at-other (x ∷ xs) y zs (suc n) a p q h e = at-other xs y zs n a (p .1) q (λ i. h (ap suc i)) e
+
+-- a reader that never makes `Bvnego`
+abbrev Unlike : Reader (Op ℕ) → Type 0
+Unlike r = Gives (λ o. o ≡ Plain Bvnego → ⊥) r r
+
+one : (o : Op ℕ) → (o ≡ Plain Bvnego → ⊥) → Unlike (pure o)
+one o h = gives-pure {P = λ o. o ≡ Plain Bvnego → ⊥} o h
+
+with-field : {A : Type 0} (r : Reader A) (k : A → Op ℕ) → ((a : A) → k a ≡ Plain Bvnego → ⊥) → Unlike (_>>=_ r (λ a. pure (k a)))
+with-field r k h = gives-after {P = λ o. o ≡ Plain Bvnego → ⊥} r (λ a. one (k a) (h a))
+
+plain-one : (o : PlainOp) → (_≡_ {A = Op ℕ} (Plain o) (Plain Bvnego) → ⊥) → Unlike (plain o)
+unfolding plain
+plain-one o h = one (Plain o) h
+
+-- the operators before `Bvnego`, and those after it
+others-before : (n : ℕ) → All Unlike (take 5 (operators n))
+unfolding All operators
+others-before n =
+    (plain-one tree.And (λ e. never (cc)), (plain-one tree.Bvadd (λ e. never (cc)), (plain-one tree.Bvlshr (λ e. never (cc)), (plain-one tree.Bvmul (λ e. never (cc)), (plain-one tree.Bvneg (λ e. never (cc)), tt)))))
+
+others-after : (n : ℕ) → All Unlike (drop 6 (operators n))
+unfolding All operators
+others-after n =
+    (plain-one tree.Bvsaddo (λ e. never (cc)), (plain-one tree.Bvsdiv (λ e. never (cc)), (plain-one tree.Bvshl (λ e. never (cc)), (plain-one tree.Bvsle (λ e. never (cc)), (plain-one tree.Bvslt (λ e. never (cc)), (plain-one tree.Bvsmod (λ e. never (cc)), (plain-one tree.Bvsmulo (λ e. never (cc)), (plain-one tree.Bvsrem (λ e. never (cc)), (plain-one tree.Bvssubo (λ e. never (cc)), (plain-one tree.Bvsub (λ e. never (cc)), (plain-one tree.Bvudiv (λ e. never (cc)), (plain-one tree.Bvule (λ e. never (cc)), (plain-one tree.Bvult (λ e. never (cc)), (plain-one tree.Bvurem (λ e. never (cc)), (plain-one tree.Eq (λ e. never (cc)), (with-field extOp tree.Ext (λ o e. never (cc)), (plain-one tree.Ite (λ e. never (cc)), (plain-one tree.Not (λ e. never (cc)), (plain-one tree.OptionGet (λ e. never (cc)), (plain-one tree.Or (λ e. never (cc)), (with-field text tree.RecordGet (λ a e. never (cc)), (plain-one tree.SetInter (λ e. never (cc)), (plain-one tree.SetMember (λ e. never (cc)), (plain-one tree.SetSubset (λ e. never (cc)), (with-field (list element) tree.StringLike (λ p e. never (cc)), (with-field (ref n) tree.Uuf (λ f e. never (cc)), (with-field u32 tree.ZeroExtend (λ n e. never (cc)), tt)))))))))))))))))))))))))))
+
+operators-split : (n : ℕ) → operators n ≡ take 5 (operators n) ++ plain Bvnego ∷ drop 6 (operators n)
+unfolding operators
+operators-split n = refl
+
+-- another code is that of another operator
+other-at : (n code : ℕ) (r : Reader (Op ℕ)) → (code ≡ 5 → ⊥) → at code (operators n) ≡ some r → Unlike r
+unfolding operators
+other-at n code r h e = at-other Unlike (take 5 (operators n)) (plain Bvnego) (drop 6 (operators n)) code r (others-before n) (others-after n) h (ap (at code) (sym (operators-split n)) ∙ e)
+
+-- ---- applications
+
+present-inverse : {A P : Type 0} (n : ℕ) (o : Option A) (s : Bytes) {a : A} {rest : Bytes} → present n o s ≡ got a rest → (o ≡ some a → P) → P
+unfolding present
+present-inverse n none s {a} {rest} h next = absurd (bad-not-got n a rest h)
+present-inverse n (some b) s {a} {rest} h next = next (ap some (got-value b a s rest h))
+
+module _ {body : Bytes} {code to : ℕ} (b : Reads byte body 4 (value code to)) (h : code ≡ 5 → ⊥) where
+  operator-other : {o : Op ℕ} {rest : Bytes} → operator (2 ^ 32) (drop 4 body) ≡ got o rest → o ≡ Plain Bvnego → ⊥
+  unfolding operator asRead
+  operator-other {o} {rest} e =
+      bind-inverse (present 7 (at code (operators (2 ^ 32)))) (λ r. r) (drop to body) (sym (coded-by (drop 4 body) (operators (2 ^ 32)) (b .is)) ∙ e) (λ r mid p q.
+      present-inverse 7 (at code (operators (2 ^ 32))) (drop to body) p (λ found.
+      other-at (2 ^ 32) code r h found .go mid rest o q .0))
+
+  app-other : (t : ℕ) (rs : List ℕ) → entryOf (bytes "XA") body ≡ some (term (App t (Plain Bvnego)) rs) → ⊥
+  unfolding entryOf andThen marks lookup same bytes ref pure loose
+  app-other t rs e =
+      bind-inverse (ref (2 ^ 32)) _ body (entry-whole _ _ e) (λ x mid p q. tested-inverse 8 _ body p (λ v d.
+      bind-inverse (operator (2 ^ 32)) _ mid q (λ y end i j.
+      bind-inverse (list (ref (2 ^ 32))) _ end j (λ ts last k l.
+      let made : term (App x y) ts ≡ term (App t (Plain Bvnego)) rs = got-value (term (App x y) ts) _ last [] l in
+      let op-is : y ≡ Plain Bvnego = cc in
+      operator-other (ap (operator (2 ^ 32)) d ∙ i) op-is))))
+
+  pub code-other : (r : Bool) → OtherCode body r
+  code-other r = record { go = λ e t rs. app-other t rs }
+
+pub code-any : {body : Bytes} → OtherCode body false
+code-any = record { go = λ e t rs g. never (cc) }
+
+-- ---- records
+
+pub record-other : {file body : Bytes} {o : ℕ} {k : Kind} {r : Bool} → Marked (markAt file o) k → k ≡ kind.XA → body ≡ bodyAt file o → OtherCode body r → IsOther file o r
+unfolding entryAt mark
+record-other {file} {body} {o} {k} {r} m e b C = record {
+  go = λ h t rs g. marked-entry (bodyAt file o) (markAt file o) (mark k) (m .is) g (λ s i q.
+      let under : bytes "XA" ≡ s = cc in
+      C .go h t rs (rw (b, under) q));
+}
+
+-- the places of the other kinds
+abbrev tags : List ℕ
+tags = 0 ∷ 1 ∷ 2 ∷ 3 ∷ 4 ∷ 5 ∷ 6 ∷ 7 ∷ 8 ∷ 9 ∷ 10 ∷ 11 ∷ 12 ∷ 13 ∷ 14 ∷ 15 ∷ 16 ∷ 17 ∷ 18 ∷ 19 ∷ 21 ∷ 22 ∷ []
+
+pub mark-other : {file : Bytes} {o : ℕ} {k : Kind} {r : Bool} → Marked (markAt file o) k → OneOf tags (tagOf the-type k) → IsOther file o r
+unfolding entryAt shape termShape
+mark-other {file} {o} {k} {r} m h = record {
+  go = λ e t rs g. marked-entry (bodyAt file o) (markAt file o) (mark k) (m .is) g (λ s i q.
+      miss tags 20 tt (subst (OneOf tags) (sym (kind-shape (bodyAt file o) k s (term (App t (Plain Bvnego)) rs) i q)) h));
+}
