@@ -12,7 +12,7 @@ use Rattle.index.proofs.Growth.{counts-together}
 
 -- ---- rows that stay
 
--- how many entries of each column the records f have
+-- how many entries of each column the records f have, column after column; the slots belong to no record
 unfoldable pub used : TermFile → ℕ → ℕ
 used f column =
     let ty = length (types f) in

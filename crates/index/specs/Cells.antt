@@ -65,8 +65,10 @@ enumOffset = 10
 abbrev pub hash : ℕ
 hash = 11
 
+-- at the end of the offsets of types
 abbrev pub termPlace : ℕ
 termPlace = 12
 
+-- at the end of the offsets of enums
 abbrev pub inputTerm : ℕ
 inputTerm = 22
