@@ -21,7 +21,7 @@ use Rattle.compare.proofs.Compared.{kind-none}
 
 -- ---- one number more
 
-larger-kind : (b : Bool) (number most : ℕ) (ns : List ℕ) → max (greatest (ofKind b number (most ∷ []))) (greatest ns) ≡ max most (greatest (ofKind b number ns))
+pub larger-kind : (b : Bool) (number most : ℕ) (ns : List ℕ) → max (greatest (ofKind b number (most ∷ []))) (greatest ns) ≡ max most (greatest (ofKind b number ns))
 unfolding ofKind greatest
 larger-kind true number most ns = omega arith
 larger-kind false number most ns = omega arith

@@ -1,4 +1,6 @@
 pub mod Views
+pub mod Shapes
+pub mod Opened
 pub mod Compared
 pub mod Canonical
 pub mod Depths

@@ -6,7 +6,7 @@ use mathlib.Core.Path.{_≡_, refl, sym, ap, _∙_, subst}
 use mathlib.Core.Bool.{false}
 use mathlib.Core.List.{List, [], _∷_, map}
 use lib.Dec.{leb, nleb→lt}
-use lib.ListN.{length, take, drop, getD, length-drop, drop-of-length-le, List·getD-eq-default}
+use lib.ListN.{length, take, drop, getD, length-drop, drop-of-length-le}
 use lib.Seq.{getD-take, getD-drop, take-all, take-nil}
 use Rattle.script_spec.specs.Base.{Bytes}
 use Rattle.script_spec.specs.Fields.{low}
@@ -35,9 +35,6 @@ module _ (file : Bytes) (o : ℕ) where
   startAt-bytes =
       let zero : o + 0 ≡ o = omega arith in
       rw (getD-take 2 (drop o file) 0 0 (omega arith), getD-take 2 (drop o file) 1 0 (omega arith), getD-drop o file 0 0, getD-drop o file 1 0, zero)
-
-  pub startAt-past : length file ≤ o → startAt file o ≡ start (getD file o 0) 0
-  startAt-past h = startAt-bytes ∙ ap (start (getD file o 0)) (List·getD-eq-default file 0 {n = o + 1} (omega arith))
 
   pub bodyAt-past : length file < o + 6 → [] ≡ bodyAt file o
   unfolding bodyAt

@@ -4,15 +4,18 @@ ghost use Prim.Native.Nat.{_+_, _≤_};
 ghost use mathlib.Core.List.{[], _∷_, map};
 ghost use lib.ListN.{length, take, drop};
 ghost use Rattle.segments.specs.Segment.{plain, typeRef};
-ghost use Rattle.segments.specs.Machine.{ahead};
+ghost use Rattle.segments.specs.declared.Item.the-variants.{Term};
+ghost use Rattle.segments.specs.Machine.{ahead, items};
 ghost use Rattle.segments.specs.Printed.{lowBytes};
 ghost use Rattle.compare.specs.View.{viewed, segmentsAt};
-ghost use Rattle.compare.specs.declared.View.the-variants.{Listed};
+ghost use Rattle.compare.specs.declared.View.the-variants.{First, Listed};
 ghost use Rattle.index.specs.Names.{mixed, mixedBytes};
 ghost use Rattle.hash.specs.Hash.{mixedSegments, recordHash, typeHash};
 use compare::Seen;
+use compare::Shape;
 use compare::View;
 use segments::Walk;
+use segments::Word;
 
 // A byte as a word.
 fn wide(b: u8) -> u32
@@ -71,13 +74,62 @@ fn mix_ahead(body: &[u8], w: Walk, work: &[u32], k: usize, view: View, h: u32) -
     }
 }
 
+// A hash with the kind and the number of a reference mixed in.
+fn mix_reference(h: u32, kind: u32, number: u32) -> u32
+    ensures { λ r. ⌜ r ≡ mixed (mixed h kind) number ⌝ }
+{
+    let x = mix(h, kind);
+    mix(x, number)
+}
+
+// A hash with bytes mixed in as a segment.
+fn mix_plain(h: u32, s: &[u8]) -> u32
+    ensures { λ r. ⌜ r ≡ mixedBytes (mixed (mixed h 1) 0) (now (s .entry)) ⌝ }
+{
+    let x = mix_reference(h, 1, 0);
+    mix_bytes(x, s)
+}
+
+// A hash with so many references to terms from a place of a body on mixed in.
+fn mix_terms(body: &[u8], from: usize, count: u32, work: &[u32], k: usize, h: u32) -> u32
+    ensures { λ r. ⌜ r ≡ mixedSegments h (map (viewed (now (work .entry)) k First) (items Term count (drop from (now (body .entry))))) ⌝ }
+{
+    let mut at = from;
+    let mut left = count;
+    let mut x = h;
+    while 0 < left {
+        let Word::Value(n) = segments::read_word(body, at) else {
+            return x;
+        };
+        x = mix_reference(x, 4, index::get(work, k, index::TERM_FIRST, n as usize));
+        at += 4;
+        left -= 1;
+    }
+    x
+}
+
+// A hash with the segments of an application mixed in: its type, the code of its operator, the count, and its arguments.
+fn mix_applied(body: &[u8], t: u32, count: u32, work: &[u32], k: usize, h: u32) -> u32
+    requires { ⌜ 9 ≤ length (now body) ⌝ }
+    ensures { λ r. ⌜ r ≡ mixedSegments h (map (viewed (now (work .entry)) k First) (typeRef t ∷ plain (take 1 (drop 4 (now (body .entry)))) ∷ plain (take 4 (drop 5 (now (body .entry)))) ∷ items Term count (drop 9 (now (body .entry))))) ⌝ }
+{
+    let x = mix_reference(h, 2, index::get(work, k, index::TYPE_FIRST, t as usize));
+    let y = mix_plain(x, &body[4..5]);
+    let z = mix_plain(y, &body[5..9]);
+    mix_terms(body, 9, count, work, k, z)
+}
+
 // The hash of the record at an offset.
 pub fn record_hash(file: &[u8], work: &[u32], k: usize, o: usize) -> u32
     ensures { λ r. ⌜ r ≡ recordHash (now (file .entry)) (now (work .entry)) k o ⌝ }
 {
-    let w = compare::walk_of(file, o);
+    let body = compare::body_of(file, o);
     let h = mix_bytes(0, field::part_of(file, o, 2));
-    mix_ahead(compare::body_of(file, o), w, work, k, View::First, h)
+    match compare::shape_of(file, o, body) {
+        Shape::Sole(n) => mix_reference(h, 4, index::get(work, k, index::TERM_FIRST, n as usize)),
+        Shape::Applied(t, m) => mix_applied(body, t, m, work, k, h),
+        Shape::Other => mix_ahead(body, compare::walk_of(file, o), work, k, View::First, h),
+    }
 }
 
 // The hash of a type's mark: the byte T, which is 84, and a second one.
