@@ -19,7 +19,8 @@ use Rattle.term_file.specs.Marks.{Marked, MarkedAs, mark}
 use Rattle.term_file.specs.declared.mark.Kind.{Kind}
 use Rattle.term_file.specs.declared.mark.Kind.the-variants as kind
 use Rattle.term_file.proofs.Marked.{names, unmarked}
-use Rattle.entry.specs.Places.{numberAt, firstText, textSize, namedItems, texts, IsText}
+use Rattle.index.specs.Lists.{numberAt, firstText, textSize, texts}
+use Rattle.entry.specs.Places.{namedItems, IsText}
 use Rattle.entry.proofs.Inverse.{u32-inverse}
 
 -- ---- numbers

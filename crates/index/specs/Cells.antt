@@ -70,3 +70,12 @@ termPlace = 12
 
 abbrev pub inputTerm : ℕ
 inputTerm = 22
+
+abbrev pub enumList : ℕ
+enumList = 13
+
+abbrev pub typeList : ℕ
+typeList = 16
+
+abbrev pub listRow : ℕ
+listRow = 19

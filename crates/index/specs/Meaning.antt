@@ -8,14 +8,15 @@ use mathlib.Core.List.{List, [], _∷_}
 use mathlib.Core.Option.{some}
 use lib.ListN.{length, getD}
 use Rattle.script_spec.specs.Base.{Bytes}
-use Rattle.script_spec.specs.Tree.{Tm, typeOf, depth, node, nil, Some}
+use Rattle.script_spec.specs.Tree.{Tm, typeOf, depth, node, nil, Some, attributes}
 use Rattle.script_spec.specs.Fields.{Entry, Earlier}
 use Rattle.script_spec.specs.Fields as fields
 use Rattle.script_spec.specs.File.{TermFile, Named, type, enum, func, term, input, types, funs, terms, inputs, enums, typeAt, funAt, termAt, named}
-use Rattle.index.specs.Cells.{cell, typeOffset, typeFirst, typeDepth, funOffset, funFirst, termOffset, termFirst, termType, termDepth, enumOffset, termPlace, inputTerm}
+use Rattle.index.specs.Cells.{cell, typeOffset, typeFirst, typeDepth, funOffset, funFirst, termOffset, termFirst, termType, termDepth, enumOffset, termPlace, inputTerm, enumList, typeList}
 use Rattle.index.specs.First.{firstType, firstFun, firstTerm, InRange}
-use Rattle.index.specs.Standing.{entryAt}
+use Rattle.index.specs.Standing.{bodyAt, entryAt}
 use Rattle.index.specs.Names.{Names}
+use Rattle.index.specs.Lists.{Listed, Blank}
 
 -- the record at an offset of the file names r among the records f, and refers only to records that e counts
 pub record Stands (file : Bytes) (f : TermFile) (e : Earlier) (offset : ℕ) (r : Named) : Type 0 where
@@ -75,6 +76,11 @@ module _ (file : Bytes) (f : TermFile) (work : List ℕ) (k : ℕ) where
     pub below : cell work k inputTerm n < length (terms f)
     pub is : termAt f (cell work k inputTerm n) ≡ inputAt f n
 
+  -- the lists of the attributes of record types, and of the members of enums, where they are made
+  pub record Listings : Type 0 where
+    pub of-type : (t base : ℕ) → t < length (types f) → cell work k typeList t ≡ suc base → (names : List Bytes) → attributes (typeAt f t) ≡ some names → Listed (bodyAt file (cell work k typeOffset t)) 4 names work k base
+    pub of-enum : (e base : ℕ) → e < length (enums f) → cell work k enumList e ≡ suc base → Listed (bodyAt file (cell work k enumOffset e)) 0 (getD (enums f) e ([], []) .1) work k base
+
   -- every type, function, term, enum and input of the file has its row, and every enum its slot
   pub record Index : Type 0 where
     pub fits : 12 * k ≤ length work
@@ -85,11 +91,13 @@ module _ (file : Bytes) (f : TermFile) (work : List ℕ) (k : ℕ) where
     pub input-row : (n : ℕ) → n < length (inputs f) → InputRow n
     pub fit : length f ≤ k
     pub names : Names f work k
+    pub listed : Listings
 
-  -- the depths, which check needs
+  -- the depths, which check needs, and that it makes no list
   pub record Depths : Type 0 where
     pub type-depth : (n : ℕ) → n < length (types f) → cell work k typeDepth n ≡ depth (typeAt f n)
     pub term-depth : (n : ℕ) → n < length (terms f) → cell work k termDepth n ≡ depth (termAt f n)
+    pub blank : Blank (length (types f)) (length (funs f)) work k
 
 -- the index of the records f, with the depths
 pub record Indexed (file : Bytes) (f : TermFile) (work : List ℕ) (k : ℕ) : Type 0 where

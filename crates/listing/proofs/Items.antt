@@ -18,7 +18,7 @@ use Rattle.index.proofs.Readers.{got-value}
 use Rattle.record_rules.specs.Marks.{markOf}
 use Rattle.record_rules.proofs.Marks.{entry-mark}
 use Rattle.term_check.proofs.FirstByte.{Kind, kind-of, term-byte}
-use Rattle.entry.specs.Places.{numberAt}
+use Rattle.index.specs.Lists.{numberAt}
 use Rattle.entry.proofs.Inverse.{entry-whole, bind-inverse, tested-inverse}
 use Rattle.entry.proofs.Places.{body-as}
 use Rattle.listing.specs.Listing.{itemOf, ItemAt, NextPlace}

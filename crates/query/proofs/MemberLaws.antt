@@ -20,7 +20,8 @@ use Rattle.index.specs.Standing.{bodyAt}
 use Rattle.index.specs.Meaning.{Index}
 use Rattle.field.specs.Answers.{spanned}
 use Rattle.field.specs.declared.Span.{Span}
-use Rattle.entry.specs.Places.{namedItems, texts}
+use Rattle.index.specs.Lists.{texts}
+use Rattle.entry.specs.Places.{namedItems}
 use Rattle.entry.specs.Types.{extTypeOf, typeSaid, TypeAt}
 use Rattle.entry.specs.Symbols.{EnumAt}
 use Rattle.entry.specs.declared.symbols.Enum.{Enum}

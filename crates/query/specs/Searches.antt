@@ -10,7 +10,7 @@ use Rattle.script_spec.specs.Base.{Bytes, isSome, same, place}
 use Rattle.script_spec.specs.Tree.{Ty, Enums, attributes, attribute, enumOf}
 use Rattle.script_spec.specs.File.{TermFile, types, enums, members, typeAt}
 use Rattle.index.specs.Meaning.{Index}
-use Rattle.entry.specs.Places.{texts}
+use Rattle.index.specs.Lists.{texts}
 use Rattle.enum_table.specs.Enums.{enumAt, membersAt}
 use Rattle.query.specs.declared.Found.{Found}
 use Rattle.query.specs.declared.Found.the-variants as found

@@ -15,7 +15,7 @@ use Rattle.writer.specs.Writing.{Appends}
 use Rattle.writer.proofs.Laws.{_then_, says}
 use Rattle.index.specs.Cells.{cell, enumOffset}
 use Rattle.index.specs.Standing.{bodyAt}
-use Rattle.entry.specs.Places.{texts, textSize}
+use Rattle.index.specs.Lists.{texts, textSize}
 use Rattle.entry.specs.Symbols.{EnumAt}
 use Rattle.entry.specs.declared.symbols.Enum.{Enum}
 use Rattle.enum_table.specs.Enums.{enumAt, membersAt, FindsEnum}
