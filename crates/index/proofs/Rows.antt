@@ -36,8 +36,8 @@ pub listed-none : (file : Bytes) (f : TermFile) (work : List ℕ) (k : ℕ) → 
 listed-none file f work k B fit =
     let few = counts-together f in
     record {
-      of-type = λ t base l e names a. absurd (let z : 0 ≡ suc base = sym (B .no-type-list t (omega arith)) ∙ e in omega arith);
-      of-enum = λ t base l e. absurd (let z : 0 ≡ suc base = sym (B .no-enum-list t (omega arith)) ∙ e in omega arith);
+      of-types = record { list = λ t base l e names a. absurd (let z : 0 ≡ suc base = sym (B .no-type-list t (omega arith)) ∙ e in omega arith) };
+      of-enums = record { list = λ t base l e names a. absurd (let z : 0 ≡ suc base = sym (B .no-enum-list t (omega arith)) ∙ e in omega arith) };
     }
 
 -- ---- old rows

@@ -8,18 +8,11 @@ use lib.ListN.{length, getD}
 use Rattle.script_spec.specs.File.{TermFile, types, funs, terms, inputs, enums}
 use Rattle.index.specs.Cells.{placed, cell, store, typeOffset, typeFirst, typeDepth, funOffset, funFirst, termOffset, termFirst, termType, termDepth, enumOffset, hash, termPlace, inputTerm, enumList, typeList}
 use Rattle.index.specs.Lists.{Blank}
+unfoldable pub use Rattle.index.specs.Meaning.{used}
 use Rattle.index.proofs.Cells.{shared, Apart, length-store, cell-store-same, cell-store-apart}
 use Rattle.index.proofs.Growth.{counts-together}
 
 -- ---- rows that stay
-
--- how many entries of each column the records f have
-unfoldable pub used : TermFile → ℕ → ℕ
-used f column =
-    let ty = length (types f) in
-    let fn = length (funs f) in
-    let tm = length (terms f) in
-    getD (ty ∷ ty ∷ ty ∷ fn ∷ fn ∷ fn ∷ tm ∷ tm ∷ tm ∷ tm ∷ length (enums f) ∷ 0 ∷ tm ∷ 0 ∷ 0 ∷ 0 ∷ 0 ∷ 0 ∷ 0 ∷ 0 ∷ 0 ∷ 0 ∷ length (inputs f) ∷ []) column 0
 
 -- the rows of the records f have what they had
 pub record Untouched (f : TermFile) (k : ℕ) (work work′ : List ℕ) : Type 0 where

@@ -9,6 +9,7 @@ use lib.ListN.{length, take, drop}
 use Rattle.script_spec.specs.Base.{Bytes, ascending}
 use Rattle.script_spec.specs.Fields.{low}
 use Rattle.index.specs.Cells.{cell, enumList, typeList, listRow}
+use Rattle.index.specs.Standing.{bodyAt}
 
 -- the number in the four bytes at a place; 0 where there are fewer
 unfoldable pub numberAt : Bytes → ℕ → ℕ
@@ -30,6 +31,10 @@ texts skip (suc n) s = firstText s ∷ texts skip n (drop skip (drop (textSize s
 pub record Listed (body : Bytes) (skip : ℕ) (names : List Bytes) (work : List ℕ) (k base : ℕ) : Type 0 where
   pub ordered : ascending names ≡ true
   pub rows : (j : ℕ) → 2 * j < length names → texts skip (length names - 2 * j) (drop (cell work k listRow (base + j)) body) ≡ drop (2 * j) names
+
+-- the lists whose first rows a column has, of the texts that each record of a kind has
+pub record ListsOf (file : Bytes) (work : List ℕ) (k column offsets skip count : ℕ) (has : ℕ → List Bytes → Type 0) : Type 0 where
+  pub list : (n base : ℕ) → n < count → cell work k column n ≡ suc base → (names : List Bytes) → has n names → Listed (bodyAt file (cell work k offsets n)) skip names work k base
 
 -- no list is made, where there are so many types and functions
 pub record Blank (ty fn : ℕ) (work : List ℕ) (k : ℕ) : Type 0 where

@@ -14,9 +14,17 @@ use Rattle.script_spec.specs.Fields as fields
 use Rattle.script_spec.specs.File.{TermFile, Named, type, enum, func, term, input, types, funs, terms, inputs, enums, typeAt, funAt, termAt, named}
 use Rattle.index.specs.Cells.{cell, typeOffset, typeFirst, typeDepth, funOffset, funFirst, termOffset, termFirst, termType, termDepth, enumOffset, termPlace, inputTerm, enumList, typeList}
 use Rattle.index.specs.First.{firstType, firstFun, firstTerm, InRange}
-use Rattle.index.specs.Standing.{bodyAt, entryAt}
+use Rattle.index.specs.Standing.{entryAt}
 use Rattle.index.specs.Names.{Names}
-use Rattle.index.specs.Lists.{Listed, Blank}
+use Rattle.index.specs.Lists.{ListsOf, Blank}
+
+-- how many entries of each column the records f have
+unfoldable pub used : TermFile → ℕ → ℕ
+used f column =
+    let ty = length (types f) in
+    let fn = length (funs f) in
+    let tm = length (terms f) in
+    getD (ty ∷ ty ∷ ty ∷ fn ∷ fn ∷ fn ∷ tm ∷ tm ∷ tm ∷ tm ∷ length (enums f) ∷ 0 ∷ tm ∷ 0 ∷ 0 ∷ 0 ∷ 0 ∷ 0 ∷ 0 ∷ 0 ∷ 0 ∷ 0 ∷ length (inputs f) ∷ []) column 0
 
 -- the record at an offset of the file names r among the records f, and refers only to records that e counts
 pub record Stands (file : Bytes) (f : TermFile) (e : Earlier) (offset : ℕ) (r : Named) : Type 0 where
@@ -46,6 +54,13 @@ termPlaceOf (r ∷ f) n = placeAfter r (λ m. termPlaceOf f m) n
 -- the term of the input with number n; the default is for numbers that no input has
 unfoldable pub inputAt : TermFile → ℕ → Tm
 inputAt f n = getD (inputs f) n (node Some nil)
+
+-- a type has attributes of these names, and an enum these members
+abbrev pub HasAttributes : TermFile → ℕ → List Bytes → Type 0
+HasAttributes f t names = attributes (typeAt f t) ≡ some names
+
+abbrev pub HasMembers : TermFile → ℕ → List Bytes → Type 0
+HasMembers f e names = getD (enums f) e ([], []) .1 ≡ names
 
 module _ (file : Bytes) (f : TermFile) (work : List ℕ) (k : ℕ) where
   -- the row of a type, which refers to types of lower numbers
@@ -78,8 +93,8 @@ module _ (file : Bytes) (f : TermFile) (work : List ℕ) (k : ℕ) where
 
   -- the lists of the attributes of record types, and of the members of enums, where they are made
   pub record Listings : Type 0 where
-    pub of-type : (t base : ℕ) → t < length (types f) → cell work k typeList t ≡ suc base → (names : List Bytes) → attributes (typeAt f t) ≡ some names → Listed (bodyAt file (cell work k typeOffset t)) 4 names work k base
-    pub of-enum : (e base : ℕ) → e < length (enums f) → cell work k enumList e ≡ suc base → Listed (bodyAt file (cell work k enumOffset e)) 0 (getD (enums f) e ([], []) .1) work k base
+    pub of-types : ListsOf file work k typeList typeOffset 4 (length (types f)) (HasAttributes f)
+    pub of-enums : ListsOf file work k enumList enumOffset 0 (length (enums f)) (HasMembers f)
 
   -- every type, function, term, enum and input of the file has its row, and every enum its slot
   pub record Index : Type 0 where

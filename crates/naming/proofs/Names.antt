@@ -90,8 +90,12 @@ module _ {file : Bytes} {f : TermFile} {work work′ : List ℕ} {k : ℕ} (K : 
         names = names-same (record { same = λ i h. K .others 11 i refl }) (I .names) refl;
         listed =
             record {
-              of-type = λ t base l e names a. listed-same (ap (bodyAt file) (K .others 0 t refl)) (λ j l. K .others 19 (base + j) refl) (I .listed .of-type t base l (sym (K .others 16 t refl) ∙ e) names a);
-              of-enum = λ t base l e. listed-same (ap (bodyAt file) (K .others 10 t refl)) (λ j l. K .others 19 (base + j) refl) (I .listed .of-enum t base l (sym (K .others 13 t refl) ∙ e));
+              of-types = record {
+                list = λ t base l e names a. listed-same (ap (bodyAt file) (K .others 0 t refl)) (λ j l. K .others 19 (base + j) refl) (I .listed .of-types .list t base l (sym (K .others 16 t refl) ∙ e) names a);
+              };
+              of-enums = record {
+                list = λ t base l e names a. listed-same (ap (bodyAt file) (K .others 10 t refl)) (λ j l. K .others 19 (base + j) refl) (I .listed .of-enums .list t base l (sym (K .others 13 t refl) ∙ e) names a);
+              };
             };
       }
 

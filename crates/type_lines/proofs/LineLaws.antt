@@ -15,18 +15,14 @@ use Rattle.writer.specs.Writing.{Appends}
 use Rattle.writer.proofs.Laws.{_then_, says}
 use Rattle.index.specs.Cells.{cell, enumOffset}
 use Rattle.index.specs.Standing.{bodyAt}
-use Rattle.index.specs.Lists.{texts, textSize}
+use Rattle.index.specs.Lists.{texts}
+use Rattle.entry.proofs.Places.{length-texts}
 use Rattle.entry.specs.Symbols.{EnumAt}
 use Rattle.entry.specs.declared.symbols.Enum.{Enum}
 use Rattle.enum_table.specs.Enums.{enumAt, membersAt, FindsEnum}
 use Rattle.spell.specs.Records.{SpellsRecord}
 use Rattle.datatype.specs.Members.{entityName, SpellsEnum}
 use Rattle.type_lines.specs.Lines.{entityLines, recordLines, SpellsRecordLines, SpellsEnumLines, SpellsEntityLines}
-
-length-texts : (skip n : ℕ) (s : Bytes) → length (texts skip n s) ≡ n
-unfolding texts
-length-texts skip zero s = refl
-length-texts skip (suc n) s = ap suc (length-texts skip n (drop skip (drop (textSize s) s)))
 
 module _ {file : Bytes} {work : List ℕ} {k name limit at : ℕ} {x : Bytes} where
   pub record-lines : {body y z : Bytes} {n p r : ℕ} → Appends limit x at y p (line (comment (bytes "{" ⊹ joined (bytes ", ") (texts 4 n (drop 4 body)) ⊹ bytes "}")))
