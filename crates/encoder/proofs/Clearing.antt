@@ -41,11 +41,11 @@ module _ (work : List ℕ) (k column i : ℕ) where
   cell-stays column′ j z = rw length-set (zero-stays work (offset (length work) k column i) (offset (length work) k column′ j) z)
 
 -- an entry past a column is 0
-cell-past : (work : List ℕ) (k column j : ℕ) → column < 12 → k ≤ j → cell work k column j ≡ 0
-cell-past work k column j c h = sym (read-past work k column j (length work) (here (decLe (12 * k) (length work))) (omega arith))
+cell-past : (work : List ℕ) (k column j : ℕ) → k ≤ j → cell work k column j ≡ 0
+cell-past work k column j h = sym (read-past work k column j (length work) (here (decLe (12 * k) (length work))) (omega arith))
   where
     here : Dec (12 * k ≤ length work) → length work ≡ offset (length work) k column j
-    here (yes f) = offset-past (length work) k column j f c h
+    here (yes f) = offset-past (length work) k column j f h
     here (no f) = offset-narrow (length work) k column j (omega arith)
 
 -- the first i entries of a column are 0
@@ -100,11 +100,11 @@ cleared-more {work} {work₁} {work₂} {work₃} {work₄} {k} {i} C a b c =
 pub cleared-all : {work work′ : List ℕ} {k i : ℕ} → ClearedTo work k i work′ → k ≤ i → ClearsNames work k work′
 cleared-all {work} {work′} {k} {i} C h = record {
   kept = C .kept;
-  no-types = λ j. all typeName (omega arith) j (C .type-column) (decLt j i);
-  no-funs = λ j. all funName (omega arith) j (C .fun-column) (decLt j i);
-  no-terms = λ j. all termName (omega arith) j (C .term-column) (decLt j i);
+  no-types = λ j. all typeName j (C .type-column) (decLt j i);
+  no-funs = λ j. all funName j (C .fun-column) (decLt j i);
+  no-terms = λ j. all termName j (C .term-column) (decLt j i);
 }
   where
-    all : (column : ℕ) → column < 12 → (j : ℕ) → ZeroTo work′ k column i → Dec (j < i) → cell work′ k column j ≡ 0
-    all column c j Z (yes l) = Z .is j l
-    all column c j Z (no l) = cell-past work′ k column j c (omega arith)
+    all : (column j : ℕ) → ZeroTo work′ k column i → Dec (j < i) → cell work′ k column j ≡ 0
+    all column j Z (yes l) = Z .is j l
+    all column j Z (no l) = cell-past work′ k column j (omega arith)

@@ -36,13 +36,13 @@ walked f room (went S) = fitting (script (S .commands ++ assertions (members f) 
 walked f room (stopped n t) = refused n (firstEqual f t)
 
 -- the walk has come to x, and the script is ended by what that is
-pub record Closes (file : Bytes) (k many limit : ℕ) (p : Progress) (work : List ℕ) (x : Bytes) (work′ : List ℕ) (y : Bytes) (r : Encoded) : Type 0 where
+pub record Closes (file : Bytes) (k many count limit : ℕ) (p : Progress) (work : List ℕ) (x : Bytes) (work′ : List ℕ) (y : Bytes) (r : Encoded) : Type 0 where
   pub cleared : work′ ≡ replicate (length work) 0
-  pub go : (w : ℕ) (f : TermFile) (o : Bytes) (z : Step) → checked file w ≡ accepted f → Index file f work k → many ≡ length (enums f) → limit ≡ length o
+  pub go : (f : TermFile) (o : Bytes) (z : Step) → Index file f work k → many ≡ length (enums f) → count ≡ length (inputs f) → limit ≡ length o
       → Holds f k limit o work x p z → Gives o y r (walked f (length o) z)
 
 -- the records of an accepted file are encoded, whatever its index was made with
-pub record EncodesRecords (file : Bytes) (many : ℕ) (work : List ℕ) (x : Bytes) (work′ : List ℕ) (y : Bytes) (r : Encoded) : Type 0 where
+pub record EncodesRecords (file : Bytes) (many count : ℕ) (work : List ℕ) (x : Bytes) (work′ : List ℕ) (y : Bytes) (r : Encoded) : Type 0 where
   pub cleared : work′ ≡ replicate (length work) 0
-  pub go : (w : ℕ) (f : TermFile) → checked file w ≡ accepted f → Index file f work (length file / 6) → many ≡ length (enums f)
+  pub go : (w : ℕ) (f : TermFile) → checked file w ≡ accepted f → Index file f work (length file / 6) → many ≡ length (enums f) → count ≡ length (inputs f)
       → Gives x y r (encoded file w (length x))

@@ -1,45 +1,25 @@
 // The assertions of the inputs of a file, in their order.
-use listing::Item;
-ghost use Rattle.encoder.specs.Inputs.{SpellsItem, SpellsAssertions};
+ghost use Rattle.encoder.specs.Inputs.{SpellsAssertions};
 
-// Writes the assertion of a record that is an input.
-fn put_input(
-    file: &[u8],
-    work: &[u32],
-    k: usize,
-    many: u32,
-    out: &mut [u8],
-    at: usize,
-    limit: usize,
-    item: Item,
-) -> usize
-    ensures { λ r. ⌜ SpellsItem (now (file .entry)) (now (work .entry)) k many limit item (now (out .entry)) at (now (out .exit)) r ⌝ }
-{
-    match item {
-        Item::Input(n) => term_line::put_assertion(file, work, k, many, out, at, limit, n),
-        Item::Term => at,
-        Item::Other => at,
-    }
-}
-
-// Writes the assertions of an accepted file.
+// Writes the assertions of an accepted file, which has `count` inputs.
 pub fn put_assertions(
     file: &[u8],
     work: &[u32],
     k: usize,
     many: u32,
+    count: u32,
     out: &mut [u8],
     at: usize,
     limit: usize,
 ) -> usize
-    ensures { λ r. ⌜ SpellsAssertions (now (file .entry)) (now (work .entry)) k many limit (now (out .entry)) at (now (out .exit)) r ⌝ }
+    ensures { λ r. ⌜ SpellsAssertions (now (file .entry)) (now (work .entry)) k many count limit (now (out .entry)) at (now (out .exit)) r ⌝ }
 {
     let mut to = at;
-    let mut place = 0;
-    while place < file.len() {
-        let item = listing::item_at(file, place);
-        to = put_input(file, work, k, many, out, to, limit, item);
-        place = listing::next_place(file, place);
+    let mut i = 0;
+    while i < count {
+        let n = index::get(work, k, index::INPUT_TERM, i as usize);
+        to = term_line::put_assertion(file, work, k, many, out, to, limit, n);
+        i += 1;
     }
     to
 }

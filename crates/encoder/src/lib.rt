@@ -44,24 +44,31 @@ fn close(
     work: &mut [u32],
     k: usize,
     many: u32,
+    inputs: u32,
     script: &mut [u8],
     limit: usize,
     p: Progress,
 ) -> Encoded
-    ensures { λ r. ⌜ Closes (now (file .entry)) k many limit p (now (work .entry)) (now (script .entry)) (now (work .exit)) (now (script .exit)) r ⌝ }
+    ensures { λ r. ⌜ Closes (now (file .entry)) k many inputs limit p (now (work .entry)) (now (script .entry)) (now (work .exit)) (now (script .exit)) r ⌝ }
 {
     if p.refused != 0 {
         let n = index::get(work, k, index::TERM_FIRST, entry::wide(p.term));
-        let place = listing::place_of(file, n);
+        let place = index::get(work, k, index::TERM_PLACE, entry::wide(n));
         return refuse(work, script, p.refused, place);
     }
-    let at = assertions::put_assertions(file, work, k, many, script, p.at, limit);
+    let at = assertions::put_assertions(file, work, k, many, inputs, script, p.at, limit);
     finish(work, script, at)
 }
 
-// Encodes the records of an accepted file, whose index the working memory is.
-fn encode_records(file: &[u8], work: &mut [u32], many: u32, script: &mut [u8]) -> Encoded
-    ensures { λ r. ⌜ EncodesRecords (now (file .entry)) many (now (work .entry)) (now (script .entry)) (now (work .exit)) (now (script .exit)) r ⌝ }
+// Encodes the records of an accepted file, whose index the working memory is, with so many enums and inputs.
+fn encode_records(
+    file: &[u8],
+    work: &mut [u32],
+    many: u32,
+    inputs: u32,
+    script: &mut [u8],
+) -> Encoded
+    ensures { λ r. ⌜ EncodesRecords (now (file .entry)) many inputs (now (work .entry)) (now (script .entry)) (now (work .exit)) (now (script .exit)) r ⌝ }
 {
     let k = index::capacity(file.len());
     let limit = script.len();
@@ -75,8 +82,8 @@ fn encode_records(file: &[u8], work: &mut [u32], many: u32, script: &mut [u8]) -
         refused: 0,
         term: 0,
     };
-    let q = inputs::encode_inputs(file, work, k, many, script, limit, p);
-    close(file, work, k, many, script, limit, q)
+    let q = inputs::encode_inputs(file, work, k, many, inputs, script, limit, p);
+    close(file, work, k, many, inputs, script, limit, q)
 }
 
 // Encodes a term file: the script and zeros past it, or a refusal and zeros alone. The working memory is all zero afterwards.
@@ -85,6 +92,6 @@ pub fn encode(file: &[u8], work: &mut [u32], script: &mut [u8]) -> Encoded
 {
     match term_check::fill(file, work) {
         Filled::Refused(n, place) => refuse(work, script, n, place),
-        Filled::Done(c) => encode_records(file, work, c.enums, script),
+        Filled::Done(c) => encode_records(file, work, c.enums, c.inputs, script),
     }
 }

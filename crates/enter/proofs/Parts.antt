@@ -18,7 +18,7 @@ use Rattle.index.specs.Rules.{greatest, rulesBy}
 use Rattle.index.specs.Standing.{entryAt}
 use Rattle.index.specs.Meaning.{Stands}
 use Rattle.index.proofs.Rules.{rules-numbers, depth-numbers}
-use Rattle.slots.specs.Slots.{Indexed}
+use Rattle.search.specs.Searchable.{Indexed}
 
 -- the record at an offset is read as a mark and numbers, and names x
 pub record Parts {A : Type 0} (make : A → List ℕ → Entry) (file : Bytes) (f : TermFile) (o : ℕ) (x : Named) : Type 0 where

@@ -14,7 +14,7 @@ use Rattle.script_spec.specs.Base.{Bytes, isSome, place, placeFrom}
 use Rattle.script_spec.specs.Tree.{Tm, eqTy, typeOf, depth, node, forest, Bool·, nil}
 use Rattle.script_spec.specs.File.{TermFile, term, types, terms, typeAt, termAt, named, namedMark, earlier, Rule, rules, broken}
 use Rattle.script_spec.proofs.Laws.{eqTy-eq}
-use Rattle.index.specs.Cells.{cell, store, termOffset, termFirst, termType, termDepth}
+use Rattle.index.specs.Cells.{cell, store, termOffset, termFirst, termType, termDepth, termPlace}
 use Rattle.index.specs.First.{orElse, first, firstType, InRange}
 use Rattle.index.specs.Rules.{greatest, limits, listRulesBy, rulesBy, typeBy, typeNamed}
 use Rattle.index.proofs.Renamed.{map-agree}
@@ -23,7 +23,7 @@ use Rattle.segments.proofs.Prints.{Octets}
 use Rattle.compare.specs.View.{viewed, numbers, segmentsAt}
 use Rattle.compare.specs.declared.View.the-variants.{Depth}
 use Rattle.compare.proofs.Listed.{greatest-term}
-use Rattle.slots.specs.Slots.{Indexed}
+use Rattle.search.specs.Searchable.{Indexed}
 use Rattle.search.specs.Found.{Enrols}
 use Rattle.search.proofs.Entered.{indexed-term}
 use Rattle.record_rules.specs.Terms.{ruleTold, TermRule}
@@ -35,20 +35,20 @@ use Rattle.enter.proofs.FirstBroken.{broken-here, broken-later, none-br
 use Rattle.enter.specs.declared.Entered.{Entered}
 use Rattle.enter.specs.declared.Entered.the-variants.{Done, Broken}
 
-pub term-row-stored : (file : Bytes) (work : List ℕ) (k count o ty deep : ℕ) {first : ℕ} {work₀ work₁ work₂ work₃ work₄ : List ℕ} → Enrols file work work₀ k termOffset termFirst 2 count o first
-    → work₁ ≡ store work₀ k termOffset count o → work₂ ≡ store work₁ k termFirst count first → work₃ ≡ store work₂ k termType count ty → work₄ ≡ store work₃ k termDepth count deep
-    → StoresTerm file work work₄ k count o ty deep
+pub term-row-stored : (file : Bytes) (work : List ℕ) (k count o ty deep place : ℕ) {first : ℕ} {work₀ work₁ work₂ work₃ work₄ work₅ : List ℕ} → Enrols file work work₀ k termOffset termFirst 2 count o first
+    → work₁ ≡ store work₀ k termOffset count o → work₂ ≡ store work₁ k termFirst count first → work₃ ≡ store work₂ k termType count ty → work₄ ≡ store work₃ k termDepth count deep → work₅ ≡ store work₄ k termPlace count place
+    → StoresTerm file work work₅ k count o ty deep place
 unfolding termCount
-term-row-stored file work k count o ty deep E e₁ e₂ e₃ e₄ =
-    record { go = λ f I c room t s below type-is type-first d. rw (e₄, e₃, e₂, e₁, c) (indexed-term I room (rw c at E) s below type-is type-first d) }
+term-row-stored file work k count o ty deep place E e₁ e₂ e₃ e₄ e₅ =
+    record { go = λ f I c room t s below type-is type-first d p. rw (e₅, e₄, e₃, e₂, e₁, c, p) (indexed-term I room (rw c at E) s below type-is type-first d) }
 
 -- a memory that was left as it was
 module _ {file : Bytes} {work work′ : List ℕ} (left : work′ ≡ work) where
-  pub enters-left : {k types count o : ℕ} {r : Entered} → EntersTerm file work work k types count o r → EntersTerm file work work′ k types count o r
-  enters-left {k} {types} {count} {o} {r} E = subst (λ (w : List ℕ). EntersTerm file work w k types count o r) (sym left) E
+  pub enters-left : {k types count o place : ℕ} {r : Entered} → EntersTerm file work work k types count o place r → EntersTerm file work work′ k types count o place r
+  enters-left {k} {types} {count} {o} {place} {r} E = subst (λ (w : List ℕ). EntersTerm file work w k types count o place r) (sym left) E
 
-  pub stores-left : {work″ : List ℕ} {k count o ty deep : ℕ} → StoresTerm file work′ work″ k count o ty deep → StoresTerm file work work″ k count o ty deep
-  stores-left {work″} {k} {count} {o} {ty} {deep} S = subst (λ (w : List ℕ). StoresTerm file w work″ k count o ty deep) left S
+  pub stores-left : {work″ : List ℕ} {k count o ty deep place : ℕ} → StoresTerm file work′ work″ k count o ty deep place → StoresTerm file work work″ k count o ty deep place
+  stores-left {work″} {k} {count} {o} {ty} {deep} {place} S = subst (λ (w : List ℕ). StoresTerm file w work″ k count o ty deep place) left S
 
 -- ---- the rules
 
@@ -166,16 +166,16 @@ module _ {file : Bytes} {work : List ℕ} {k o n r : ℕ} (octets : Octets file)
   told : {f : TermFile} {t : Tm} (I : Indexed file f work k) (P : TermParts file f o t) → ruleTold r ≡ broken (listRulesBy f (cell work k termFirst) (P .m) (P .rs))
   told {f} I P = R .go f (P .m) (P .rs) (λ i. depth (termAt f i)) (λ i. depth-positive (termAt f i)) (is ∙ deepest-is I P octets ∙ deepest-terms I P) (P .reads)
 
-  module _ {types count : ℕ} where
-    pub term-broken : (r ≡ 0 → ⊥) → EntersTerm file work work k types count o (Broken r)
+  module _ {types count place : ℕ} where
+    pub term-broken : (r ≡ 0 → ⊥) → EntersTerm file work work k types count o place (Broken r)
     term-broken h =
-        record { go = λ f I c c′ room t s. let P = term-parts s in record { rule = ap broken (term-rules I P) ∙ broken-first _ (listRulesBy f (cell work k termFirst) (P .m) (P .rs)) (sym (told I P) ∙ told-some r h); unchanged = refl } }
+        record { go = λ f I c c′ room p t s. let P = term-parts s in record { rule = ap broken (term-rules I P) ∙ broken-first _ (listRulesBy f (cell work k termFirst) (P .m) (P .rs)) (sym (told I P) ∙ told-some r h); unchanged = refl } }
 
   module _ {types ty : ℕ} (T : TypeSought file work k types o ty) (h : r ≡ 0) where
     -- what is sought is the place of the type
     sought-is : (f : TermFile) (I : Indexed file f work k) → types ≡ typeCount f → {t : Tm} (P : TermParts file f o t) → ty ≡ orElse types (sought I P)
     unfolding typeCount sought
-    sought-is f I c P = T .go f (I .index) (I .slots) c (P .m) (P .rs) (P .reads) (P .in-range)
+    sought-is f I c P = T .go f I c (P .m) (P .rs) (P .reads) (P .in-range)
 
     -- rules 12 and 13 are left
     rules-left : {f : TermFile} {t : Tm} (I : Indexed file f work k) (P : TermParts file f o t) → broken (rules f (term t)) ≡ broken ((12, isSome (sought I P)) ∷ (13, ltb (length (terms f)) 60000 && leb (suc (deepest work k termDepth P)) 256) ∷ [])
@@ -186,42 +186,42 @@ module _ {file : Bytes} {work : List ℕ} {k o n r : ℕ} (octets : Octets file)
     unfolding isSome
     listed g {f} I c P = rules-left I P ∙ broken-later 12 _ (ap isSome (sought-some (sought I P) types ty (sought-is f I c P) g))
 
-    module _ {count : ℕ} where
-      pub term-unlisted : types ≤ ty → EntersTerm file work work k types count o (Broken 12)
+    module _ {count place : ℕ} where
+      pub term-unlisted : types ≤ ty → EntersTerm file work work k types count o place (Broken 12)
       unfolding typeCount isSome
       term-unlisted g =
           record {
-            go = λ f I c c′ room t s.
+            go = λ f I c c′ room p t s.
                 let P = term-parts s in
                 let q = sought-none (sought I P) types ty (sought-is f I c P) (λ m e. rw c (sought-below I P m e)) g in
                 record { rule = rules-left I P ∙ broken-here 12 _ (ap isSome q); unchanged = refl };
           }
 
       module _ (g : ty < types) where
-        pub term-many : 60000 ≤ count → EntersTerm file work work k types count o (Broken 13)
+        pub term-many : 60000 ≤ count → EntersTerm file work work k types count o place (Broken 13)
         unfolding termCount
-        term-many d = record { go = λ f I c c′ room t s. let P = term-parts s in record { rule = listed g I c P ∙ broken-here 13 _ (rw (← c′, le-ltb count 60000 d)); unchanged = refl } }
+        term-many d = record { go = λ f I c c′ room p t s. let P = term-parts s in record { rule = listed g I c P ∙ broken-here 13 _ (rw (← c′, le-ltb count 60000 d)); unchanged = refl } }
 
-        pub term-deep : count < 60000 → 255 < n → EntersTerm file work work k types count o (Broken 13)
+        pub term-deep : count < 60000 → 255 < n → EntersTerm file work work k types count o place (Broken 13)
         unfolding termCount
         term-deep d e =
             record {
-              go = λ f I c c′ room t s.
+              go = λ f I c c′ room p t s.
                   let P = term-parts s in
                   let q : n ≡ deepest work k termDepth P = is ∙ deepest-is I P octets in
                   record { rule = listed g I c P ∙ broken-here 13 _ (rw (← c′, lt-ltb count 60000 d, ← q, lt-leb (suc n) 256 (omega arith))); unchanged = refl };
             }
 
-        pub term-entered : {work′ : List ℕ} → count < 60000 → n ≤ 255 → StoresTerm file work work′ k count o ty (n + 1) → EntersTerm file work work′ k types count o Done
+        pub term-entered : {work′ : List ℕ} → count < 60000 → n ≤ 255 → StoresTerm file work work′ k count o ty (n + 1) place → EntersTerm file work work′ k types count o place Done
         unfolding termCount
         term-entered d e S =
             record {
-              go = λ f I c c′ room t s.
+              go = λ f I c c′ room p t s.
                   let P = term-parts s in
                   let q : n ≡ deepest work k termDepth P = is ∙ deepest-is I P octets in
                   let F = type-found I P ty (sought-some (sought I P) types ty (sought-is f I c P) g) in
                   record {
                     kept = listed g I c P ∙ broken-later 13 _ (rw (← c′, lt-ltb count 60000 d, ← q, le-leb (suc n) 256 (omega arith))) ∙ none-broken;
-                    indexed = S .go f I c′ room t s (F .below) (F .type-is) (F .type-first) (add-one n ∙ ap suc q ∙ term-depth I P);
+                    indexed = S .go f I c′ room t s (F .below) (F .type-is) (F .type-first) (add-one n ∙ ap suc q ∙ term-depth I P) p;
                   };
             }

@@ -19,7 +19,7 @@ use Rattle.compare.specs.View.{viewed, numbers, segmentsAt}
 use Rattle.compare.specs.declared.View.the-variants.{Depth}
 use Rattle.compare.proofs.Listed.{greatest-type}
 use Rattle.record_rules.specs.Records.{TypeAscends}
-use Rattle.slots.specs.Slots.{Indexed}
+use Rattle.search.specs.Searchable.{Indexed}
 use Rattle.search.specs.Found.{Enrols}
 use Rattle.search.proofs.Entered.{indexed-type}
 use Rattle.enter.specs.Entering.{Enters, StoresType, typeCount}

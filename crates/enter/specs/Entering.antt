@@ -9,7 +9,7 @@ use Rattle.script_spec.specs.Base.{Bytes}
 use Rattle.script_spec.specs.Tree.{Ty, depth}
 use Rattle.script_spec.specs.File.{TermFile, Named, type, types, funs, earlier, rules, broken}
 use Rattle.index.specs.Meaning.{Stands}
-use Rattle.slots.specs.Slots.{Indexed}
+use Rattle.search.specs.Searchable.{Indexed}
 use Rattle.enter.specs.declared.Entered.{Entered}
 use Rattle.enter.specs.declared.Entered.the-variants.{Done, Broken}
 

@@ -1,3 +1,4 @@
 pub mod Entering
 pub mod Enums
+pub mod Inputs
 pub mod Terms

@@ -1,5 +1,6 @@
 // Entering a record into the index: the rules that it must keep, and its row.
 pub mod enums;
+pub mod inputs;
 pub mod terms;
 
 ghost use Rattle.script_spec.specs.File.{type, func};

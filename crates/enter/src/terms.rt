@@ -2,9 +2,18 @@
 use crate::Entered;
 ghost use Rattle.enter.specs.Terms.{StoresTerm, EntersTerm, EntersTyped};
 
-// Stores the row of a term at an offset, of which there are `count` before it, with the number of its type and its depth.
-fn store_term(file: &[u8], work: &mut [u32], k: usize, count: u32, o: u32, ty: u32, depth: u32)
-    ensures { λ _. ⌜ StoresTerm (now (file .entry)) (now (work .entry)) (now (work .exit)) k count o ty depth ⌝ }
+// Stores the row of a term at an offset, of which there are `count` before it, with the number of its type, its depth and its place.
+fn store_term(
+    file: &[u8],
+    work: &mut [u32],
+    k: usize,
+    count: u32,
+    o: u32,
+    ty: u32,
+    depth: u32,
+    place: u32,
+)
+    ensures { λ _. ⌜ StoresTerm (now (file .entry)) (now (work .entry)) (now (work .exit)) k count o ty depth place ⌝ }
 {
     let first = search::enrol(
         file,
@@ -20,6 +29,7 @@ fn store_term(file: &[u8], work: &mut [u32], k: usize, count: u32, o: u32, ty: u
     index::set(work, k, index::TERM_FIRST, count as usize, first);
     index::set(work, k, index::TERM_TYPE, count as usize, ty);
     index::set(work, k, index::TERM_DEPTH, count as usize, depth);
+    index::set(work, k, index::TERM_PLACE, count as usize, place);
 }
 
 // Enters a term, before which there are so many types and terms; `ty` is the number of its type, or `types` where that is not listed.
@@ -30,9 +40,10 @@ pub fn enter_typed(
     types: u32,
     count: u32,
     o: u32,
+    place: u32,
     ty: u32,
 ) -> Entered
-    ensures { λ r. ⌜ EntersTyped (now (file .entry)) (now (work .entry)) (now (work .exit)) k types count o ty r ⌝ }
+    ensures { λ r. ⌜ EntersTyped (now (file .entry)) (now (work .entry)) (now (work .exit)) k types count o place ty r ⌝ }
 {
     let deepest = compare::greatest(file, work, k, o as usize, 4);
     let rule = record_rules::terms::broken_rule(file, work, k, o as usize, deepest);
@@ -48,11 +59,11 @@ pub fn enter_typed(
     if 255 < deepest {
         return Entered::Broken(13);
     }
-    store_term(file, work, k, count, o, ty, deepest + 1);
+    store_term(file, work, k, count, o, ty, deepest + 1, place);
     Entered::Done
 }
 
-// Enters a term, before which there are so many types and terms.
+// Enters the term at an offset and a place, before which there are so many types and terms.
 pub fn enter_term(
     file: &[u8],
     work: &mut [u32],
@@ -60,9 +71,10 @@ pub fn enter_term(
     types: u32,
     count: u32,
     o: u32,
+    place: u32,
 ) -> Entered
-    ensures { λ r. ⌜ EntersTerm (now (file .entry)) (now (work .entry)) (now (work .exit)) k types count o r ⌝ }
+    ensures { λ r. ⌜ EntersTerm (now (file .entry)) (now (work .entry)) (now (work .exit)) k types count o place r ⌝ }
 {
     let ty = term_type::type_of(file, work, k, types, o as usize);
-    enter_typed(file, work, k, types, count, o, ty)
+    enter_typed(file, work, k, types, count, o, place, ty)
 }

@@ -5,6 +5,5 @@ ghost use Rattle.enum_table.specs.Enums.{FindsEnum};
 pub fn find(file: &[u8], work: &[u32], k: usize, count: u32, name: &[u8]) -> u32
     ensures { λ r. ⌜ FindsEnum (now (file .entry)) (now (work .entry)) k count (now (name .entry)) r ⌝ }
 {
-    let b = slots::name_home(name, k);
-    search::names::find(file, work, k, count, name, b)
+    search::names::find(file, work, k, count, name)
 }

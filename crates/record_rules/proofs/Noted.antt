@@ -1,7 +1,7 @@
 -- The references of a list differ exactly where none repeats among their first equal numbers.
 -- Assumes nothing.
 use mathlib.Core.Path.{_≡_, refl, sym, ap, _∙_, subst}
-use Prim.Native.Nat.{ℕ, zero, suc, _+_, _*_, _≤_, _<_}
+use Prim.Native.Nat.{ℕ, zero, suc, _+_, _*_, _<_}
 use native.Mathlib.Omega.{arith}
 use mathlib.Core.Bool.{Bool, true, false, not, _&&_, _||_}
 use mathlib.Core.List.{List, [], _∷_, map}
@@ -16,7 +16,7 @@ use Rattle.index.specs.Rules.{different}
 use Rattle.segments.proofs.Inverse.{bind-inverse, pure-inverse, u32-inverse}
 use Rattle.repeats.specs.Repeats.{refAt, firstAt, Repeated, Different, Answers, Tells}
 use Rattle.repeats.specs.declared.Answer.{Answer}
-use Rattle.repeats.specs.declared.Answer.the-variants.{Never, Once, Unknown}
+use Rattle.repeats.specs.declared.Answer.the-variants.{Never, Once}
 use Rattle.repeats.proofs.References.{ref-there}
 use Rattle.record_rules.specs.Decided.{Decides, Leaves}
 use Rattle.record_rules.specs.Tests.{differentTerms}

@@ -3,15 +3,13 @@
 use mathlib.Core.Path.{_≡_, refl}
 use Prim.Native.Nat.{ℕ, _+_, _≤_, _<_}
 use native.Mathlib.Omega.{arith}
-use native.Mathlib.Decide.{decLe}
 use native.Mathlib.Numerals.{add-one}
 use mathlib.Core.Bool.{true, false}
 use mathlib.Core.List.{[], _∷_}
-use lib.Dec.{leb}
-use borrow.Author.Tests.{eq-eqb, ne-eqb, lt-ltb, le-ltb, le-leb, lt-leb}
+use borrow.Author.Tests.{eq-eqb, ne-eqb, lt-ltb, le-ltb}
 use lib.ListN.{length, drop, getD, drop-of-length-le}
 use lib.Seq.{drop-cons}
-use Rattle.script_spec.specs.Base.{Bytes, same, before}
+use Rattle.script_spec.specs.Base.{Bytes, before}
 
 before-nil : (a : Bytes) → before a [] ≡ false
 unfolding before
@@ -19,30 +17,6 @@ before-nil [] = refl
 before-nil (x ∷ a) = refl
 
 module _ (a b : Bytes) (i : ℕ) where
-  -- ---- equal
-
-  pub same-next : i < length a → i < length b → getD a i 0 ≡ getD b i 0 → same (drop i a) (drop i b) ≡ same (drop (i + 1) a) (drop (i + 1) b)
-  unfolding same
-  same-next h k e = rw (add-one, drop-cons a i 0 h, drop-cons b i 0 k, eq-eqb (getD a i 0) (getD b i 0) e)
-
-  pub same-differs : i < length a → i < length b → (getD a i 0 ≡ getD b i 0 → ⊥) → same (drop i a) (drop i b) ≡ false
-  unfolding same
-  same-differs h k e = rw (drop-cons a i 0 h, drop-cons b i 0 k, ne-eqb (getD a i 0) (getD b i 0) e)
-
-  pub same-short : i < length a → length b ≤ i → same (drop i a) (drop i b) ≡ false
-  unfolding same
-  same-short h k = rw (drop-cons a i 0 h, drop-of-length-le b {i = i} k)
-
-  pub same-end : length a ≤ i → same (drop i a) (drop i b) ≡ leb (length b) i
-  unfolding same
-  same-end h = go (decLe (length b) i)
-    where
-      go : Dec (length b ≤ i) → same (drop i a) (drop i b) ≡ leb (length b) i
-      go (yes k) = rw (drop-of-length-le a {i = i} h, drop-of-length-le b {i = i} k, le-leb (length b) i k)
-      go (no k) = rw (drop-of-length-le a {i = i} h, drop-cons b i 0 (omega arith), lt-leb (length b) i (omega arith))
-
-  -- ---- before
-
   pub before-next : i < length a → i < length b → getD a i 0 ≡ getD b i 0 → before (drop i a) (drop i b) ≡ before (drop (i + 1) a) (drop (i + 1) b)
   unfolding before
   before-next h k e = rw (add-one, drop-cons a i 0 h, drop-cons b i 0 k, eq-eqb (getD a i 0) (getD b i 0) e, le-ltb (getD a i 0) (getD b i 0) (omega arith))

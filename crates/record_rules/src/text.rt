@@ -1,22 +1,6 @@
-// Texts compared by their bytes.
+// Texts in their order.
 ghost use mathlib.Core.Path.{_≡_};
-ghost use Rattle.script_spec.specs.Base.{same, before};
-
-pub fn same(a: &[u8], b: &[u8]) -> bool
-    ensures { λ r. ⌜ r ≡ same (now (a .entry)) (now (b .entry)) ⌝ }
-{
-    let mut i = 0;
-    while i < a.len() {
-        if b.len() <= i {
-            return false;
-        }
-        if a[i] != b[i] {
-            return false;
-        }
-        i += 1;
-    }
-    b.len() <= i
-}
+ghost use Rattle.script_spec.specs.Base.{before};
 
 // Whether a stands strictly before b.
 pub fn before(a: &[u8], b: &[u8]) -> bool

@@ -1,6 +1,6 @@
 -- Notes are made at empty entries, so that no two are of equal numbers, and clearing them in the other order brings the memory back.
 -- Assumes nothing.
-use mathlib.Core.Path.{_≡_, refl, sym, ap, _∙_, subst}
+use mathlib.Core.Path.{_≡_, refl, sym, ap, _∙_}
 use Prim.Native.Nat.{ℕ, zero, suc, _+_, _*_, _-_, _/_, _≤_, _<_}
 use native.Mathlib.Nat.{div-add-mod', mod-lt}
 use native.Mathlib.Decide.{ℕ-discrete}

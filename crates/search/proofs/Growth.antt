@@ -13,15 +13,13 @@ use Rattle.index.specs.Cells.{cell, typeOffset, funOffset, termOffset, hash}
 use Rattle.index.specs.First.{canonical}
 use Rattle.index.specs.Standing.{entryAt}
 use Rattle.index.specs.Meaning.{Index}
-use Rattle.index.proofs.Cells.{length-store, cell-store-other}
 use Rattle.index.proofs.Growth.{Grown, types-grown, funs-grown, terms-grown}
 use Rattle.index.proofs.Later.{more-append, canonical-kept}
-use Rattle.index.proofs.Stores.{Changed, changed-refl}
-use Rattle.index.proofs.Rows.{Untouched}
-use Rattle.index.specs.Names.{Reached}
+use Rattle.index.proofs.Stores.{used, Untouched, untouched-refl, untouched-slot}
+use Rattle.index.specs.Names.{slot, Reached}
 use Rattle.index.proofs.Names.{Stays, reached-kept}
 use Rattle.slots.specs.Slots.{empties, homeOf, entryOr, entries, Slots}
-use Rattle.slots.proofs.Ring.{empties-same}
+use Rattle.slots.proofs.Ring.{slot-inside, empties-same}
 use Rattle.slots.proofs.Reach.{reached-equal, stored-stays, stored-fewer, reached-new}
 use Rattle.slots.specs.Storing.{Stored}
 use Rattle.search.specs.Found.{At, Enrolled}
@@ -29,21 +27,13 @@ use Rattle.search.proofs.Numbers.{type-at, fun-at, term-at}
 
 -- ---- a slot that was taken
 
--- no column but that of the slots
-pub stored-changed : {work work₀ : List ℕ} {k b v : ℕ} → Stored work work₀ k b v → (low high n : ℕ) → Changed k low high n work work₀
-stored-changed {work} {k = k} S low high n =
-    record {
-      same-size = rw (S .is) (length-store work k hash _ _);
-      same = λ column i h other. rw (S .is) (cell-store-other work k hash _ _ column i (λ e q. omega arith));
-    }
+-- no row has changed
+pub stored-untouched : {work work₀ : List ℕ} {k b v : ℕ} → Stored work work₀ k b v → (f : TermFile) → Untouched f k work work₀
+stored-untouched {work} {k = k} {b} {v} S f = rw (S .is) (untouched-slot f k work (slot k b (S .distance)) v (slot-inside k b (S .distance) (S .inside) (S .near)))
 
 module _ {work work₀ : List ℕ} {k firsts kind count r : ℕ} {f : TermFile} {x : Entry} {ε : ℕ → Entry} (E : Enrolled work work₀ k firsts kind count r f x ε) where
-  pub enrolled-changed : (low high n : ℕ) → Changed k low high n work work₀
-  enrolled-changed low high n =
-      ⊎-elim
-      (λ h. rw (h .0) (changed-refl k low high n work))
-      (λ S. stored-changed S low high n)
-      (E .kept)
+  pub enrolled-untouched : (g : TermFile) → Untouched g k work work₀
+  enrolled-untouched g = ⊎-elim (λ h. rw (h .0) (untouched-refl g k work)) (λ S. stored-untouched S g) (E .kept)
 
   module _ (fits : 12 * k ≤ length work) where
     slots-stay : Stays (cell work k hash) (cell work₀ k hash)
@@ -85,13 +75,16 @@ module _ (file : Bytes) (f : TermFile) (r : Named) (k : ℕ) (work work′ : Lis
 
   module _ (I : Index file f work k) (U : Untouched f k work work′) where
     pub types-kept : (n : ℕ) → n < length (types f) → canonical (f ++ (r ∷ [])) (entries file work′ k typeOffset n) ≡ canonical f (entries file work k typeOffset n)
-    types-kept = canonicals-kept typeOffset (length (types f)) (type-at I) (λ n l. U .same-types n l typeOffset (omega arith))
+    unfolding used
+    types-kept = canonicals-kept typeOffset (length (types f)) (type-at I) (λ n l. U .same typeOffset n l)
 
     pub funs-kept : (n : ℕ) → n < length (funs f) → canonical (f ++ (r ∷ [])) (entries file work′ k funOffset n) ≡ canonical f (entries file work k funOffset n)
-    funs-kept = canonicals-kept funOffset (length (funs f)) (fun-at I) (λ n l. U .same-funs n l funOffset (omega arith) (omega arith))
+    unfolding used
+    funs-kept = canonicals-kept funOffset (length (funs f)) (fun-at I) (λ n l. U .same funOffset n l)
 
     pub terms-kept : (n : ℕ) → n < length (terms f) → canonical (f ++ (r ∷ [])) (entries file work′ k termOffset n) ≡ canonical f (entries file work k termOffset n)
-    terms-kept = canonicals-kept termOffset (length (terms f)) (term-at I) (λ n l. U .same-terms n l termOffset (omega arith) (omega arith))
+    unfolding used
+    terms-kept = canonicals-kept termOffset (length (terms f)) (term-at I) (λ n l. U .same termOffset n l)
 
     -- a number of the longer file is reached
     abbrev ReachedIn : ℕ → ℕ → ℕ → ℕ → Type 0

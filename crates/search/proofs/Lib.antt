@@ -4,3 +4,4 @@ pub mod Numbers
 pub mod Growth
 pub mod Entered
 pub mod Naming
+pub mod Lookup

@@ -1,40 +1,27 @@
 -- The search goes through the slots from the home of a name: none that was passed is empty or has an enum of the name.
 -- Assumes nothing.
 use mathlib.Core.Path.{_≡_, refl, sym, ap, _∙_, subst}
-use mathlib.Core.Logic.{inl, inr}
+use mathlib.Core.Logic.{inl, inr, ⊎-elim}
 use Prim.Native.Nat.{ℕ, _+_, _-_, _*_, _/_, _≤_, _<_}
 use native.Mathlib.Decide.{decLt, ℕ-discrete}
 use native.Mathlib.Omega.{arith}
 use mathlib.Core.Bool.{Bool, true, false}
 use mathlib.Core.List.{List, []}
 use borrow.Author.Count.{below-more}
-use lib.Dec.{T}
 use lib.ListN.{length, getD}
-use Rattle.script_spec.specs.Base.{Bytes, same}
+use Rattle.script_spec.specs.Base.{Bytes}
 use Rattle.script_spec.specs.File.{TermFile, enums}
-use Rattle.script_spec.proofs.Laws.{same-eq, same-refl}
 use Rattle.index.specs.Cells.{cell, enumOffset, hash}
-use Rattle.compare.specs.View.{Decides}
-use Rattle.record_rules.specs.Enums.{NameAt}
 use Rattle.index.specs.Names.{slot, codeOf, nameHome, enumName, Reached}
+use Rattle.index.proofs.Growth.{counts-fewer}
 use Rattle.index.proofs.Names.{code-some}
+use Rattle.record_rules.specs.Enums.{NameAt}
+use Rattle.slots.specs.Storing.{NameHome, Stores}
 use Rattle.slots.proofs.Ring.{code-number}
-use Rattle.search.specs.Named.{Among, HeldNamed, HoldsNamed, FindsNamed}
+use Rattle.search.specs.Named.{Among, HeldNamed, HoldsNamed, ProbesNamed, FindsNamed, EnrolsNamed}
 
 true-not-false : true ≡ false → ⊥
 true-not-false e = let z : _≡_ {A = ℕ} 0 1 = cc in omega arith
-
-told : (b : Bool) → T b → b ≡ true
-told true h = refl
-told false h = absurd h
-
--- the comparison of two texts decides whether they are equal
-pub decides-texts : (s t : Bytes) {r : Bool} → r ≡ same s t → Decides r (s ≡ t)
-decides-texts s t {r} test =
-    record {
-      true-of = λ e. test ∙ told (same s t) (subst (λ (x : Bytes). T (same s x)) e (same-refl s));
-      of-true = λ h. same-eq s t (rw (← test, h) tt);
-    }
 
 -- ---- one slot
 
@@ -46,17 +33,16 @@ module _ {file : Bytes} {work : List ℕ} {k count : ℕ} {name : Bytes} {v n : 
   unfolding codeOf
   named-other h = record { go = λ f A. record { true-of = λ H. absurd (h (omega (arith, H .is))); of-true = λ t. absurd (true-not-false (sym t)) } }
 
-  pub named-same : {p : ℕ} {s : Bytes} {r : Bool} → n < count → 4 * n + 4 ≡ v → p ≡ cell work k enumOffset n → NameAt file p s → r ≡ same s name → HoldsNamed file work k count name v r
+  pub named-same : {p : ℕ} {s : Bytes} {r : Bool} → n < count → 4 * n + 4 ≡ v → p ≡ cell work k enumOffset n → NameAt file p s → (r ≡ true → s ≡ name) × (s ≡ name → r ≡ true) → HoldsNamed file work k count name v r
   unfolding codeOf enumName
   named-same {s = s} below e row N test =
       record {
         go = λ f A.
             let l : n < length (enums f) = omega (arith, A .count-is) in
             let q : s ≡ enumName f n = N .go (getD (enums f) n ([], []) .0) (getD (enums f) n ([], []) .1) (rw row (A .index .enum-row n l .stands)) in
-            let D = decides-texts s name test in
             record {
-              true-of = λ H. D .true-of (q ∙ rw is (H .equal));
-              of-true = λ t. record { below = rw (← is) below; is = omega arith; equal = rw (← is) (sym q ∙ D .of-true t) };
+              true-of = λ H. test .1 (q ∙ rw is (H .equal));
+              of-true = λ t. record { below = rw (← is) below; is = omega arith; equal = rw (← is) (sym q ∙ test .0 t) };
             };
       }
 
@@ -85,7 +71,7 @@ module _ {file : Bytes} {work : List ℕ} {k count : ℕ} {name : Bytes} {b : �
 
   module _ {d : ℕ} (P : PassedNamed file work k count name b d) where
     -- all slots were passed
-    pub named-nowhere : k ≤ d → FindsNamed file work k count name b count
+    pub named-nowhere : k ≤ d → ProbesNamed file work k count name b count
     named-nowhere h =
         record {
           go = λ f A home.
@@ -94,7 +80,7 @@ module _ {file : Bytes} {work : List ℕ} {k count : ℕ} {name : Bytes} {b : �
 
     module _ {v : ℕ} (is : v ≡ cell work k hash (slot k b d)) where
       -- an empty slot ends the search
-      pub named-empty : v ≡ 0 → FindsNamed file work k count name b count
+      pub named-empty : v ≡ 0 → ProbesNamed file work k count name b count
       named-empty e = record { go = λ f A home. inr (record { none = λ n l q. none f A home n q (A .index .names .reached n (omega (arith, A .count-is))); is = refl }) }
         where
           none : (f : TermFile) → Among file work k count f → (0 < k → b ≡ nameHome k name) → (n : ℕ) → enumName f n ≡ name → Met f work k n → ⊥
@@ -109,7 +95,7 @@ module _ {file : Bytes} {work : List ℕ} {k count : ℕ} {name : Bytes} {b : �
               go (no l) (no g) = R .path d (omega arith) (rw (← b-is) (sym is ∙ e))
 
       module _ {r : Bool} (H : HoldsNamed file work k count name v r) where
-        pub named-held : {n : ℕ} → r ≡ true → n ≡ (v - 1) / 4 → FindsNamed file work k count name b n
+        pub named-held : {n : ℕ} → r ≡ true → n ≡ (v - 1) / 4 → ProbesNamed file work k count name b n
         named-held h e = record { go = λ f A home. let K = H .go f A .of-true h in inl (record { below = rw e (K .below); equal = rw e (K .equal) }) }
 
         pub named-passed-more : r ≡ false → (v ≡ 0 → ⊥) → PassedNamed file work k count name b (d + 1)
@@ -119,3 +105,26 @@ module _ {file : Bytes} {work : List ℕ} {k count : ℕ} {name : Bytes} {b : �
               other = λ f A. below-more (λ j. HeldNamed f count name (cell work k hash (slot k b j)) → ⊥) d (P .other f A)
                   (λ K. let t = H .go f A .true-of (subst (λ (w : ℕ). HeldNamed f count name w) (sym is) K) in true-not-false (sym t ∙ h));
             }
+
+-- ---- the search
+
+module _ {file : Bytes} {work : List ℕ} {k count : ℕ} {name : Bytes} {b r : ℕ} (H : NameHome k name b) (P : ProbesNamed file work k count name b r) where
+  pub named-found : FindsNamed file work k count name r
+  named-found = record { go = λ f A. P .go f A (H .is) }
+
+  -- what was found
+  pub name-known : (r ≡ count → ⊥) → EnrolsNamed file work work k count name r
+  name-known h = record { go = λ f I c room. inl (record { hit = ⊎-elim (λ K. K) (λ M. absurd (h (M .is))) (P .go f (record { index = I .index; count-is = c }) (H .is)); unchanged = refl }) }
+
+  -- nothing was found
+  pub name-new : {work′ : List ℕ} {v : ℕ} → r ≡ count → (count < 1048576 → 3 < 4 → v ≡ codeOf count 3) → Stores work work′ k b v → EnrolsNamed file work work′ k count name r
+  name-new e code S =
+      record {
+        go = λ f I c room.
+            let small : count < 1048576 = omega (arith, I .searchable .small, counts-fewer f .enums-fewer) in
+            inr
+            (record {
+              miss = ⊎-elim (λ K. absurd (omega (arith, K .below))) (λ M. M) (P .go f (record { index = I .index; count-is = c }) (H .is));
+              stored = rw (H .is (omega arith), code small (omega arith)) at (S .go (H .inside) (omega (arith, I .searchable .taken)));
+            });
+      }

@@ -1,2 +1,3 @@
+pub mod Searchable
 pub mod Found
 pub mod Named

@@ -9,7 +9,7 @@ fn same_at(file: &[u8], work: &[u32], k: usize, o: usize, p: usize) -> bool
 {
     let a = field::part_of(file, o, 2);
     let b = field::part_of(file, p, 2);
-    if record_rules::text::same(a, b) {
+    if check::same(a, b) {
         return compare::same_record(file, work, k, o, p);
     }
     false

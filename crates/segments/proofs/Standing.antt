@@ -1,15 +1,11 @@
 -- The entry of a body is what the mark's reader gives.
 -- Assumes nothing.
-use Prim.Native.Nat.{_≤_, _^_}
 use mathlib.Core.Path.{_≡_, refl}
 use mathlib.Core.List.{[], _∷_}
 use mathlib.Core.Option.{Option, none, some, Option·none-ne-some}
 use Rattle.script_spec.specs.Base.{Bytes, lookup, andThen}
-use Rattle.script_spec.specs.Fields.{Entry, Earlier, Read, got, bad, Reader, marks, whole}
-use Rattle.index.specs.First.{Reads}
+use Rattle.script_spec.specs.Fields.{Entry, Read, got, bad, Reader, marks, whole}
 use Rattle.index.specs.Standing.{loose, entryRead, entryOf}
-use Rattle.index.proofs.Ranges.{reads-kept}
-use Rattle.index.proofs.Later.{Extends}
 
 -- x is what the reader of a mark gives for a body
 pub record Entered (mark body : Bytes) (x : Entry) : Type 0 where
@@ -30,12 +26,3 @@ entryOf-inverse mark body {x} e = from (lookup mark (marks loose)) refl e
     from : (o : Option (Reader Entry)) → lookup mark (marks loose) ≡ o → andThen o (λ (r : Reader Entry). entryRead (whole (r body))) ≡ some x → Entered mark body x
     from none q h = absurd (Option·none-ne-some x h)
     from (some r) q h = record { reader = r; found = q; reads = whole-read (r body) h }
-
--- a body that is read where less may be referred to has the same entry
-pub reads-entryOf : (e : Earlier) (mark body : Bytes) (x : Entry) → e .types ≤ 2 ^ 32 → e .funs ≤ 2 ^ 32 → e .terms ≤ 2 ^ 32 → Reads e mark body x
-    → entryOf mark body ≡ some x
-unfolding entryOf andThen entryRead loose
-reads-entryOf e mark body x types funs terms h =
-    let E : Extends e loose = record { more = record { types-more = types; funs-more = funs; terms-more = terms }; entities-kept = λ n k t. tt } in
-    let k = reads-kept E mark body x h .1 in
-    rw (k .found, k .reads)

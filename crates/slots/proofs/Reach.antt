@@ -1,11 +1,11 @@
 -- Records stay reached where the slots that are taken stay as they are, and a record that is stored in the first empty slot is reached.
 -- Assumes nothing.
 use mathlib.Core.Path.{_≡_, refl, sym, ap, _∙_}
-use Prim.Native.Nat.{ℕ, suc, _*_, _≤_, _<_}
+use Prim.Native.Nat.{ℕ, suc, _*_, _≤_}
 use native.Mathlib.Omega.{arith}
 use mathlib.Core.List.{List}
 use lib.ListN.{length}
-use Rattle.index.specs.Cells.{cell, store, hash}
+use Rattle.index.specs.Cells.{cell, hash}
 use Rattle.index.proofs.Names.{Stays, path-stays}
 use Rattle.index.proofs.Cells.{cell-store-same, cell-store-other}
 use Rattle.index.specs.Names.{slot, codeOf, Reached}

@@ -1,6 +1,5 @@
 -- What the slots of the hash table hold: for each type, function and term an equal one, which is met on the way from its home slot.
 -- Assumes nothing.
-use mathlib.Core.Path.{_≡_}
 use Prim.Native.Nat.{ℕ, zero, suc, _+_, _%_, _≤_, _<_}
 use mathlib.Core.List.{List}
 use mathlib.Core.Option.{Option, none, some}
@@ -12,7 +11,6 @@ use Rattle.index.specs.Cells.{cell, typeOffset, funOffset, termOffset, hash}
 use Rattle.index.specs.First.{canonical}
 use Rattle.index.specs.Standing.{entryAt}
 use Rattle.index.specs.Names.{Reached}
-use Rattle.index.specs.Meaning.{Index, Depths}
 use Rattle.segments.specs.Printed.{segmentsOf}
 use Rattle.record_rules.specs.Marks.{markOf}
 use Rattle.hash.specs.Hash.{hashed}
@@ -55,9 +53,3 @@ pub record Slots (file : Bytes) (f : TermFile) (work : List ℕ) (k : ℕ) : Typ
   pub fun-slots : AllReached file f work k funOffset 1 (length (funs f))
   pub term-slots : AllReached file f work k termOffset 2 (length (terms f))
   pub taken : k ≤ length f + empties (cell work k hash) k
-
--- the index of the records f, with the depths and the slots
-pub record Indexed (file : Bytes) (f : TermFile) (work : List ℕ) (k : ℕ) : Type 0 where
-  pub index : Index file f work k
-  pub depths : Depths file f work k
-  pub slots : Slots file f work k

@@ -1,7 +1,7 @@
 -- What a record may refer to by the offsets of the types is what it may refer to after the records: the mark of a type says
 -- whether it is an entity type.
 -- Assumes nothing.
-use mathlib.Core.Path.{_≡_, refl, sym, ap, _∙_}
+use mathlib.Core.Path.{_≡_, refl, ap, _∙_}
 use Prim.Native.Nat.{ℕ, _<_}
 use native.Mathlib.Omega.{arith}
 use native.Mathlib.Decide.{decLt}
@@ -18,7 +18,8 @@ use Rattle.script_spec.proofs.Computes
 use Rattle.index.specs.Cells.{cell, typeOffset}
 use Rattle.index.specs.Standing.{markAt, bodyAt, entryAt}
 use Rattle.index.specs.Meaning.{Index}
-use Rattle.index.proofs.Cells.{offset-inside}
+use Rattle.index.proofs.Cells.{offset-start}
+use Rattle.index.proofs.Rows.{types-fit}
 use Rattle.term_file.specs.Bodies.{isEntityAt, after}
 use Rattle.record_rules.specs.Marks.{datatypeBytes, typeBytes, markOf}
 use Rattle.record_rules.proofs.Marks.{entry-mark}
@@ -52,17 +53,17 @@ module _ {file : Bytes} {f : TermFile} {work : List ℕ} {k : ℕ} (I : Index fi
   unfolding cell
   offset-at n h =
       getD-take (length (types f)) work n 0 h
-      ∙ sym (rw (offset-inside {size = length work} {k = k} {column = 0} {i = n} (record { fits = I .fits; column-is = omega arith; index-is = omega (arith, I .types-fit) })) (ap (λ (m : ℕ). getD work m 0) (omega arith)))
+      ∙ ap (λ (m : ℕ). getD work m 0) (let e = offset-start (length work) k typeOffset n (I .fits) (omega (arith, types-fit I)) (omega arith) .1 in omega arith)
 
   entity-at : (n : ℕ) → Dec (n < length (types f)) → isEntityAt file (take (length (types f)) work) n ≡ isSome (entityName (typeAt f n))
   unfolding isEntityAt entryAt markAt typeAt Computes.base Computes.tree
   entity-at n (yes h) =
       let s = I .type-row n h .stands in
-      let size : length (take (length (types f)) work) ≡ length (types f) = simp length-take (omega (arith, I .types-fit, I .fits)) in
+      let size : length (take (length (types f)) work) ≡ length (types f) = simp length-take (omega (arith, types-fit I, I .fits)) in
       rw (size, lt-ltb n (length (types f)) h, offset-at n h)
       (ap (λ (m : Bytes). same m (bytes "TE")) (entry-mark (markAt file (cell work k typeOffset n)) (bodyAt file (cell work k typeOffset n)) (s .reads)) ∙ entity-mark f (s .entry) (typeAt f n) (s .names))
   entity-at n (no h) =
-      let size : length (take (length (types f)) work) ≡ length (types f) = simp length-take (omega (arith, I .types-fit, I .fits)) in
+      let size : length (take (length (types f)) work) ≡ length (types f) = simp length-take (omega (arith, types-fit I, I .fits)) in
       rw (size, le-ltb n (length (types f)) (omega arith), List·getD-eq-default (types f) (node Bool· nil) {n = n} (omega arith))
 
   pub after-earlier : after (length (types f)) (length (funs f)) (length (terms f)) file (take (length (types f)) work) ≡ earlier f

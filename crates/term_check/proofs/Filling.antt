@@ -1,13 +1,13 @@
 -- Filling the index: the loop's invariant, and each way out of it.
 -- Assumes nothing.
 use mathlib.Core.Path.{_≡_, refl, sym, ap, _∙_, subst}
-use Prim.Native.Nat.{ℕ, _+_, _*_, _≤_, _<_}
+use Prim.Native.Nat.{ℕ, _*_, _≤_, _<_}
 use native.Mathlib.Omega.{arith}
 use mathlib.Core.List.{List, [], _∷_, _++_}
-use lib.ListN.{length, replicate, length-append}
+use lib.ListN.{length, replicate}
 use Rattle.script_spec.specs.Base.{Bytes, collect}
-use Rattle.script_spec.specs.File.{TermFile, types, funs, terms, enums}
-use Rattle.term_check.specs.Promise.{countsOf, Fills}
+use Rattle.script_spec.specs.File.{TermFile, types, funs, terms, enums, inputs}
+use Rattle.term_check.specs.Promise.{countsOf, together, Fills}
 use Rattle.term_check.specs.Clearing.{Refusing}
 use Rattle.term_check.specs.Stepping.{Stepped, Stepping, Steps}
 use Rattle.term_check.specs.declared.Counts.{Counts}
@@ -15,6 +15,7 @@ use Rattle.term_check.specs.declared.Filled.{Filled}
 use Rattle.term_check.specs.declared.Filled.the-variants as fill
 use Rattle.term_check.specs.declared.kinds.Step.{Step}
 use Rattle.term_check.specs.declared.kinds.Step.the-variants as step
+use Rattle.term_check.proofs.Over.{placed-at}
 use Rattle.term_check.proofs.Loop.{Reached, reached-start, reached-next, reached-end, reached-bad, refuses-long, refuses-narrow}
 
 -- ---- refusals before the first record
@@ -31,22 +32,17 @@ module _ (file : Bytes) {work work′ : List ℕ} {r : Filled} where
 
 -- ---- the loop
 
--- some records have been entered, `place` of them, into a memory of this size
-pub record Going (file : Bytes) (size : ℕ) (work : List ℕ) (at place : ℕ) (c : Counts) : Type 0 where
+-- some records have been entered into a memory of this size
+pub record Going (file : Bytes) (size : ℕ) (work : List ℕ) (at : ℕ) (c : Counts) : Type 0 where
   pub records : TermFile
   pub reached : Reached file size records work at c
-  pub place-is : place ≡ length records
   pub same-size : length work ≡ size
 
-pub going-start : (file : Bytes) (work : List ℕ) (size : ℕ) → length file ≤ 1048576 → 2 * length file ≤ length work → work ≡ replicate size 0 → Going file (length work) work 0 0 (record { types = 0; funs = 0; terms = 0; enums = 0 })
-unfolding countsOf types funs terms enums collect
-going-start file work size g h zeros = record { records = []; reached = reached-start file work size _ g h zeros refl; place-is = refl; same-size = refl }
+pub going-start : (file : Bytes) (work : List ℕ) (size : ℕ) → length file ≤ 1048576 → 2 * length file ≤ length work → work ≡ replicate size 0 → Going file (length work) work 0 (record { types = 0; funs = 0; terms = 0; enums = 0; inputs = 0 })
+unfolding countsOf types funs terms enums inputs collect
+going-start file work size g h zeros = record { records = []; reached = reached-start file work size _ g h zeros refl; same-size = refl }
 
-module _ {file : Bytes} {size : ℕ} {work : List ℕ} {at place : ℕ} {c : Counts} (G : Going file size work at place c) where
-  -- the place of a record has six bytes before it for each earlier one
-  pub going-few : place ≤ 1048576
-  going-few = omega (arith, G .place-is, G .reached .before .places, G .reached .before .short, G .reached .within)
-
+module _ {file : Bytes} {size : ℕ} {work : List ℕ} {at : ℕ} {c : Counts} (G : Going file size work at c) where
   pub going-end : (work₀ : List ℕ) → length work₀ ≡ size → length file ≤ at → Fills file work₀ work (fill.Done c)
   going-end work₀ e h = reached-end (G .reached) work₀ e h
 
@@ -59,17 +55,19 @@ module _ {file : Bytes} {size : ℕ} {work : List ℕ} {at place : ℕ} {c : Cou
         let D : Stepped file (G .records) work′ at to d = stepping e in
         (omega (arith, D .further), D .within)
 
-    pub going-on : {to : ℕ} {d : Counts} → s ≡ step.To to d → length work′ ≡ length work → Going file size work′ to (place + 1) d
+    pub going-on : {to : ℕ} {d : Counts} → s ≡ step.To to d → length work′ ≡ length work → Going file size work′ to d
     going-on {to} {d} e l =
         let D : Stepped file (G .records) work′ at to d = stepping e in
         record {
           records = G .records ++ (D .record-got ∷ []);
           reached = reached-next (G .reached) D;
-          place-is = rw length-append (omega (arith, G .place-is));
           same-size = l ∙ G .same-size;
         }
 
-    pub going-bad : (work₀ : List ℕ) {n : ℕ} {work″ : List ℕ} {r : Filled} → length work₀ ≡ size → at < length file → s ≡ step.Bad n → length work′ ≡ length work → Refusing work′ work″ n place r → Fills file work₀ work″ r
-    going-bad work₀ {n} {work″} q h e l Z =
-        subst (λ (r : Filled). Fills file work₀ work″ r) (ap (λ (p : ℕ). fill.Refused n p) (sym (G .place-is)) ∙ sym (Z .answer))
+    pub going-bad : (work₀ : List ℕ) {n place : ℕ} {work″ : List ℕ} {r : Filled} → length work₀ ≡ size → at < length file → s ≡ step.Bad n → length work′ ≡ length work
+        → (together c < 4294967296 → place ≡ together c) → Refusing work′ work″ n place r → Fills file work₀ work″ r
+    going-bad work₀ {n} {place} {work″} q h e l p Z =
+        let before = G .reached .before in
+        let place-is : place ≡ length (G .records) = placed-at (G .records) (before .counts) (omega (arith, before .places, before .short)) p in
+        subst (λ (r : Filled). Fills file work₀ work″ r) (ap (λ (i : ℕ). fill.Refused n i) (sym place-is) ∙ sym (Z .answer))
         (reached-bad (G .reached) work₀ q h (stepping e) (Z .cleared ∙ ap (λ (m : ℕ). replicate m 0) (l ∙ G .same-size)))

@@ -7,6 +7,7 @@ use mathlib.Core.List.{List}
 use lib.ListN.{length, take}
 use Rattle.script_spec.specs.Base.{Bytes}
 use Rattle.script_spec.specs.Fields.{Earlier}
+use Rattle.index.proofs.Rows.{types-fit}
 use Rattle.term_file.specs.Bodies.{after}
 use Rattle.term_file.specs.Records.{NextRecord}
 use Rattle.term_file.specs.declared.Next.{Next}
@@ -28,4 +29,4 @@ module _ (file : Bytes) (work : List ℕ) (at : ℕ) (c : Counts) {r : Next} whe
   -- the index has the types
   pub reads-never : length work < c .types → ReadsNext file work at c r
   unfolding countsOf
-  reads-never h = record { go = λ f k I e. let q = ap (λ (d : Counts). d .types) e in absurd (omega (arith, I .types-fit, I .fits)) }
+  reads-never h = record { go = λ f k I e. let q = ap (λ (d : Counts). d .types) e in absurd (omega (arith, types-fit I, I .fits)) }

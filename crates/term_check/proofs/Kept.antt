@@ -9,7 +9,7 @@ use lib.ListN.{length, length-append}
 use Rattle.script_spec.specs.Base.{Bytes}
 use Rattle.script_spec.specs.Tree.{Ty, Fun, Tm}
 use Rattle.script_spec.specs.Fields.{got, bad, Entry}
-use Rattle.script_spec.specs.File.{TermFile, type, enum, func, term, input, types, funs, terms, enums, named, earlier, rules, broken, kept, nextRecord}
+use Rattle.script_spec.specs.File.{TermFile, type, enum, func, term, input, types, funs, terms, inputs, enums, named, earlier, rules, broken, kept, nextRecord}
 use Rattle.index.proofs.Growth.{lists-type, lists-enum, lists-func, lists-term, lists-input}
 use Rattle.term_file.specs.Records.{readRecord}
 use Rattle.term_check.specs.Promise.{countsOf}
@@ -30,22 +30,22 @@ length-last : {A : Type 0} (xs : List A) (x : A) → length (xs ++ (x ∷ [])) �
 length-last xs x = length-append xs (x ∷ []) ∙ add-one (length xs)
 
 module _ (f : TermFile) where
-  pub counts-type : (t : Ty) → countsOf (f ++ (type t ∷ [])) ≡ record { types = suc (length (types f)); funs = length (funs f); terms = length (terms f); enums = length (enums f) }
+  pub counts-type : (t : Ty) → countsOf (f ++ (type t ∷ [])) ≡ record { types = suc (length (types f)); funs = length (funs f); terms = length (terms f); enums = length (enums f); inputs = length (inputs f) }
   unfolding countsOf
-  counts-type t = let L = lists-type f t in rw (L .types-are, L .funs-are, L .terms-are, L .enums-are, length-last (types f) t)
+  counts-type t = let L = lists-type f t in rw (L .types-are, L .funs-are, L .terms-are, L .enums-are, L .inputs-are, length-last (types f) t)
 
-  pub counts-enum : (n : Bytes) (ms : List Bytes) → countsOf (f ++ (enum n ms ∷ [])) ≡ record { types = length (types f); funs = length (funs f); terms = length (terms f); enums = suc (length (enums f)) }
+  pub counts-enum : (n : Bytes) (ms : List Bytes) → countsOf (f ++ (enum n ms ∷ [])) ≡ record { types = length (types f); funs = length (funs f); terms = length (terms f); enums = suc (length (enums f)); inputs = length (inputs f) }
   unfolding countsOf
-  counts-enum n ms = let L = lists-enum f n ms in rw (L .types-are, L .funs-are, L .terms-are, L .enums-are, length-last (enums f) (n, ms))
+  counts-enum n ms = let L = lists-enum f n ms in rw (L .types-are, L .funs-are, L .terms-are, L .enums-are, L .inputs-are, length-last (enums f) (n, ms))
 
-  pub counts-func : (g : Fun) → countsOf (f ++ (func g ∷ [])) ≡ record { types = length (types f); funs = suc (length (funs f)); terms = length (terms f); enums = length (enums f) }
+  pub counts-func : (g : Fun) → countsOf (f ++ (func g ∷ [])) ≡ record { types = length (types f); funs = suc (length (funs f)); terms = length (terms f); enums = length (enums f); inputs = length (inputs f) }
   unfolding countsOf
-  counts-func g = let L = lists-func f g in rw (L .types-are, L .funs-are, L .terms-are, L .enums-are, length-last (funs f) g)
+  counts-func g = let L = lists-func f g in rw (L .types-are, L .funs-are, L .terms-are, L .enums-are, L .inputs-are, length-last (funs f) g)
 
-  pub counts-term : (t : Tm) → countsOf (f ++ (term t ∷ [])) ≡ record { types = length (types f); funs = length (funs f); terms = suc (length (terms f)); enums = length (enums f) }
+  pub counts-term : (t : Tm) → countsOf (f ++ (term t ∷ [])) ≡ record { types = length (types f); funs = length (funs f); terms = suc (length (terms f)); enums = length (enums f); inputs = length (inputs f) }
   unfolding countsOf
-  counts-term t = let L = lists-term f t in rw (L .types-are, L .funs-are, L .terms-are, L .enums-are, length-last (terms f) t)
+  counts-term t = let L = lists-term f t in rw (L .types-are, L .funs-are, L .terms-are, L .enums-are, L .inputs-are, length-last (terms f) t)
 
-  pub counts-input : (t : Tm) → countsOf (f ++ (input t ∷ [])) ≡ countsOf f
+  pub counts-input : (t : Tm) → countsOf (f ++ (input t ∷ [])) ≡ record { types = length (types f); funs = length (funs f); terms = length (terms f); enums = length (enums f); inputs = suc (length (inputs f)) }
   unfolding countsOf
-  counts-input t = let L = lists-input f t in rw (L .types-are, L .funs-are, L .terms-are, L .enums-are)
+  counts-input t = let L = lists-input f t in rw (L .types-are, L .funs-are, L .terms-are, L .enums-are, L .inputs-are, length-last (inputs f) t)

@@ -8,7 +8,7 @@ use lib.ListN.{length, drop, replicate, length-append}
 use Rattle.script_spec.specs.Base.{Bytes}
 use Rattle.script_spec.specs.Fields.{bad}
 use Rattle.script_spec.specs.File.{TermFile, nextRecord}
-use Rattle.index.proofs.Cells.{capacity-fits, cell-zeros}
+use Rattle.index.proofs.Cells.{capacity-fits}
 use Rattle.search.proofs.Entered.{indexed-none}
 use Rattle.term_check.specs.Promise.{countsOf, Accepts, Refuses}
 use Rattle.term_check.specs.Stepping.{Before, Stepped}
@@ -25,7 +25,7 @@ pub record Reached (file : Bytes) (size : ℕ) (f : TermFile) (work : List ℕ) 
 pub reached-start : (file : Bytes) (work : List ℕ) (size : ℕ) (c : Counts) → length file ≤ 1048576 → 2 * length file ≤ length work → work ≡ replicate size 0 → c ≡ countsOf [] → Reached file (length work) [] work 0 c
 reached-start file work size c short room zeros e =
     record {
-      before = record { short = short; indexed = indexed-none file work (length file / 6) (omega (arith, capacity-fits (length file))) (omega (arith, capacity-fits (length file))) (λ i. rw zeros (cell-zeros size (length file / 6) 11 i)); counts = e; places = omega arith };
+      before = record { short = short; indexed = indexed-none file work (length file / 6) size (omega (arith, capacity-fits (length file))) (omega (arith, capacity-fits (length file))) zeros; counts = e; places = omega arith };
       room = room;
       rest = rest-start file;
       within = omega arith;

@@ -1,6 +1,6 @@
 -- A record that was read is entered by its kind: the step over it from what entering it promises.
 -- Assumes nothing.
-use mathlib.Core.Path.{_≡_, refl, sym, ap, _∙_, subst}
+use mathlib.Core.Path.{_≡_, sym, ap, _∙_, subst}
 use Prim.Native.Nat.{ℕ, suc, _/_, _≤_, _<_}
 use native.Mathlib.Omega.{arith}
 use mathlib.Core.List.{List, [], _∷_, _++_, map}
@@ -9,20 +9,20 @@ use lib.ListN.{length, drop, getD}
 use Rattle.script_spec.specs.Base.{Bytes}
 use Rattle.script_spec.specs.Tree.{uuf, node, forest}
 use Rattle.script_spec.specs.Fields.{bad, got, Entry}
-use Rattle.script_spec.specs.File.{TermFile, Named, type, enum, func, term, types, funs, terms, enums, typeAt, termAt, namedMark, named, earlier, rules, broken, nextRecord}
+use Rattle.script_spec.specs.File.{TermFile, Named, type, enum, func, term, input, types, funs, terms, enums, typeAt, termAt, namedMark, named, earlier, rules, broken, nextRecord}
 use Rattle.index.specs.Standing.{markAt, bodyAt, entryAt}
 use Rattle.index.specs.Meaning.{Stands}
 use Rattle.index.proofs.Cells.{below-capacity}
-use Rattle.index.proofs.Growth.{counts-fewer}
+use Rattle.index.proofs.Growth.{counts-fewer, counts-together}
 use Rattle.record_rules.specs.Marks.{markOf}
 use Rattle.record_rules.proofs.Marks.{entry-mark}
-use Rattle.search.proofs.Entered.{indexed-input}
 use Rattle.enter.specs.Entering.{typeCount, funCount, Keeps, Outcome, Enters}
 use Rattle.enter.specs.Enums.{enumNamed, enumCount}
+use Rattle.enter.specs.Inputs.{inputCount}
 use Rattle.enter.specs.Terms.{termCount, EntersTerm}
 use Rattle.enter.specs.declared.Entered.{Entered}
 use Rattle.enter.specs.declared.Entered.the-variants.{Done, Broken}
-use Rattle.term_check.specs.Promise.{countsOf}
+use Rattle.term_check.specs.Promise.{countsOf, together}
 use Rattle.term_check.specs.Stepping.{Before, Stepped, ReadUpTo, StepsOver}
 use Rattle.term_check.specs.declared.Counts.{Counts}
 use Rattle.term_check.specs.declared.kinds.Step.the-variants as step
@@ -99,11 +99,18 @@ module _ {byte : ℕ} {file : Bytes} {work work′ : List ℕ} {at to : ℕ} {c 
             turned-back B R (O .is) (subst (λ (r : Entered). Outcome file f work work′ (length file / 6) (O .names) r) e (O .outcome) .rule);
       }
 
+-- the place of the next record is the number of those before it
+pub placed-at : (f : TermFile) {c : Counts} {place : ℕ} → c ≡ countsOf f → length f < 4294967296 → (together c < 4294967296 → place ≡ together c) → place ≡ length f
+unfolding countsOf
+placed-at f {c} q few place =
+    let all : together c ≡ length f = ap together q ∙ counts-together f in
+    place (omega arith) ∙ all
+
 -- ---- each kind
 
 module _ (file : Bytes) {work work′ : List ℕ} {at : ℕ} (to : ℕ) (c : Counts) {k o m : ℕ} {r : Entered} (wide : k ≡ length file / 6) (low : at < 4294967296 → o ≡ at) where
   pub type-row : (c .types < 4294967295 → m ≡ suc (c .types)) → Enters type typeCount file work work′ k (c .types) o r
-      → Row 84 file work work′ at to c r (record { types = m; funs = c .funs; terms = c .terms; enums = c .enums })
+      → Row 84 file work work′ at to c r (record { types = m; funs = c .funs; terms = c .terms; enums = c .enums; inputs = c .inputs })
   unfolding named countsOf typeCount
   type-row more E =
       record {
@@ -122,7 +129,7 @@ module _ (file : Bytes) {work work′ : List ℕ} {at : ℕ} (to : ℕ) (c : Cou
       }
 
   pub enum-row : (c .enums < 4294967295 → m ≡ suc (c .enums)) → Enters enumNamed enumCount file work work′ k (c .enums) o r
-      → Row 69 file work work′ at to c r (record { types = c .types; funs = c .funs; terms = c .terms; enums = m })
+      → Row 69 file work work′ at to c r (record { types = c .types; funs = c .funs; terms = c .terms; enums = m; inputs = c .inputs })
   unfolding named countsOf enumNamed enumCount
   enum-row more E =
       record {
@@ -140,7 +147,7 @@ module _ (file : Bytes) {work work′ : List ℕ} {at : ℕ} (to : ℕ) (c : Cou
       }
 
   pub fun-row : (c .funs < 4294967295 → m ≡ suc (c .funs)) → Enters func funCount file work work′ k (c .funs) o r
-      → Row 85 file work work′ at to c r (record { types = c .types; funs = m; terms = c .terms; enums = c .enums })
+      → Row 85 file work work′ at to c r (record { types = c .types; funs = m; terms = c .terms; enums = c .enums; inputs = c .inputs })
   unfolding named countsOf funCount
   fun-row more E =
       record {
@@ -158,10 +165,10 @@ module _ (file : Bytes) {work work′ : List ℕ} {at : ℕ} (to : ℕ) (c : Cou
             };
       }
 
-  pub term-row : (c .terms < 4294967295 → m ≡ suc (c .terms)) → EntersTerm file work work′ k (c .types) (c .terms) o r
-      → Row 88 file work work′ at to c r (record { types = c .types; funs = c .funs; terms = m; enums = c .enums })
+  pub term-row : {place : ℕ} → (c .terms < 4294967295 → m ≡ suc (c .terms)) → (together c < 4294967296 → place ≡ together c) → EntersTerm file work work′ k (c .types) (c .terms) o place r
+      → Row 88 file work work′ at to c r (record { types = c .types; funs = c .funs; terms = m; enums = c .enums; inputs = c .inputs })
   unfolding named countsOf typeCount termCount
-  term-row more E =
+  term-row more place E =
       record {
         go = λ f B x R b.
             let K = kind-of x .a-term b in
@@ -173,18 +180,26 @@ module _ (file : Bytes) {work work′ : List ℕ} {at : ℕ} (to : ℕ) (c : Cou
             record {
               names = term t;
               is = e;
-              outcome = rw (sym wide) (E .go f (rw wide (B .indexed)) v u (rw wide (next-room B R)) t (rw (low (at-low B R)) (stands-as B R e)));
+              outcome = rw (sym wide) (E .go f (rw wide (B .indexed)) v u (rw wide (next-room B R)) (placed-at f q (omega (arith, few B R)) place) t (rw (low (at-low B R)) (stands-as B R e)));
               counts = rw (more (omega (arith, few B R, counts-fewer f .terms-fewer)), q) (sym (counts-term f t));
             };
       }
 
--- an input has no row
-pub input-over : (file : Bytes) (work : List ℕ) (at to : ℕ) (c : Counts) → StepsOver 73 file work work at to c (step.To to c)
-unfolding named rules broken
-input-over file work at to c =
-    record {
-      go = λ f B x R b.
-          let K = kind-of x .an-input b in
-          let t = termAt f (K .0) in
-          stepped B R (ap (named f) (K .1)) (record { kept = refl; indexed = indexed-input (B .indexed) (next-room B R) t }) (B .counts ∙ sym (counts-input f t));
-    }
+  pub input-row : (c .inputs < 4294967295 → m ≡ suc (c .inputs)) → Enters input inputCount file work work′ k (c .inputs) o r
+      → Row 73 file work work′ at to c r (record { types = c .types; funs = c .funs; terms = c .terms; enums = c .enums; inputs = m })
+  unfolding named countsOf inputCount
+  input-row more E =
+      record {
+        go = λ f B x R b.
+            let K = kind-of x .an-input b in
+            let e = ap (named f) (K .1) in
+            let q = B .counts in
+            let u = ap (λ (d : Counts). d .inputs) q in
+            let t = termAt f (K .0) in
+            record {
+              names = input t;
+              is = e;
+              outcome = rw (sym wide) (E .go f (rw wide (B .indexed)) u (rw wide (next-room B R)) t (rw (low (at-low B R)) (stands-as B R e)));
+              counts = rw (more (omega (arith, few B R, counts-together f)), q) (sym (counts-input f t));
+            };
+      }

@@ -20,7 +20,7 @@ use Rattle.term_check.specs.declared.kinds.Step.{Step}
 use Rattle.term_check.specs.declared.kinds.Step.the-variants as step
 use Rattle.term_check.proofs.Reading.{next-bad}
 use Rattle.term_check.proofs.FirstByte.{input-byte}
-use Rattle.term_check.proofs.Over.{next-mark, input-over}
+use Rattle.term_check.proofs.Over.{next-mark}
 
 -- ---- the first byte of a mark
 
@@ -40,11 +40,12 @@ module _ {file : Bytes} {work work′ : List ℕ} {at to : ℕ} {c : Counts} {by
   over-byte e S = subst (λ (b : ℕ). StepsOver b file work work′ at to c r) (sym e) S
 
 -- what is no type, enum, function or term is an input
-pub over-rest : {file : Bytes} {work : List ℕ} {at to byte : ℕ} {c : Counts} → (byte ≡ 84 → ⊥) → (byte ≡ 69 → ⊥) → (byte ≡ 85 → ⊥) → (byte ≡ 88 → ⊥) → StepsOver byte file work work at to c (step.To to c)
-over-rest {file} {work} {at} {to} {c = c} p q r s =
+pub over-rest : {file : Bytes} {work work′ : List ℕ} {at to byte : ℕ} {c : Counts} {s : Step} → (byte ≡ 84 → ⊥) → (byte ≡ 69 → ⊥) → (byte ≡ 85 → ⊥) → (byte ≡ 88 → ⊥)
+    → StepsOver 73 file work work′ at to c s → StepsOver byte file work work′ at to c s
+over-rest t e u x S =
     record {
-      go = λ f B x R b.
-          input-over file work at to c .go f B x R (input-byte x (λ e. p (omega (arith, e, b))) (λ e. q (omega (arith, e, b))) (λ e. r (omega (arith, e, b))) (λ e. s (omega (arith, e, b))));
+      go = λ f B y R b.
+          S .go f B y R (input-byte y (λ q. t (omega (arith, q, b))) (λ q. e (omega (arith, q, b))) (λ q. u (omega (arith, q, b))) (λ q. x (omega (arith, q, b))));
     }
 
 -- ---- the step

@@ -1,11 +1,11 @@
 -- What check and fill promise: document 01's answer, and the working memory that they leave.
 -- Assumes nothing.
 use mathlib.Core.Path.{_≡_}
-use Prim.Native.Nat.{ℕ, _/_}
+use Prim.Native.Nat.{ℕ, _+_, _/_}
 use mathlib.Core.List.{List}
 use lib.ListN.{length, replicate}
 use Rattle.script_spec.specs.Base.{Bytes, Answer, accepted, refused}
-use Rattle.script_spec.specs.File.{TermFile, types, funs, terms, enums, checked}
+use Rattle.script_spec.specs.File.{TermFile, types, funs, terms, enums, inputs, checked}
 use Rattle.index.specs.Meaning.{Index}
 use Rattle.term_check.specs.declared.Checked.{Checked}
 use Rattle.term_check.specs.declared.Checked.the-variants as check
@@ -29,7 +29,11 @@ pub record Checks (file : Bytes) (work work′ : List ℕ) (r : Checked) : Type 
 
 -- the counts of a file's records
 unfoldable pub countsOf : TermFile → Counts
-countsOf f = record { types = length (types f); funs = length (funs f); terms = length (terms f); enums = length (enums f) }
+countsOf f = record { types = length (types f); funs = length (funs f); terms = length (terms f); enums = length (enums f); inputs = length (inputs f) }
+
+-- how many records are counted
+abbrev pub together : Counts → ℕ
+together c = c .types + c .funs + c .terms + c .enums + c .inputs
 
 -- the file is accepted, the memory at exit is the index of its records, and these are their counts
 pub record Accepts (file : Bytes) (work work′ : List ℕ) (c : Counts) : Type 0 where

@@ -7,7 +7,7 @@ use lib.ListN.{length, drop, getD}
 use Rattle.script_spec.specs.Base.{Bytes}
 use Rattle.script_spec.specs.Fields.{got, bad, Entry}
 use Rattle.script_spec.specs.File.{TermFile, Named, earlier, nextRecord}
-use Rattle.slots.specs.Slots.{Indexed}
+use Rattle.search.specs.Searchable.{Indexed}
 use Rattle.term_file.specs.Records.{readRecord}
 use Rattle.record_rules.specs.Marks.{markOf}
 use Rattle.term_check.specs.Promise.{countsOf}

@@ -3,6 +3,7 @@ use crate::Counts;
 use enter::Entered;
 ghost use mathlib.Core.Path.{_≡_};
 ghost use Prim.Native.Nat.{suc, _<_};
+ghost use Rattle.term_check.specs.Promise.{together};
 ghost use Rattle.term_check.specs.Stepping.{StepsOver};
 
 // The place after a record and the counts with it, or the number of its refusal.
@@ -31,6 +32,18 @@ fn more(n: u32) -> u32
     0
 }
 
+// The place of the next record: how many there are before it.
+pub fn next_place(c: Counts) -> u32
+    ensures { λ r. ⌜ (together c < 4294967296 → r ≡ together c) ⌝ }
+{
+    let types = c.types as usize;
+    let funs = c.funs as usize;
+    let terms = c.terms as usize;
+    let enums = c.enums as usize;
+    let inputs = c.inputs as usize;
+    narrow(types + funs + terms + enums + inputs)
+}
+
 // Enters a type that was read from `at` up to `to`.
 pub fn next_type(file: &[u8], work: &mut [u32], at: usize, to: usize, c: Counts) -> Step
     ensures { λ r. ⌜ StepsOver 84 (now (file .entry)) (now (work .entry)) (now (work .exit)) at to c r ⌝ }
@@ -46,6 +59,7 @@ pub fn next_type(file: &[u8], work: &mut [u32], at: usize, to: usize, c: Counts)
                 funs: c.funs,
                 terms: c.terms,
                 enums: c.enums,
+                inputs: c.inputs,
             },
         ),
     }
@@ -66,6 +80,7 @@ pub fn next_enum(file: &[u8], work: &mut [u32], at: usize, to: usize, c: Counts)
                 funs: c.funs,
                 terms: c.terms,
                 enums,
+                inputs: c.inputs,
             },
         ),
     }
@@ -86,6 +101,7 @@ pub fn next_fun(file: &[u8], work: &mut [u32], at: usize, to: usize, c: Counts) 
                 funs,
                 terms: c.terms,
                 enums: c.enums,
+                inputs: c.inputs,
             },
         ),
     }
@@ -97,7 +113,8 @@ pub fn next_term(file: &[u8], work: &mut [u32], at: usize, to: usize, c: Counts)
 {
     let k = index::capacity(file.len());
     let terms = more(c.terms);
-    match enter::terms::enter_term(file, work, k, c.types, c.terms, narrow(at)) {
+    let place = next_place(c);
+    match enter::terms::enter_term(file, work, k, c.types, c.terms, narrow(at), place) {
         Entered::Broken(n) => Step::Bad(n),
         Entered::Done => Step::To(
             to,
@@ -106,6 +123,28 @@ pub fn next_term(file: &[u8], work: &mut [u32], at: usize, to: usize, c: Counts)
                 funs: c.funs,
                 terms,
                 enums: c.enums,
+                inputs: c.inputs,
+            },
+        ),
+    }
+}
+
+// Enters an input.
+pub fn next_input(file: &[u8], work: &mut [u32], at: usize, to: usize, c: Counts) -> Step
+    ensures { λ r. ⌜ StepsOver 73 (now (file .entry)) (now (work .entry)) (now (work .exit)) at to c r ⌝ }
+{
+    let k = index::capacity(file.len());
+    let inputs = more(c.inputs);
+    match enter::inputs::enter_input(file, work, k, c.inputs, narrow(at)) {
+        Entered::Broken(n) => Step::Bad(n),
+        Entered::Done => Step::To(
+            to,
+            Counts {
+                types: c.types,
+                funs: c.funs,
+                terms: c.terms,
+                enums: c.enums,
+                inputs,
             },
         ),
     }

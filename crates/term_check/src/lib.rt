@@ -13,12 +13,13 @@ pub enum Checked {
     Refused(u32, u32),
 }
 
-// How many types, functions, terms and enums a file has.
+// How many types, functions, terms, enums and inputs a file has.
 pub struct Counts {
     pub types: u32,
     pub funs: u32,
     pub terms: u32,
     pub enums: u32,
+    pub inputs: u32,
 }
 
 // The answer of filling the index: what it has, or a refusal's number and place.
@@ -47,24 +48,23 @@ pub fn fill(file: &[u8], work: &mut [u32]) -> Filled
     }
     writer::clear_words(work);
     let mut at = 0;
-    let mut place = 0;
     let mut c = Counts {
         types: 0,
         funs: 0,
         terms: 0,
         enums: 0,
+        inputs: 0,
     };
     while at < file.len() {
         match step::step(file, work, at, c) {
             Step::Bad(n) => {
-                return refuse(work, n, place);
+                return refuse(work, n, kinds::next_place(c));
             }
             Step::To(to, d) => {
                 at = to;
                 c = d;
             }
         }
-        place += 1;
     }
     Filled::Done(c)
 }

@@ -34,7 +34,7 @@ fn enter_next(file: &[u8], work: &mut [u32], at: usize, to: usize, c: Counts, by
     if byte == b'X' {
         return kinds::next_term(file, work, at, to, c);
     }
-    Step::To(to, c)
+    kinds::next_input(file, work, at, to, c)
 }
 
 // Reads the record at a place, and enters it.

@@ -70,15 +70,15 @@ module _ (file : Bytes) (work : List ℕ) (k count o : ℕ) {l : ℕ} {b : Bool}
   unfolding InRange
   reference-sought octets h q =
       record {
-        go = λ f I Z c m rs e range.
-            q ∙ part-term file octets work k o e ∙ referred I count m rs (sym (ap refers (term-letter file o is e)) ∙ sym test ∙ h) (range .0);
+        go = λ f I c m rs e range.
+            q ∙ part-term file octets work k o e ∙ referred (I .index) count m rs (sym (ap refers (term-letter file o is e)) ∙ sym test ∙ h) (range .0);
       }
 
   pub listed-sought : {r : ℕ} → b ≡ false → ListedSought file work k count o r → TypeSought file work k count o r
   listed-sought h L =
       record {
-        go = λ f I Z c m rs e range.
+        go = λ f I c m rs e range.
             let x = unreferred (cell work k termType) m rs (sym (ap refers (term-letter file o is e)) ∙ sym test ∙ h) in
-            let S : Seeks file work k o f (x .0) (x .1) = record { index = I; mark = m; refs = rs; reads = e; in-range = range; by = x .2 } in
-            rw (x .2) (L .go f (x .0) (x .1) (record { seeks = S; count-is = c; reached = rw c (Z .type-slots) }));
+            let S : Seeks file work k o f (x .0) (x .1) = record { index = I .index; mark = m; refs = rs; reads = e; in-range = range; by = x .2 } in
+            rw (x .2) (L .go f (x .0) (x .1) (record { seeks = S; count-is = c; reached = rw c (I .searchable .type-slots) }));
       }

@@ -19,11 +19,11 @@ use Rattle.index.specs.Meaning.{Index}
 use Rattle.index.specs.Lists.{numberAt}
 use Rattle.compare.specs.View.{Decides, viewed, numbers, segmentsAt}
 use Rattle.compare.specs.declared.View.the-variants.{Listed}
-use Rattle.slots.specs.Slots.{Slots}
+use Rattle.search.specs.Searchable.{Indexed}
 
 -- r is the number of the first type that is equal to the type of the term at an offset, or `count` where it is not listed
 pub record TypeSought (file : Bytes) (work : List ℕ) (k count o r : ℕ) : Type 0 where
-  pub go : (f : TermFile) → Index file f work k → Slots file f work k → count ≡ length (types f) → (m : TermMark ℕ ℕ) (rs : List ℕ) → entryAt file o ≡ some (term m rs) → InRange (earlier f) (term m rs)
+  pub go : (f : TermFile) → Indexed file f work k → count ≡ length (types f) → (m : TermMark ℕ ℕ) (rs : List ℕ) → entryAt file o ≡ some (term m rs) → InRange (earlier f) (term m rs)
       → r ≡ orElse count (place (eqTy (typeNamed f (typeBy (cell work k termType) m rs))) (types f))
 
 -- ---- fields of records

@@ -10,7 +10,7 @@ returns : tie.Need-returns
 returns c = encodes-refused _ _ _ c.before.before.before.before.before.before.before.before.before.before.before.before.fill.ensures (c.before.before.before.before.before.before.before.before.before.before.before.before.fill.kept .1 .0) c.before.before.before.before.before.before.before.before.n.given.1 c.before.before.before.before.refuse.ensures
 
 returns-2 : tie.Need-returns-2
-returns-2 c = encodes-accepted _ _ _ c.before.before.before.before.before.before.before.before.before.before.before.before.fill.ensures (c.before.before.before.before.before.before.before.before.before.before.before.before.fill.kept .1 .0) c.before.before.before.before.before.before.before.before.c.given.1 refl c.before.before.before.before.encode-records.ensures
+returns-2 c = encodes-accepted _ _ _ c.before.before.before.before.before.before.before.before.before.before.before.before.fill.ensures (c.before.before.before.before.before.before.before.before.before.before.before.before.fill.kept .1 .0) c.before.before.before.before.before.before.before.before.c.given.1 refl refl c.before.before.before.before.encode-records.ensures
 
 pub encode-spec : {M : Type 1} → statement M
 encode-spec =

@@ -7,7 +7,7 @@ use Rattle.encoder.proofs.encode_records.Statement.{statement}
 use Rattle.encoder.proofs.encode_records.Tie as tie
 
 returns : tie.Need-returns
-returns c = encodes-records _ _ _ _ c.before.before.before.before.before.before.before.before.before.before.before.before.before.before.before.before.before.before.before.before.before.before.capacity.ensures refl c.before.before.before.before.before.before.before.before.before.before.before.before.before.before.before.before.before.before.before.before.clear-names.ensures c.before.before.before.before.before.before.before.before.before.before.before.before.before.before.before.before.put-start.ensures c.before.before.before.before.before.before.before.before.before.before.before.encode-inputs.ensures c.before.before.before.before.close.ensures
+returns c = encodes-records _ _ _ _ _ c.before.before.before.before.before.before.before.before.before.before.before.before.before.before.before.before.before.before.before.before.before.before.capacity.ensures refl c.before.before.before.before.before.before.before.before.before.before.before.before.before.before.before.before.before.before.before.before.clear-names.ensures c.before.before.before.before.before.before.before.before.before.before.before.before.before.before.before.before.put-start.ensures c.before.before.before.before.before.before.before.before.before.before.before.encode-inputs.ensures c.before.before.before.before.close.ensures
 
 pub encode-records-spec : {M : Type 1} → statement M
 encode-records-spec =

@@ -3,7 +3,7 @@
 use Rattle.segments.specs.Machine.{segments}
 use Rattle.compare.specs.View.{segmentsAt, startAt}
 use Rattle.index.specs.Names.{mixedBytes}
-use Rattle.hash.specs.Hash.{mixedSegments, hashed, typeHash}
+use Rattle.hash.specs.Hash.{hashed, typeHash}
 use borrow.Author.Needs.{needs}
 use Rattle.hash.proofs.listed_hash.Statement.{statement}
 use Rattle.hash.proofs.listed_hash.Tie as tie

@@ -4,16 +4,16 @@ use mathlib.Core.Path.{sym, _∙_}
 use Prim.Native.Nat.{_-_}
 use native.Mathlib.Omega.{arith}
 use lib.ListN.{length}
-use Rattle.term_check.proofs.Filling.{fills-long, fills-narrow, Going, going-start, going-few, going-further, going-on, going-bad, going-end}
+use Rattle.term_check.proofs.Filling.{fills-long, fills-narrow, Going, going-start, going-further, going-on, going-bad, going-end}
 use borrow.Author.Needs.{needs}
 use Rattle.term_check.proofs.fill.Statement.{statement}
 use Rattle.term_check.proofs.fill.Tie as tie
 
 abbrev Inv-loop : tie.InvT-loop
-Inv-loop file work₀ at₀ place₀ c₀ work at place c = Going file (length work₀) work at place c
+Inv-loop file work₀ at₀ c₀ work at c = Going file (length work₀) work at c
 
 abbrev μ-loop : tie.MeasureT-loop
-μ-loop file work₀ at₀ place₀ c₀ work at place c = length file - at
+μ-loop file work₀ at₀ c₀ work at c = length file - at
 
 returns : tie.Need-returns Inv-loop μ-loop
 returns c = fills-long _ c.before.before.before.before.if1.taken c.before.before.refuse.ensures
@@ -25,13 +25,10 @@ loop-holds : tie.Need-loop-holds Inv-loop μ-loop
 loop-holds c = going-start _ _ (length c.before.before.before.before.before.before.before.before.args.work.now) (omega arith) (omega (arith, c.before.before.clear-words.kept .0)) c.before.before.clear-words.ensures
 
 same-length-3 : tie.Need-same-length-3 Inv-loop μ-loop
-same-length-3 c = c.before.before.refuse3.kept .0 ∙ c.before.before.before.before.before.before.before.before.before.step.kept .1 .0 ∙ c.before.before.before.before.before.before.before.before.before.before.before.before.loop.inv .same-size ∙ c.before.before.before.before.before.before.before.before.before.before.before.before.before.before.before.clear-words.kept .0
+same-length-3 c = c.before.before.refuse3.kept .0 ∙ c.before.before.before.before.before.before.before.before.before.before.step.kept .1 .0 ∙ c.before.before.before.before.before.before.before.before.before.before.before.before.before.loop.inv .same-size ∙ c.before.before.before.before.before.before.before.before.before.before.before.before.before.before.before.before.clear-words.kept .0
 
 returns-3 : tie.Need-returns-3 Inv-loop μ-loop
-returns-3 c = going-bad c.before.before.before.before.before.before.before.before.before.before.before.before.loop.inv c.before.before.before.before.before.before.before.before.before.step.ensures _ (sym (c.before.before.before.before.before.before.before.before.before.before.before.before.before.before.before.clear-words.kept .0)) c.before.before.before.before.before.before.before.before.before.before.before.loop-test.taken (c.before.before.before.before.before.n.given.1) (c.before.before.before.before.before.before.before.before.before.step.kept .1 .0) c.before.before.refuse3.ensures
-
-add-place : tie.Need-add-place Inv-loop μ-loop
-add-place c = omega (arith, going-few c.before.before.before.before.before.before.before.before.loop.inv)
+returns-3 c = going-bad c.before.before.before.before.before.before.before.before.before.before.before.before.before.loop.inv c.before.before.before.before.before.before.before.before.before.before.step.ensures _ (sym (c.before.before.before.before.before.before.before.before.before.before.before.before.before.before.before.before.clear-words.kept .0)) c.before.before.before.before.before.before.before.before.before.before.before.before.loop-test.taken (c.before.before.before.before.before.before.n.given.1) (c.before.before.before.before.before.before.before.before.before.before.step.kept .1 .0) c.before.before.before.next-place.ensures c.before.before.refuse3.ensures
 
 loop-less : tie.Need-loop-less Inv-loop μ-loop
 loop-less c = omega (arith, going-further c.before.before.before.before.before.before.before.before.loop.inv c.before.before.before.before.before.step.ensures (c.before.to.given.1))
@@ -53,10 +50,9 @@ fill-spec =
     μ-loop (λ c κs. search needs) (λ c. search needs)
     returns (λ c. search needs) (λ c κs. search needs) (λ c. search needs)
     returns-2 (λ c κs. search needs)
-    loop-holds (λ c κs. search needs) (λ c. search needs) (λ c κs. search needs)
+    loop-holds (λ c κs. search needs) (λ c. search needs) (λ c κs. search needs) (λ c κs. search needs)
     same-length-3
     returns-3 (λ c. search needs)
-    add-place
     loop-less
     loop-again
     same-length-4

@@ -2,7 +2,6 @@
 -- Assumes nothing.
 use Prim.Native.Nat.{_-_}
 use mathlib.Core.Path.{ap, _∙_}
-use native.Mathlib.Omega.{arith}
 use Rattle.index.specs.Cells.{cell, hash}
 use Rattle.term_type.proofs.Probing.{Passed, passed-none, passed-more, found-empty, found-held, found-nowhere}
 use borrow.Author.Needs.{needs}

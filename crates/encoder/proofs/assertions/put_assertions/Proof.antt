@@ -1,34 +1,29 @@
--- `encoder::assertions::put_assertions` meets its contract: the loop has asserted the inputs that it passed.
+-- `encoder::assertions::put_assertions` meets its contract: the loop has asserted the inputs before its count.
 -- Assumes nothing.
 use native.Mathlib.Omega.{arith}
 use Prim.Native.Nat.{_-_}
-use lib.ListN.{length}
 use Rattle.encoder.proofs.AssertionLaws.{Asserting, asserting-start, asserting-on, asserting-end}
-use native.Mathlib.Omega.{arith}
 use borrow.Author.Needs.{needs}
 use Rattle.encoder.proofs.assertions.put_assertions.Statement.{statement}
 use Rattle.encoder.proofs.assertions.put_assertions.Tie as tie
 
 abbrev Inv-loop : tie.InvT-loop
-Inv-loop file work k many out₀ at limit to₀ place₀ out to place = Asserting file work k many limit out₀ to₀ place out to
+Inv-loop file work k many count out₀ at limit to₀ i₀ out to i = Asserting file work k many count limit out₀ to₀ i out to
 
 abbrev μ-loop : tie.MeasureT-loop
-μ-loop file work k many out₀ at limit to₀ place₀ out to place = length file - place
+μ-loop file work k many count out₀ at limit to₀ i₀ out to i = count - i
 
 loop-holds : tie.Need-loop-holds Inv-loop μ-loop
-loop-holds c = asserting-start _ _ _ _ _ _ _
-
-loop-less : tie.Need-loop-less Inv-loop μ-loop
-loop-less c = let i = c.next-place.ensures in omega (arith, i .further c.before.before.before.before.before.before.loop-test.taken, i .within)
+loop-holds c = asserting-start _ _ _ _ _ _ _ _
 
 loop-again : tie.Need-loop-again Inv-loop μ-loop
-loop-again c = asserting-on _ _ _ _ _ c.before.before.before.before.before.before.before.loop.inv c.before.before.before.before.before.before.loop-test.taken c.before.before.before.before.before.item-at.ensures c.next-place.ensures c.before.before.before.put-input.ensures (c.before.before.before.put-input.kept .1 .1 .1 .1 .0)
+loop-again c = asserting-on _ _ _ _ _ _ c.before.before.before.before.before.before.loop.inv c.before.before.before.before.before.loop-test.taken c.before.before.before.before.get.ensures c.before.before.put-assertion.ensures (c.before.before.put-assertion.kept .1 .1 .1 .1 .0)
 
 same-length : tie.Need-same-length Inv-loop μ-loop
 same-length c = c.before.loop.inv.size
 
 returns : tie.Need-returns Inv-loop μ-loop
-returns c = asserting-end _ _ _ _ _ c.before.loop.inv c.loop-test.left
+returns c = asserting-end _ _ _ _ _ _ c.before.loop.inv c.loop-test.left
 
 pub put-assertions-spec : {M : Type 1} → statement M
 put-assertions-spec =
@@ -36,8 +31,7 @@ put-assertions-spec =
     (tie.spec
     Inv-loop
     μ-loop
-    loop-holds (λ c κs. search needs) (λ c κs. search needs) (λ c κs. search needs)
-    loop-less
+    loop-holds (λ c. search needs) (λ c κs. search needs) (λ c κs. search needs) (λ c. search needs) (λ c. omega arith)
     loop-again
     same-length
     returns)

@@ -1,28 +1,23 @@
--- `encoder::inputs::encode_inputs` meets its contract: the loop has encoded the inputs that it passed.
+-- `encoder::inputs::encode_inputs` meets its contract: the loop has encoded the inputs before its count.
 -- Assumes nothing.
 use native.Mathlib.Omega.{arith}
 use Prim.Native.Nat.{_-_}
-use lib.ListN.{length}
 use Rattle.encoder.proofs.InputLaws.{Encoding, encoding-start, encoding-on, encoding-end}
-use native.Mathlib.Omega.{arith}
 use borrow.Author.Needs.{needs}
 use Rattle.encoder.proofs.inputs.encode_inputs.Statement.{statement}
 use Rattle.encoder.proofs.inputs.encode_inputs.Tie as tie
 
 abbrev Inv-loop : tie.InvT-loop
-Inv-loop file work₀ k many out₀ limit q₀ at₀ work out q at = Encoding file k many limit work₀ out₀ q₀ at work out q
+Inv-loop file work₀ k many count out₀ limit q₀ i₀ work out q i = Encoding file k many count limit work₀ out₀ q₀ i work out q
 
 abbrev μ-loop : tie.MeasureT-loop
-μ-loop file work₀ k many out₀ limit q₀ at₀ work out q at = length file - at
+μ-loop file work₀ k many count out₀ limit q₀ i₀ work out q i = count - i
 
 loop-holds : tie.Need-loop-holds Inv-loop μ-loop
-loop-holds c = encoding-start _ _ _ _ _ _ _
-
-loop-less : tie.Need-loop-less Inv-loop μ-loop
-loop-less c = let i = c.next-place.ensures in omega (arith, i .further c.before.before.before.before.before.before.before.before.before.loop-test.taken, i .within)
+loop-holds c = encoding-start _ _ _ _ _ _ _ _
 
 loop-again : tie.Need-loop-again Inv-loop μ-loop
-loop-again c = encoding-on _ _ _ _ c.before.before.before.before.before.before.before.before.before.before.loop.inv c.before.before.before.before.before.before.before.before.before.loop-test.taken c.before.before.before.before.before.before.before.before.item-at.ensures c.next-place.ensures c.before.before.before.before.before.encode-input.ensures (c.before.before.before.before.before.encode-input.kept .1 .1 .1 .1 .0)
+loop-again c = encoding-on _ _ _ _ _ c.before.before.before.before.before.before.before.before.before.before.loop.inv c.before.before.before.before.before.before.before.before.before.loop-test.taken c.before.before.before.before.before.before.before.get.ensures c.before.before.before.before.encode-term.ensures (c.before.before.before.before.encode-term.kept .1 .1 .1 .1 .0)
 
 same-length : tie.Need-same-length Inv-loop μ-loop
 same-length c = c.before.loop.inv.kept.size
@@ -31,7 +26,7 @@ same-length-2 : tie.Need-same-length-2 Inv-loop μ-loop
 same-length-2 c = c.before.loop.inv.size
 
 returns : tie.Need-returns Inv-loop μ-loop
-returns c = encoding-end _ _ _ _ c.before.loop.inv c.loop-test.left
+returns c = encoding-end _ _ _ _ _ c.before.loop.inv c.loop-test.left
 
 pub encode-inputs-spec : {M : Type 1} → statement M
 encode-inputs-spec =
@@ -39,8 +34,7 @@ encode-inputs-spec =
     (tie.spec
     Inv-loop
     μ-loop
-    loop-holds (λ c κs. search needs) (λ c κs. search needs) (λ c κs. search needs)
-    loop-less
+    loop-holds (λ c. search needs) (λ c κs. search needs) (λ c κs. search needs) (λ c. search needs) (λ c. omega arith)
     loop-again
     same-length
     same-length-2

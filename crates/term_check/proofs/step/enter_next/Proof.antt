@@ -18,7 +18,7 @@ returns-4 : tie.Need-returns-4
 returns-4 c = over-byte c.before.before.before.before.if4.taken c.before.before.next-term.ensures
 
 returns-5 : tie.Need-returns-5
-returns-5 c = over-rest c.before.before.before.if1.left c.before.before.if2.left c.before.if3.left c.if4.left
+returns-5 c = over-rest c.before.before.before.before.before.before.before.if1.left c.before.before.before.before.before.before.if2.left c.before.before.before.before.before.if3.left c.before.before.before.before.if4.left c.before.before.next-input.ensures
 
 pub enter-next-spec : {M : Type 1} → statement M
 enter-next-spec =
@@ -27,5 +27,5 @@ enter-next-spec =
     returns (λ c κs. search needs) (λ c. search needs)
     returns-2 (λ c κs. search needs) (λ c. search needs)
     returns-3 (λ c κs. search needs) (λ c. search needs)
-    returns-4
+    returns-4 (λ c κs. search needs) (λ c. search needs)
     returns-5)

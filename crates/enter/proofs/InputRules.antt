@@ -1,0 +1,73 @@
+-- An input is entered: its body is the number of its term, which is stored.
+-- Assumes nothing.
+use mathlib.Core.Path.{_≡_, refl, sym, ap, _∙_, subst}
+use Prim.Native.Nat.{ℕ, suc, _≤_, _<_}
+use native.Mathlib.Omega.{arith}
+use mathlib.Core.List.{List, [], _∷_, _++_}
+use mathlib.Core.Option.{some}
+use lib.ListN.{length}
+use Rattle.script_spec.specs.Base.{Bytes, bytes, same, lookup, andThen}
+use Rattle.script_spec.specs.Tree.{Tm}
+use Rattle.script_spec.specs.Fields.{Entry, pure, ref, marks}
+use Rattle.script_spec.specs.Fields as fields
+use Rattle.script_spec.specs.File.{TermFile, input, terms, termAt, named, earlier, rules, broken}
+use Rattle.index.specs.Cells.{store, inputTerm}
+use Rattle.index.specs.First.{InRange}
+use Rattle.index.specs.Standing.{loose, markAt, bodyAt, entryOf, entryAt}
+use Rattle.index.specs.Meaning.{Stands}
+use Rattle.index.proofs.Readers.{got-value}
+use Rattle.record_rules.specs.Marks.{markOf}
+use Rattle.record_rules.proofs.Marks.{entry-mark}
+use Rattle.search.specs.Searchable.{Indexed}
+use Rattle.search.proofs.Entered.{indexed-input}
+use Rattle.entry.specs.Places.{numberAt}
+use Rattle.entry.proofs.Inverse.{entry-whole, bind-inverse, tested-inverse}
+use Rattle.enter.specs.Entering.{Enters}
+use Rattle.enter.specs.Inputs.{inputCount}
+use Rattle.enter.specs.declared.Entered.the-variants.{Done}
+
+-- the number in an input's body
+input-number : (body : Bytes) (n : ℕ) → entryOf (bytes "IN") body ≡ some (fields.input n) → numberAt body 0 ≡ n
+unfolding entryOf andThen marks lookup same bytes ref pure
+input-number body n h =
+    let read = entry-whole _ (fields.input n) h in
+    bind-inverse (ref (loose .terms)) (λ t. pure (fields.input t)) body read (λ t mid e g.
+    tested-inverse 8 _ body e (λ v d. v ∙ (let q : t ≡ n = inner (got-value (fields.input t) (fields.input n) mid [] g) in q)))
+  where
+    inner : {a b : ℕ} → fields.input a ≡ fields.input b → a ≡ b
+    inner e = cc
+
+-- the entry of an input, by the number of its term
+record ByNumber (f : TermFile) (x : Entry) (t : Tm) : Type 0 where
+  number : ℕ
+  is : x ≡ fields.input number
+  below : number < length (terms f)
+  names : termAt f number ≡ t
+
+by-number : (f : TermFile) (x : Entry) (t : Tm) → named f x ≡ input t → InRange (earlier f) x → ByNumber f x t
+unfolding named InRange earlier
+by-number f (fields.type m rs) t e l = let z : _≡_ {A = ℕ} 0 1 = cc in absurd (omega arith)
+by-number f (fields.enum n ms) t e l = let z : _≡_ {A = ℕ} 0 1 = cc in absurd (omega arith)
+by-number f (fields.func id a r) t e l = let z : _≡_ {A = ℕ} 0 1 = cc in absurd (omega arith)
+by-number f (fields.term m rs) t e l = let z : _≡_ {A = ℕ} 0 1 = cc in absurd (omega arith)
+by-number f (fields.input n) t e l = record { number = n; is = refl; below = l; names = cc }
+
+-- the number that is read from the body
+number-read : (file : Bytes) (o n : ℕ) → entryAt file o ≡ some (fields.input n) → numberAt (bodyAt file o) 0 ≡ n
+unfolding entryAt markOf
+number-read file o n e =
+    let mark-is : markAt file o ≡ bytes "IN" = entry-mark (markAt file o) (bodyAt file o) e in
+    input-number (bodyAt file o) n (ap (λ (s : Bytes). entryOf s (bodyAt file o)) (sym mark-is) ∙ e)
+
+pub input-entered : (file : Bytes) (work : List ℕ) (k count o : ℕ) {n : ℕ} {body : Bytes} {work′ : List ℕ} → body ≡ bodyAt file o → n ≡ numberAt body 0
+    → work′ ≡ store work k inputTerm count n → Enters input inputCount file work work′ k count o Done
+unfolding inputCount rules broken
+input-entered file work k count o {n} {body} {work′} hb hn e = record { go = λ f I c room t s. record { kept = refl; indexed = stored f I c room t s } }
+  where
+    stored : (f : TermFile) → Indexed file f work k → count ≡ inputCount f → suc (length f) ≤ k → (t : Tm) → Stands file f (earlier f) o (input t) → Indexed file (f ++ (input t ∷ [])) work′ k
+    stored f I c room t s =
+        let B = by-number f (s .entry) t (s .names) (s .in-range) in
+        let n-is : n ≡ B .number = hn ∙ ap (λ (b : Bytes). numberAt b 0) hb ∙ number-read file o (B .number) (s .reads ∙ ap some (B .is)) in
+        let J = indexed-input I room (B .below) in
+        let K : Indexed file (f ++ (input t ∷ [])) (store work k inputTerm (inputCount f) (B .number)) k = subst (λ (u : Tm). Indexed file (f ++ (input u ∷ [])) (store work k inputTerm (inputCount f) (B .number)) k) (B .names) J in
+        rw (e, c, n-is) K
