@@ -31,7 +31,7 @@ fn put_selector(
     }
     let child = term_entry::take_child(body, c);
     let t = index::get(work, k, index::TERM_TYPE, entry::wide(child.number));
-    match query::find_attribute(file, work, k, t, name) {
+    match query::index_of_attr(file, work, k, t, name) {
         Attribute::At(i) => term_parts::put_numbered(file, work, k, out, at, limit, t, b"_a", i),
         _ => at,
     }

@@ -11,7 +11,7 @@ ghost use Rattle.entry.specs.Types.{extTypeOf};
 ghost use Rattle.datatype.specs.Members.{entityName, memberText, membersText, SpellsMembers, SpellsEnum};
 
 // Writes the declaration of an extension type.
-pub fn put_ext_declaration(out: &mut [u8], at: usize, limit: usize, x: ExtType) -> usize
+pub fn declare_ext_type(out: &mut [u8], at: usize, limit: usize, x: ExtType) -> usize
     ensures { λ r.
         ⌜ Appends limit (now (out .entry)) at (now (out .exit)) r (line (declareDatatype (extName (extTypeOf x)) [] (extConstructors (extTypeOf x)))) ⌝ }
 {

@@ -19,7 +19,8 @@ use Rattle.naming.proofs.Names.{kept-refl, kept-trans, index-kept}
 use Rattle.naming.proofs.Sticky.{sticky-then, sticky-nothing}
 use Rattle.progress.specs.Progress.{Holds, Advances}
 use Rattle.progress.specs.declared.Progress.{Progress}
-use Rattle.term_walk.specs.Terms.{termReady, termWalk}
+use Rattle.term_step.specs.Steps.{termReady}
+use Rattle.term_walk.specs.Terms.{termWalk}
 use Rattle.encoder.specs.Inputs.{inputsReady, inputsWalk}
 
 -- ---- inputs one after the other

@@ -122,7 +122,7 @@ fn find_text(body: &[u8], from: usize, count: u32, skip: usize, name: &[u8]) -> 
 }
 
 // Where an attribute stands in the type with number t.
-pub fn find_attribute(file: &[u8], work: &[u32], k: usize, t: u32, name: &[u8]) -> Attribute
+pub fn index_of_attr(file: &[u8], work: &[u32], k: usize, t: u32, name: &[u8]) -> Attribute
     ensures { λ r. ⌜ FindsAttribute (now (file .entry)) (now (work .entry)) k t (now (name .entry)) r ⌝ }
 {
     let offset = index::get(work, k, index::TYPE_OFFSET, entry::wide(t));

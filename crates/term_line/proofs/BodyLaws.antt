@@ -1,10 +1,10 @@
 -- The body of a term from its entry: by cases on the entry, over its children as they are spelled where they are used.
 -- Assumes nothing.
 use mathlib.Core.Path.{_≡_, refl, sym, ap, _∙_, subst}
-use mathlib.Core.Bool.{true}
+use mathlib.Core.Bool.{true, false}
 use mathlib.Core.List.{List, [], _∷_, _++_, map}
 use mathlib.Core.Option.{none}
-use Prim.Native.Nat.{ℕ}
+use Prim.Native.Nat.{ℕ, _<_}
 use native.Mathlib.Omega.{arith}
 use lib.ListN.{length, take, drop}
 use package.types.Run.{OneOf, miss}
@@ -12,6 +12,7 @@ use denote.Enum.Declared.{tagOf}
 use Rattle.script_spec.specs.Base.{Bytes, bytes, isSome, joined}
 use Rattle.script_spec.specs.Utf8.{isUtf8}
 use Rattle.script_spec.specs.Tree.{Ty, Tm, TermMark, Enums, Forest, Mark, node, nil, forest, children, Entity, Set, Record, enumOf, typeOf, typeFrom}
+use Rattle.script_spec.specs.File as files
 use Rattle.script_spec.specs.File.{TermFile, terms, typeAt, termAt, namedMark, members}
 use Rattle.script_spec.specs.Text.{literal}
 use Rattle.script_spec.specs.Command.{headed, spaced}
@@ -28,10 +29,11 @@ use Rattle.operator.specs.declared.Op.{Op}
 use Rattle.index.specs.Cells.{cell, termOffset}
 use Rattle.index.specs.First.{All, Below, MarkInRange}
 use Rattle.index.specs.Standing as standing
-use Rattle.index.specs.Meaning.{counted}
+use Rattle.index.specs.Meaning.{Index, counted}
+use Rattle.naming.specs.Naming.{Numbers}
 use Rattle.index.proofs.Rules.{trees-forest}
 use Rattle.spell.specs.Sorts.{SpellsSort}
-use Rattle.term_entry.specs.Terms.{valueOf, termSaid, TermAt}
+use Rattle.term_entry.specs.Terms.{valueOf, childrenIn, termSaid, TermAt}
 use Rattle.term_entry.specs.declared.Children.{Children}
 use Rattle.term_entry.specs.declared.Value.{Value}
 use Rattle.term_entry.specs.declared.TermEntry.{TermEntry}
@@ -50,7 +52,7 @@ use Rattle.term_value.specs.Values.{sortAt, SpellsConstant, SpellsSome, SpellsS
 use Rattle.application.specs.Applications.{SpellsApplication}
 use Rattle.application.proofs.ApplicationLaws.{below-more}
 use Rattle.application.proofs.PatternLaws.{pattern-here}
-use Rattle.term_line.specs.Lines.{SpellsConstructed, SpellsEntityBody, SpellsBody}
+use Rattle.term_line.specs.Lines.{isCollection, fullSpelling, SpellsConstructed, SpellsEntityBody, SpellsBody}
 
 -- ---- entities
 
@@ -126,76 +128,69 @@ record-is : {f : TermFile} {n : ℕ} {ns : List Bytes} {rs : List ℕ} → TermI
 unfolding namedMark body spelling.bodyAt
 record-is {f} {rs = rs} T S = ap (λ (ty : Bytes). recordValue ty (atoms f S rs)) (sort-is T S) ∙ body-is T S
 
--- the terms that are written the same way everywhere, by their places among the entries
+module _ {file : Bytes} {work : List ℕ} {k many n limit at q : ℕ} {s x y : Bytes} {c : Children} where
+  pub spells-set : SpellsSet file work k many n s c limit x at y q → {t : ℕ} (f : TermFile) (S : State) → Index file f work k → Numbers f work k S → many ≡ length (files.enums f) → n < length (terms f)
+      → TermIs f n (Set t) (childrenIn s c) → Appends limit x at y q (fullSpelling f S n)
+  spells-set P f S I N m l is = says (set-is is S) (P .go f S I N m l (below-more n (length (terms f)) (omega arith) _ (is .below)))
+
+  pub spells-record : SpellsRecord file work k many n s c limit x at y q → {ns : List Bytes} (f : TermFile) (S : State) → Index file f work k → Numbers f work k S → many ≡ length (files.enums f) → n < length (terms f)
+      → TermIs f n (Record ns) (childrenIn s c) → Appends limit x at y q (fullSpelling f S n)
+  spells-record P f S I N m l is = says (record-is is S) (P .go f S I N m l (below-more n (length (terms f)) (omega arith) _ (is .below)))
+
+-- the terms that are written the same way everywhere, and sets and records, by their places among the entries
 abbrev same : List ℕ
-same = 0 ∷ 1 ∷ 2 ∷ 3 ∷ 11 ∷ []
+same = 0 ∷ 1 ∷ 2 ∷ 3 ∷ 8 ∷ 9 ∷ 11 ∷ []
 
 same-body : (e : Enums) (ν : Names) (f : TermFile) (n : ℕ) (s : Bytes) (args : List Bytes) (r : TermEntry) → OneOf same (tagOf the-type r) → EntryIs f n (termSaid s r)
-    → atom e ν (termAt f n) ≡ body e ν (termAt f n) args
-unfolding termSaid namedMark forest atom inlined body spelling.bodyAt
-same-body e ν f n s args (entry.Var p t) h i = subst (λ (t : Tm). atom e ν t ≡ body e ν t args) (i .tree) refl
-same-body e ν f n s args (entry.BoolLit b) h i = subst (λ (t : Tm). atom e ν t ≡ body e ν t args) (i .tree) refl
-same-body e ν f n s args (entry.BitVecLit w v) h i = subst (λ (t : Tm). atom e ν t ≡ body e ν t args) (i .tree) refl
-same-body e ν f n s args (entry.StringLit p) h i = subst (λ (t : Tm). atom e ν t ≡ body e ν t args) (i .tree) refl
-same-body e ν f n s args (entry.Entity t p) h i = absurd (miss same 4 tt h)
-same-body e ν f n s args (entry.ExtLit v) h i = absurd (miss same 5 tt h)
-same-body e ν f n s args (entry.None t) h i = absurd (miss same 6 tt h)
-same-body e ν f n s args (entry.Some m) h i = absurd (miss same 7 tt h)
-same-body e ν f n s args (entry.Set t c) h i = absurd (miss same 8 tt h)
-same-body e ν f n s args (entry.Record c) h i = absurd (miss same 9 tt h)
-same-body e ν f n s args (entry.App t o c) h i = absurd (miss same 10 tt h)
-same-body e ν f n s args entry.Unreadable h i = absurd i
+    → isCollection (termAt f n) ≡ false → atom e ν (termAt f n) ≡ body e ν (termAt f n) args
+unfolding termSaid namedMark forest atom inlined body spelling.bodyAt isCollection
+same-body e ν f n s args (entry.Var p t) h i plain = subst (λ (t : Tm). atom e ν t ≡ body e ν t args) (i .tree) refl
+same-body e ν f n s args (entry.BoolLit b) h i plain = subst (λ (t : Tm). atom e ν t ≡ body e ν t args) (i .tree) refl
+same-body e ν f n s args (entry.BitVecLit w v) h i plain = subst (λ (t : Tm). atom e ν t ≡ body e ν t args) (i .tree) refl
+same-body e ν f n s args (entry.StringLit p) h i plain = subst (λ (t : Tm). atom e ν t ≡ body e ν t args) (i .tree) refl
+same-body e ν f n s args (entry.Entity t p) h i plain = absurd (miss same 4 tt h)
+same-body e ν f n s args (entry.ExtLit v) h i plain = absurd (miss same 5 tt h)
+same-body e ν f n s args (entry.None t) h i plain = absurd (miss same 6 tt h)
+same-body e ν f n s args (entry.Some m) h i plain = absurd (miss same 7 tt h)
+same-body e ν f n s args (entry.Set t c) h i plain = let g : true ≡ false = ap isCollection (i .tree) ∙ plain in let z : _≡_ {A = ℕ} 0 1 = cc in absurd (omega arith)
+same-body e ν f n s args (entry.Record c) h i plain = let g : true ≡ false = ap isCollection (i .tree) ∙ plain in let z : _≡_ {A = ℕ} 0 1 = cc in absurd (omega arith)
+same-body e ν f n s args (entry.App t o c) h i plain = absurd (miss same 10 tt h)
+same-body e ν f n s args entry.Unreadable h i plain = absurd i
 
 module _ {file : Bytes} {work : List ℕ} {k many n limit at q : ℕ} {x y : Bytes} {r : TermEntry} (T : TermAt file (cell work k termOffset n) r) where
   pub body-atom : OneOf same (tagOf the-type r) → SpellsAtom file work k many n limit x at y q → SpellsBody file work k many n limit x at y q
-  body-atom h A = record { go = λ f S I N m l. says (same-body (members f) (names S) f n _ _ r h (term-here T f I l)) (A .go f S I N m l) }
+  body-atom h A = record { go = λ f S I N m l plain. says (same-body (members f) (names S) f n _ _ r h (term-here T f I l) plain) (A .go f S I N m l) }
 
   pub body-value : {v : Value} → r ≡ entry.ExtLit v → Appends limit x at y q (extValue (valueOf v)) → SpellsBody file work k many n limit x at y q
   unfolding termSaid namedMark body spelling.bodyAt
-  body-value e A = record { go = λ f S I N m l. says (body-is (entry-is T (ap (termSaid _) e) f I l) S) A }
+  body-value e A = record { go = λ f S I N m l plain. says (body-is (entry-is T (ap (termSaid _) e) f I l) S) A }
 
   pub body-none : {t : ℕ} → r ≡ entry.None t → SpellsConstant file work k n (bytes "none") limit x at y q → SpellsBody file work k many n limit x at y q
   unfolding termSaid namedMark body spelling.bodyAt
   body-none e P = record {
-    go = λ f S I N m l. let is = entry-is T (ap (termSaid _) e) f I l in says (ap (asSort (bytes "none")) (sort-is is S) ∙ body-is is S) (P .go f S I N l);
+    go = λ f S I N m l plain. let is = entry-is T (ap (termSaid _) e) f I l in says (ap (asSort (bytes "none")) (sort-is is S) ∙ body-is is S) (P .go f S I N l);
   }
 
   pub body-some : {i : ℕ} → r ≡ entry.Some i → SpellsSome file work k many i limit x at y q → SpellsBody file work k many n limit x at y q
   unfolding termSaid namedMark body spelling.bodyAt atoms Below All
   body-some {i} e P = record {
-    go = λ f S I N m l. let is = entry-is T (ap (termSaid _) e) f I l in says (body-is is S) (P .go f S I N m (omega (arith, is .below .0)));
+    go = λ f S I N m l plain. let is = entry-is T (ap (termSaid _) e) f I l in says (body-is is S) (P .go f S I N m (omega (arith, is .below .0)));
   }
 
   pub body-entity : {t : ℕ} {p : Span} {s id : Bytes} → r ≡ entry.Entity t p → s ≡ standing.bodyAt file (cell work k termOffset n) → id ≡ take (p .len) (drop (p .start) s)
       → SpellsEntityBody file work k many n t id limit x at y q → SpellsBody file work k many n limit x at y q
   unfolding termSaid namedMark forest MarkInRange counted spanned TermSound
   body-entity {p = p} e b i P = record {
-    go = λ f S I N m l.
+    go = λ f S I N m l plain.
         let is = entry-is T (ap (termSaid _) e) f I l in
         P .go f S I N m l (is .in-range) nil ((rw (i, b)) ∙ is .tree) ((rw (i, b)) ∙ is .sound) _;
   }
 
   module _ {s : Bytes} (b : s ≡ standing.bodyAt file (cell work k termOffset n)) where
-    pub body-set : {t : ℕ} {c : Children} → r ≡ entry.Set t c → SpellsSet file work k many n s c limit x at y q → SpellsBody file work k many n limit x at y q
-    unfolding termSaid namedMark body spelling.bodyAt
-    body-set {c = c} e P = record {
-      go = λ f S I N m l.
-          let is = entry-is T (ap (termSaid _) e) f I l in
-          says (set-is is S) (subst (λ (u : Bytes). SpellsSet file work k many n u c limit x at y q) b P .go f S I N m l (below-more n (length (terms f)) (omega arith) _ (is .below)));
-    }
-
-    pub body-record : {c : Children} → r ≡ entry.Record c → SpellsRecord file work k many n s c limit x at y q → SpellsBody file work k many n limit x at y q
-    unfolding termSaid namedMark body spelling.bodyAt
-    body-record {c = c} e P = record {
-      go = λ f S I N m l.
-          let is = entry-is T (ap (termSaid _) e) f I l in
-          says (record-is is S) (subst (λ (u : Bytes). SpellsRecord file work k many n u c limit x at y q) b P .go f S I N m l (below-more n (length (terms f)) (omega arith) _ (is .below)));
-    }
-
     pub body-application : {t : ℕ} {o : Op} {c : Children} → r ≡ entry.App t o c → SpellsApplication file work k many n s o c limit x at y q → SpellsBody file work k many n limit x at y q
     unfolding termSaid
     body-application {t} {o} {c} e P = record {
-      go = λ f S I N m l.
+      go = λ f S I N m l plain.
           let said = ap (termSaid (standing.bodyAt file (cell work k termOffset n))) e in
           let is = entry-is T said f I l in
           says (ap (body (members f) (names S) (termAt f n)) (args-are is S)) (subst (λ (u : Bytes). SpellsApplication file work k many n u o c limit x at y q) b P .go f S I N m l t is (pattern-here T said f I l));

@@ -33,14 +33,15 @@ use Rattle.term_parts.proofs.Rows.{EntryIs, term-here, entry-is}
 use Rattle.term_parts.proofs.Numbered.{name-is}
 use Rattle.atom.specs.Atoms.{SpellsAtom}
 use Rattle.term_value.specs.Values.{sortAt, SpellsTermSort}
-use Rattle.term_line.specs.Lines.{SpellsBody, SpellsDefinition, SpellsAssertion, SpellsNamed, SpellsVariable}
+use Rattle.term_line.specs.Lines.{definitionHead, SpellsHead, SpellsAssertion, SpellsNamed, SpellsVariable}
 use Rattle.term_line.proofs.DebugLaws.{debug-line}
 
 never : {A : Type 0} → _≡_ {A = ℕ} 0 1 → A
 never h = absurd (omega arith)
 
-definition-pieces : (n t b : Bytes) → bytes "(define-fun " ++ (n ++ (bytes " () " ++ (t ++ (bytes " " ++ (b ++ bytes ")\n"))))) ≡ line (defineFun n [] t b)
-unfolding line spelled headed listed spaced joined bytes
+-- the head of a definition, its body and its end
+pub definition-pieces : (n t b : Bytes) → definitionHead n t ++ (b ++ bytes ")\n") ≡ line (defineFun n [] t b)
+unfolding definitionHead line spelled headed listed spaced joined bytes
 definition-pieces n t b = simp append-assoc
 
 assertion-pieces : (s : Bytes) → bytes "(assert " ++ (s ++ bytes ")\n") ≡ line (assertThat s)
@@ -63,13 +64,10 @@ variable-pieces d n t e =
     comment-first d _ e ∙ ap (λ (r : Bytes). line (comment d) ++ r) (const-pieces n t ∙ sym (append-nil (line (declareConst n t))))
 
 module _ {file : Bytes} {work : List ℕ} {k n limit at : ℕ} {x : Bytes} where
-  pub spells-definition : {many p₁ p₂ p₃ p₄ p₅ p₆ r : ℕ} {x₁ x₂ x₃ x₄ x₅ x₆ y : Bytes} → Appends limit x at x₁ p₁ (bytes "(define-fun ") → Appends limit x₁ p₁ x₂ p₂ (nameOf work k n)
-      → Appends limit x₂ p₂ x₃ p₃ (bytes " () ") → SpellsTermSort file work k n limit x₃ p₃ x₄ p₄ → Appends limit x₄ p₄ x₅ p₅ (bytes " ") → SpellsBody file work k many n limit x₅ p₅ x₆ p₆
-      → Appends limit x₆ p₆ y r (bytes ")\n") → SpellsDefinition file work k many n limit x at y r
-  unfolding sortAt
-  spells-definition A M B P C Q D = record {
-    go = λ f S I N m l. says (definition-pieces _ _ _) (A then says (name-is I N l) M then B then P .go f S I N l then C then Q .go f S I N m l then D);
-  }
+  pub spells-head : {p₁ p₂ p₃ p₄ r : ℕ} {x₁ x₂ x₃ x₄ y : Bytes} → Appends limit x at x₁ p₁ (bytes "(define-fun ") → Appends limit x₁ p₁ x₂ p₂ (nameOf work k n)
+      → Appends limit x₂ p₂ x₃ p₃ (bytes " () ") → SpellsTermSort file work k n limit x₃ p₃ x₄ p₄ → Appends limit x₄ p₄ y r (bytes " ") → SpellsHead file work k n limit x at y r
+  unfolding sortAt definitionHead
+  spells-head A M B P C = record { go = λ f S I N l. A then says (name-is I N l) M then B then P .go f S I N l then C }
 
   pub spells-assertion : {many p q r : ℕ} {y z w : Bytes} → Appends limit x at y p (bytes "(assert ") → SpellsAtom file work k many n limit y p z q → Appends limit z q w r (bytes ")\n")
       → SpellsAssertion file work k many n limit x at w r

@@ -1,16 +1,17 @@
--- What writing the body of a term, its declaration, its definition and its assertion promises.
+-- What writing the body of a term, its declaration, the head of its definition and its assertion promises.
 -- Assumes nothing.
 use Prim.Native.Nat.{ℕ, _<_}
 use mathlib.Core.Path.{_≡_}
-use mathlib.Core.Bool.{true}
-use mathlib.Core.List.{List, [], _∷_, map}
+use mathlib.Core.Bool.{Bool, true, false}
+use mathlib.Core.List.{List, [], _∷_, _++_, map}
 use lib.ListN.{length}
-use Rattle.script_spec.specs.Base.{Bytes}
+use Rattle.script_spec.specs.Base.{Bytes, bytes}
 use Rattle.script_spec.specs.Utf8.{isUtf8}
-use Rattle.script_spec.specs.Tree.{Ty, Forest, Mark, node, children, typeOf, Var, Entity}
+use Rattle.script_spec.specs.Tree.{Tm, Ty, Forest, Mark, node, children, typeOf}
+use Rattle.script_spec.specs.Tree.{Var, BoolLit, BitVecLit, StringLit, Entity, ExtLit, None, Some, Set, Record, App}
 use Rattle.script_spec.specs.File.{TermFile, types, terms, enums, typeAt, termAt, members}
 use Rattle.script_spec.specs.Text.{literal, debug}
-use Rattle.script_spec.specs.Command.{headed, line, script, comment, declareConst, defineFun, assertThat}
+use Rattle.script_spec.specs.Command.{headed, line, script, comment, declareConst, assertThat}
 use Rattle.script_spec.specs.Spelling.{sort, atom, body}
 use Rattle.script_spec.specs.Walk.{State, names}
 use Rattle.writer.specs.Writing.{Appends}
@@ -19,6 +20,28 @@ use Rattle.index.specs.Meaning.{Index}
 use Rattle.naming.specs.Naming.{Numbers}
 
 -- ---- bodies
+
+-- a set or a record
+unfoldable pub isCollection : Tm → Bool
+isCollection (node (Var id ty) ts) = false
+isCollection (node (BoolLit b) ts) = false
+isCollection (node (BitVecLit n v) ts) = false
+isCollection (node (StringLit s) ts) = false
+isCollection (node (Entity ty id) ts) = false
+isCollection (node (ExtLit v) ts) = false
+isCollection (node (None ty) ts) = false
+isCollection (node Some ts) = false
+isCollection (node (Set ty) ts) = true
+isCollection (node (Record ns) ts) = true
+isCollection (node (App ty op) ts) = false
+
+-- a term in full, over its children as they are spelled where they are used
+abbrev pub fullSpelling : TermFile → State → ℕ → Bytes
+fullSpelling f S n = body (members f) (names S) (termAt f n) (map (atom (members f) (names S)) (children (termAt f n)))
+
+-- the definition of a term as far as its body
+unfoldable pub definitionHead : Bytes → Bytes → Bytes
+definitionHead name sort = bytes "(define-fun " ++ (name ++ (bytes " () " ++ (sort ++ bytes " ")))
 
 -- an entity of the type with number t, which is no enum, is written by its id, whatever file was accepted and whatever names were given
 pub record SpellsConstructed (file : Bytes) (work : List ℕ) (k t : ℕ) (id : Bytes) (limit : ℕ) (x : Bytes) (at : ℕ) (y : Bytes) (r : ℕ) : Type 0 where
@@ -32,18 +55,12 @@ module _ (file : Bytes) (work : List ℕ) (k many n : ℕ) where
         → (ts : Forest Mark) → node (Entity (typeAt f t) id) ts ≡ termAt f n → isUtf8 id ≡ true → (args : List Bytes) → Appends limit x at y r (body (members f) (names S) (termAt f n) args)
 
   module _ (limit : ℕ) (x : Bytes) (at : ℕ) (y : Bytes) (r : ℕ) where
-    -- the term with number n is written in full, over its children as they are spelled where they are used
+    -- the term with number n, no set and no record, is written in full
     pub record SpellsBody : Type 0 where
-      pub go : (f : TermFile) (S : State) → Index file f work k → Numbers f work k S → many ≡ length (enums f) → n < length (terms f)
-          → Appends limit x at y r (body (members f) (names S) (termAt f n) (map (atom (members f) (names S)) (children (termAt f n))))
+      pub go : (f : TermFile) (S : State) → Index file f work k → Numbers f work k S → many ≡ length (enums f) → n < length (terms f) → isCollection (termAt f n) ≡ false
+          → Appends limit x at y r (fullSpelling f S n)
 
     -- ---- lines
-
-    -- the definition of the term with number n is written
-    pub record SpellsDefinition : Type 0 where
-      pub go : (f : TermFile) (S : State) → Index file f work k → Numbers f work k S → many ≡ length (enums f) → n < length (terms f)
-          → Appends limit x at y r
-          (line (defineFun (names S .term (termAt f n)) [] (sort (names S) (typeOf (termAt f n))) (body (members f) (names S) (termAt f n) (map (atom (members f) (names S)) (children (termAt f n))))))
 
     -- its assertion is written
     pub record SpellsAssertion : Type 0 where
@@ -51,6 +68,11 @@ module _ (file : Bytes) (work : List ℕ) (k many n : ℕ) where
           → Appends limit x at y r (line (assertThat (atom (members f) (names S) (termAt f n))))
 
 module _ (file : Bytes) (work : List ℕ) (k n : ℕ) where
+  -- the definition of the term with number n is written as far as its body
+  pub record SpellsHead (limit : ℕ) (x : Bytes) (at : ℕ) (y : Bytes) (r : ℕ) : Type 0 where
+    pub go : (f : TermFile) (S : State) → Index file f work k → Numbers f work k S → n < length (terms f)
+        → Appends limit x at y r (definitionHead (names S .term (termAt f n)) (sort (names S) (typeOf (termAt f n))))
+
   -- the declaration of the term with number n, a variable with this id, is written
   pub record SpellsNamed (id : Bytes) (limit : ℕ) (x : Bytes) (at : ℕ) (y : Bytes) (r : ℕ) : Type 0 where
     pub go : (f : TermFile) (S : State) → Index file f work k → Numbers f work k S → n < length (terms f) → isUtf8 id ≡ true

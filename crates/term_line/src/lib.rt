@@ -2,7 +2,9 @@
 use query::Member;
 use term_entry::TermEntry;
 use term_value::values;
-ghost use Rattle.term_line.specs.Lines.{SpellsConstructed, SpellsEntityBody, SpellsBody, SpellsDefinition, SpellsNamed, SpellsVariable, SpellsAssertion};
+ghost use Rattle.script_spec.specs.Base.{bytes};
+ghost use Rattle.writer.specs.Writing.{Appends};
+ghost use Rattle.term_line.specs.Lines.{SpellsConstructed, SpellsEntityBody, SpellsBody, SpellsHead, SpellsNamed, SpellsVariable, SpellsAssertion};
 
 // Writes an entity of the type with number t, which is no enum, by its id.
 fn put_constructed(
@@ -47,8 +49,8 @@ fn put_entity(
     }
 }
 
-// Writes the term with number n in full.
-fn put_body(
+// Writes the term with number n in full, if that is no set and no record.
+pub fn put_body(
     file: &[u8],
     work: &[u32],
     k: usize,
@@ -71,8 +73,6 @@ fn put_body(
         TermEntry::ExtLit(v) => ext_value::put_ext_value(out, at, limit, v),
         TermEntry::None(_) => values::put_constant(file, work, k, out, at, limit, n, b"none"),
         TermEntry::Some(m) => values::put_some(file, work, k, many, out, at, limit, m),
-        TermEntry::Set(_, c) => values::put_set(file, work, k, many, out, at, limit, n, body, c),
-        TermEntry::Record(c) => values::put_record(file, work, k, many, out, at, limit, n, body, c),
         TermEntry::App(_, op, c) => {
             application::put_application(file, work, k, many, out, at, limit, n, body, op, c)
         }
@@ -80,27 +80,31 @@ fn put_body(
     }
 }
 
-// Writes the definition of the term with number n.
-pub fn put_definition(
+// Writes the definition of the term with number n as far as its body.
+pub fn put_head(
     file: &[u8],
     work: &[u32],
     k: usize,
-    many: u32,
     out: &mut [u8],
     at: usize,
     limit: usize,
     n: u32,
 ) -> usize
     ensures { λ r.
-        ⌜ SpellsDefinition (now (file .entry)) (now (work .entry)) k many n limit (now (out .entry)) at (now (out .exit)) r ⌝ }
+        ⌜ SpellsHead (now (file .entry)) (now (work .entry)) k n limit (now (out .entry)) at (now (out .exit)) r ⌝ }
 {
     let a = writer::put_at(out, at, limit, b"(define-fun ");
     let b = term_parts::put_term_name(work, k, out, a, limit, n);
     let c = writer::put_at(out, b, limit, b" () ");
     let d = values::put_term_sort(file, work, k, out, c, limit, n);
-    let e = writer::put_byte(out, d, limit, b' ');
-    let f = put_body(file, work, k, many, out, e, limit, n);
-    writer::put_at(out, f, limit, b")\n")
+    writer::put_byte(out, d, limit, b' ')
+}
+
+// Writes what comes after the body of a definition.
+pub fn put_end(out: &mut [u8], at: usize, limit: usize) -> usize
+    ensures { λ r. ⌜ Appends limit (now (out .entry)) at (now (out .exit)) r (bytes ")\n") ⌝ }
+{
+    writer::put_at(out, at, limit, b")\n")
 }
 
 // Writes the declaration of the term with number n, a variable, after its id in a comment.

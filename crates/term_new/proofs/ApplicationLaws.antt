@@ -1,4 +1,4 @@
--- Applications: defined after what their operators ask for, and what becomes of a `Bvnego`.
+-- Applications: what becomes of a `Bvnego`.
 -- Assumes nothing.
 use Prim.Native.Nat.{ℕ}
 use mathlib.Core.Path.{_≡_, sym, ap, _∙_}
@@ -8,27 +8,14 @@ use Rattle.script_spec.specs.Tree as tree
 use Rattle.script_spec.specs.Tree.{Negation, negation}
 use Rattle.script_spec.specs.File.{TermFile, members, termAt, namedOp}
 use Rattle.script_spec.specs.Walk.{State, defineApp}
-use Rattle.script_spec.proofs.EnteredTerms.{operator-new}
-use Rattle.operator.specs.declared.Op.{Op}
 use Rattle.query.specs.Negations.{negationSaid, NegationOf}
 use Rattle.query.specs.declared.Negated.{Negated}
 use Rattle.query.specs.declared.Negated.the-variants as negated
 use Rattle.progress.specs.Progress.{Advances}
 use Rattle.progress.specs.declared.Progress.{Progress}
-use Rattle.progress.proofs.Advancing.{advances-then}
 use Rattle.progress.proofs.Running.{advances-by}
-use Rattle.term_step.specs.Steps.{NewAt, OperatorAt, enterWalk, operatorWalk, Enters}
-use Rattle.term_new.specs.News.{defineWalk, ordinaryWalk, appWalk}
-use Rattle.term_new.proofs.EntityLaws.{new-after}
-
-module _ {file : Bytes} {k many limit n : ℕ} (o : tree.Op ℕ) {work work′ : List ℕ} {out out′ : Bytes} {p q : Progress} where
-  -- an application is defined after what its operator asks for
-  pub ordinary-then : {work₁ : List ℕ} {out₁ : Bytes} {p₁ : Progress} → Advances file k many limit (OperatorAt n o) (operatorWalk n o) work out p work₁ out₁ p₁
-      → Advances file k many limit (NewAt n) (defineWalk n) work₁ out₁ p₁ work′ out′ q → Advances file k many limit (OperatorAt n o) (ordinaryWalk n o) work out p work′ out′ q
-  unfolding ordinaryWalk operatorWalk
-  ordinary-then A D =
-      advances-then (operatorWalk n o) (defineWalk n) A D
-      (λ f x s. new-after n f x (operatorWalk n o f) (s .at) (λ S new. operator-new (members f) (termAt f n) (termAt f n) (namedOp f o) S new))
+use Rattle.term_step.specs.Steps.{enterWalk, Enters}
+use Rattle.term_new.specs.News.{DefinedAt, OperatorAt, defineWalk, operatorWalk, ordinaryWalk, appWalk}
 
 -- what becomes of the term is what was answered
 app-by : (n : ℕ) (o : tree.Op ℕ) (f : TermFile) (S : State) (r y : Negated) → r ≡ y → negationSaid r ≡ negation (termAt f n)
@@ -39,14 +26,14 @@ app-by n o f S r y e h = ap (λ (g : Negation). defineApp (members f) (termAt f 
 module _ {file : Bytes} {k many limit n : ℕ} (o : tree.Op ℕ) {work work′ : List ℕ} {out : Bytes} {p q : Progress} {r : Negated} (N : NegationOf file work k n r) where
   pub app-false : r ≡ negated.Falsehood → Enters k n work p work′ q → Advances file k many limit (OperatorAt n o) (appWalk n o) work out p work′ out q
   unfolding enterWalk defineApp negationSaid
-  app-false e E = advances-by (λ f x I m s. (s .at, λ S. app-by n o f S r negated.Falsehood e (N .go f I (s .at .below)))) (E .go file out many limit)
+  app-false e E = advances-by (λ f x I m s. (s .at .at, λ S. app-by n o f S r negated.Falsehood e (N .go f I (s .at .at .below)))) (E .go file out many limit)
 
-  pub app-comparison : {w : ℕ} {out′ : Bytes} → r ≡ negated.Comparison w → Advances file k many limit (NewAt n) (defineWalk n) work out p work′ out′ q
+  pub app-comparison : {w : ℕ} {out′ : Bytes} → r ≡ negated.Comparison w → Advances file k many limit (DefinedAt n) (defineWalk n) work out p work′ out′ q
       → Advances file k many limit (OperatorAt n o) (appWalk n o) work out p work′ out′ q
   unfolding defineWalk defineApp negationSaid
-  app-comparison {w} e A = advances-by (λ f x I m s. (s .at, λ S. app-by n o f S r (negated.Comparison w) e (N .go f I (s .at .below)))) A
+  app-comparison {w} e A = advances-by (λ f x I m s. (s .at, λ S. app-by n o f S r (negated.Comparison w) e (N .go f I (s .at .at .below)))) A
 
   pub app-ordinary : {out′ : Bytes} → r ≡ negated.Ordinary → Advances file k many limit (OperatorAt n o) (ordinaryWalk n o) work out p work′ out′ q
       → Advances file k many limit (OperatorAt n o) (appWalk n o) work out p work′ out′ q
   unfolding defineWalk operatorWalk ordinaryWalk defineApp negationSaid
-  app-ordinary e A = advances-by (λ f x I m s. (s, λ S. app-by n o f S r negated.Ordinary e (N .go f I (s .at .below)))) A
+  app-ordinary e A = advances-by (λ f x I m s. (s, λ S. app-by n o f S r negated.Ordinary e (N .go f I (s .at .at .below)))) A

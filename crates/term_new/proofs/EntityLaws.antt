@@ -23,8 +23,8 @@ use Rattle.progress.proofs.Running.{refusedAt, advances-by, advances-stopped}
 use Rattle.query.specs.Searches.{Placed, MemberSaid, FindsMember}
 use Rattle.query.specs.declared.Member.{Member}
 use Rattle.query.specs.declared.Member.the-variants as member
-use Rattle.term_step.specs.Steps.{NewAt, enterWalk, textWalk, Enters, TestsText}
-use Rattle.term_new.specs.News.{StringAt, EntityAt, defineWalk, stringWalk, entityWalk}
+use Rattle.term_step.specs.Steps.{enterWalk, textWalk, Enters, TestsText}
+use Rattle.term_new.specs.News.{DefinedAt, StringAt, EntityAt, defineWalk, stringWalk, entityWalk}
 
 -- ---- steps that leave a term new
 
@@ -32,10 +32,10 @@ stopped-ne-went : {n : ℕ} {t : Tm} {s : State} → stopped n t ≡ went s → 
 stopped-ne-went e = let z : _≡_ {A = ℕ} 0 1 = cc in omega arith
 
 -- a step that leaves it new leaves it new after whatever came before
-pub new-after : (n : ℕ) (f : TermFile) (x : Step) (w : Walk) → NewAt n f x → ((S : State) → New (termAt f n) S → Ends (New (termAt f n)) (λ m u. Unit {0}) (w S)) → NewAt n f (sticky w x)
+pub new-after : (n : ℕ) (f : TermFile) (x : Step) (w : Walk) → DefinedAt n f x → ((S : State) → New (termAt f n) S → Ends (New (termAt f n)) (λ m u. Unit {0}) (w S)) → DefinedAt n f (sticky w x)
 unfolding sticky
-new-after n f (went S) w r h = record { below = r .below; new = λ S′ e. ends-went (h S (r .new S refl)) e }
-new-after n f (stopped c t) w r h = record { below = r .below; new = λ S′ e. absurd (stopped-ne-went e) }
+new-after n f (went S) w r h = record { at = record { below = r .at .below; new = λ S′ e. ends-went (h S (r .at .new S refl)) e }; plain = r .plain }
+new-after n f (stopped c t) w r h = record { at = record { below = r .at .below; new = λ S′ e. absurd (stopped-ne-went e) }; plain = r .plain }
 
 -- ---- entities
 
@@ -51,12 +51,12 @@ module _ (e : Enums) (t : Tm) (id : Bytes) (o : Option (List Bytes)) (ms : List 
 
 module _ {file : Bytes} {k many limit n : ℕ} (id : Bytes) {work work′ : List ℕ} {out out′ : Bytes} {p q r : Progress} where
   -- an entity whose type is no enum: the text, then the definition
-  pub string-entity : TestsText n id p r → Advances file k many limit (NewAt n) (defineWalk n) work out r work′ out′ q
+  pub string-entity : TestsText n id p r → Advances file k many limit (DefinedAt n) (defineWalk n) work out r work′ out′ q
       → Advances file k many limit (StringAt n id) (stringWalk n id) work out p work′ out′ q
   unfolding stringWalk textWalk
   string-entity T D =
       advances-then (textWalk n id) (defineWalk n)
-      (advances-by (λ f x I m s. (record { below = s .at .below; utf8 = s .utf8 }, λ S. refl)) (T .go file k work .go out many limit)) D
+      (advances-by (λ f x I m s. (record { below = s .at .at .below; utf8 = s .utf8 }, λ S. refl)) (T .go file k work .go out many limit)) D
       (λ f x s. new-after n f x (textWalk n id f) (s .at) (λ S new. ends-ensure 15 (termAt f n) (lowEnough (codePoints id)) S new tt))
 
 module _ {file : Bytes} {k many limit n t : ℕ} (id : Bytes) {work : List ℕ} {out : Bytes} {p q : Progress} {r : Member} (F : FindsMember file work k many t id r) where
@@ -73,11 +73,11 @@ module _ {file : Bytes} {k many limit n t : ℕ} (id : Bytes) {work : List ℕ} 
   entity-outside e z g =
       advances-stopped 14 n z (omega arith) g (λ f o S I m s W.
       let h : Placed (members f) (typeAt f t) id none = subst (λ (y : Member). MemberSaid y (members f) (typeAt f t) id) e (F .go f I m (s .type-below)) in
-      (s .at .below, not-member (members f) (termAt f n) id _ (h .members) S (h .are) (any-place (same id) (h .members) ∙ ap isSome (h .is))))
+      (s .at .at .below, not-member (members f) (termAt f n) id _ (h .members) S (h .are) (any-place (same id) (h .members) ∙ ap isSome (h .is))))
 
   pub entity-member : {i : ℕ} {work′ : List ℕ} → r ≡ member.At i → Enters k n work p work′ q → Advances file k many limit (EntityAt n t id) (entityWalk n t id) work out p work′ out q
   unfolding entityWalk enterWalk MemberSaid isSome
   entity-member {i} e E =
       advances-by (λ f x I m s.
       let h : Placed (members f) (typeAt f t) id (some i) = subst (λ (y : Member). MemberSaid y (members f) (typeAt f t) id) e (F .go f I m (s .type-below)) in
-      (s .at, λ S. is-member (members f) (termAt f n) id _ (h .members) S (h .are) (any-place (same id) (h .members) ∙ ap isSome (h .is)))) (E .go file out many limit)
+      (s .at .at, λ S. is-member (members f) (termAt f n) id _ (h .members) S (h .are) (any-place (same id) (h .members) ∙ ap isSome (h .is)))) (E .go file out many limit)

@@ -1,4 +1,5 @@
 pub mod Defining
 pub mod EntityLaws
+pub mod OperatorLaws
 pub mod ApplicationLaws
 pub mod TermLaws

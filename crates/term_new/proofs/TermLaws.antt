@@ -2,19 +2,19 @@
 -- Assumes nothing.
 use Prim.Native.Nat.{ℕ, _<_}
 use mathlib.Core.Path.{_≡_, refl, sym, ap, _∙_, subst}
-use mathlib.Core.Bool.{Bool}
+use mathlib.Core.Bool.{Bool, false}
 use mathlib.Core.List.{List, [], _∷_}
 use mathlib.Core.Option.{some, Option·none-ne-some}
 use lib.ListN.{length, take, drop}
 use package.types.Run.{OneOf, miss}
 use denote.Enum.Declared.{tagOf}
-use Rattle.script_spec.specs.Base.{Bytes, firsts}
+use Rattle.script_spec.specs.Base.{Bytes}
 use Rattle.script_spec.specs.Utf8.{codePoints}
 use Rattle.script_spec.specs.Tree as tree
 use Rattle.script_spec.specs.Tree.{Tm, Ty, Forest, Mark, TermMark, node, Enums, enumOf, isVariable, negation}
 use Rattle.script_spec.specs.Fields.{term}
 use Rattle.script_spec.specs.File.{TermFile, types, funs, terms, members, typeAt, termAt, namedMark}
-use Rattle.script_spec.specs.Walk.{State, went, ensure, lowEnough, defineTerm, defineEntity, defineApp, encodeNew}
+use Rattle.script_spec.specs.Walk.{State, Step, went, ensure, lowEnough, defineTerm, defineEntity, defineApp, encodeNew}
 use Rattle.naming.proofs.Sticky.{sticky-nothing}
 use Rattle.index.specs.Cells.{cell, termOffset}
 use Rattle.index.specs.First.{MarkInRange}
@@ -25,10 +25,9 @@ use Rattle.field.specs.Answers.{spanned}
 use Rattle.field.specs.declared.Span.{Span}
 use Rattle.operator.specs.Operators.{opOf}
 use Rattle.operator.specs.declared.Op.{Op}
-use Rattle.entry.specs.Places.{namedItems}
 use Rattle.entry.proofs.Utf8Texts.{Utf8Mark, term-utf8}
 use Rattle.entry.proofs.TermRows.{term-stands}
-use Rattle.term_entry.specs.Terms.{valueOf, termSaid, TermAt}
+use Rattle.term_entry.specs.Terms.{valueOf, childrenIn, termSaid, TermAt}
 use Rattle.term_entry.specs.declared.Children.{Children}
 use Rattle.term_entry.specs.declared.TermEntry.{TermEntry}
 use Rattle.term_entry.specs.declared.TermEntry.the-variants as entry
@@ -37,8 +36,11 @@ use Rattle.progress.specs.Progress.{Advances}
 use Rattle.progress.specs.declared.Progress.{Progress}
 use Rattle.progress.proofs.Advancing.{advances-nothing}
 use Rattle.progress.proofs.Running.{advances-by}
-use Rattle.term_step.specs.Steps.{NewAt, OperatorAt, textWalk, newWalk, TestsText}
-use Rattle.term_new.specs.News.{VariableAt, EntityAt, defineWalk, entityWalk, appWalk}
+use Rattle.term_parts.specs.Records.{TermIs}
+use Rattle.term_parts.proofs.Rows.{entry-is}
+use Rattle.term_line.specs.Lines.{isCollection}
+use Rattle.term_step.specs.Steps.{NewAt, textWalk, newWalk, TestsText}
+use Rattle.term_new.specs.News.{VariableAt, DefinedAt, SetAt, RecordAt, EntityAt, OperatorAt, defineWalk, entityWalk, appWalk}
 
 -- ---- the term of an entry
 
@@ -63,6 +65,12 @@ module _ {file : Bytes} {k n o : ℕ} {work : List ℕ} {r : TermEntry} (i : ℕ
   marked x ss e f I l =
       term-of f I l (λ m rs said known. let same : m ≡ x = cc in subst (Marked f n) same known)
 
+  -- with its children
+  is-term : (x : TermMark ℕ ℕ) (ss : List ℕ) → termSaid (bodyAt file o) r ≡ some (term x ss) → (f : TermFile) → Index file f work k → n < length (terms f) → TermIs f n x ss
+  is-term x ss e f I l =
+      let here : o ≡ cell work k termOffset n = at ∙ ap (cell work k termOffset) same-number in
+      entry-is (subst (λ (j : ℕ). TermAt file j r) here T) (subst (λ (j : ℕ). termSaid (bodyAt file j) r ≡ some (term x ss)) here e) f I l
+
 -- ---- the step of each mark
 
 module _ (e : Enums) (u : Tm) (ts : Forest Mark) (S : State) where
@@ -74,34 +82,47 @@ module _ (e : Enums) (u : Tm) (ts : Forest Mark) (S : State) where
   unfolding encodeNew
   step-string id h = rw h
 
+  step-set : (ty : Ty) → u ≡ node (tree.Set ty) ts → encodeNew e u S ≡ defineTerm e u S
+  unfolding encodeNew
+  step-set ty h = rw h
+
+  step-record : (ns : List Bytes) → u ≡ node (tree.Record ns) ts → encodeNew e u S ≡ defineTerm e u S
+  unfolding encodeNew
+  step-record ns h = rw h
+
   step-app : (ty : Ty) (op : tree.Op tree.Fun) → u ≡ node (tree.App ty op) ts → encodeNew e u S ≡ defineApp e u op (negation u) S
   unfolding encodeNew
   step-app ty op h = rw h
 
--- the places of the entries that are defined whatever they hold
+-- the places of the other entries that are defined whatever they hold
 abbrev others : List ℕ
-others = 5 ∷ 6 ∷ 7 ∷ 8 ∷ 9 ∷ []
+others = 5 ∷ 6 ∷ 7 ∷ []
 
--- the term of such an entry is defined
-defined : (e : Enums) (f : TermFile) (body : Bytes) (u : Tm) (ts : Forest Mark) (S : State) (r : TermEntry) (m : TermMark ℕ ℕ) (rs : List ℕ)
-    → OneOf others (tagOf the-type r) → termSaid body r ≡ some (term m rs) → u ≡ node (namedMark f m) ts → encodeNew e u S ≡ defineTerm e u S
-unfolding termSaid namedMark encodeNew
-defined e f body u ts S (entry.Var p t) m rs h said is = absurd (miss others 0 tt h)
-defined e f body u ts S (entry.BoolLit b) m rs h said is = absurd (miss others 1 tt h)
-defined e f body u ts S (entry.BitVecLit n v) m rs h said is = absurd (miss others 2 tt h)
-defined e f body u ts S (entry.StringLit p) m rs h said is = absurd (miss others 3 tt h)
-defined e f body u ts S (entry.Entity t p) m rs h said is = absurd (miss others 4 tt h)
-defined e f body u ts S (entry.ExtLit v) m rs h said is = let q : m ≡ tree.ExtLit (valueOf v) = cc in let g : u ≡ node (tree.ExtLit (valueOf v)) ts = is ∙ ap (λ (y : TermMark ℕ ℕ). node (namedMark f y) ts) q in rw g
-defined e f body u ts S (entry.None t) m rs h said is = let q : m ≡ tree.None t = cc in let g : u ≡ node (tree.None (typeAt f t)) ts = is ∙ ap (λ (y : TermMark ℕ ℕ). node (namedMark f y) ts) q in rw g
-defined e f body u ts S (entry.Some n) m rs h said is = let q : m ≡ tree.Some = cc in let g : u ≡ node tree.Some ts = is ∙ ap (λ (y : TermMark ℕ ℕ). node (namedMark f y) ts) q in rw g
-defined e f body u ts S (entry.Set t c) m rs h said is = let q : m ≡ tree.Set t = cc in let g : u ≡ node (tree.Set (typeAt f t)) ts = is ∙ ap (λ (y : TermMark ℕ ℕ). node (namedMark f y) ts) q in rw g
-defined e f body u ts S (entry.Record c) m rs h said is =
-    let names : List Bytes = firsts (namedItems (c .left) (drop (c .from) body)) in
-    let q : m ≡ tree.Record (firsts (namedItems (c .left) (drop (c .from) body))) = cc in
-    let g : u ≡ node (tree.Record (firsts (namedItems (c .left) (drop (c .from) body)))) ts = is ∙ ap (λ (y : TermMark ℕ ℕ). node (namedMark f y) ts) q in
-    rw g
-defined e f body u ts S (entry.App t op c) m rs h said is = absurd (miss others 10 tt h)
-defined e f body u ts S entry.Unreadable m rs h said is = absurd (miss others 11 tt h)
+-- the term of such an entry is no set and no record, and is defined
+defined : (e : Enums) (f : TermFile) (body : Bytes) (u : Tm) (ts : Forest Mark) (r : TermEntry) (m : TermMark ℕ ℕ) (rs : List ℕ)
+    → OneOf others (tagOf the-type r) → termSaid body r ≡ some (term m rs) → u ≡ node (namedMark f m) ts → (isCollection u ≡ false) × ((S : State) → encodeNew e u S ≡ defineTerm e u S)
+unfolding termSaid namedMark encodeNew isCollection
+defined e f body u ts (entry.Var p t) m rs h said is = absurd (miss others 0 tt h)
+defined e f body u ts (entry.BoolLit b) m rs h said is = absurd (miss others 1 tt h)
+defined e f body u ts (entry.BitVecLit n v) m rs h said is = absurd (miss others 2 tt h)
+defined e f body u ts (entry.StringLit p) m rs h said is = absurd (miss others 3 tt h)
+defined e f body u ts (entry.Entity t p) m rs h said is = absurd (miss others 4 tt h)
+defined e f body u ts (entry.ExtLit v) m rs h said is = let q : m ≡ tree.ExtLit (valueOf v) = cc in let g : u ≡ node (tree.ExtLit (valueOf v)) ts = is ∙ ap (λ (y : TermMark ℕ ℕ). node (namedMark f y) ts) q in (ap isCollection g, λ S. rw g)
+defined e f body u ts (entry.None t) m rs h said is = let q : m ≡ tree.None t = cc in let g : u ≡ node (tree.None (typeAt f t)) ts = is ∙ ap (λ (y : TermMark ℕ ℕ). node (namedMark f y) ts) q in (ap isCollection g, λ S. rw g)
+defined e f body u ts (entry.Some n) m rs h said is = let q : m ≡ tree.Some = cc in let g : u ≡ node tree.Some ts = is ∙ ap (λ (y : TermMark ℕ ℕ). node (namedMark f y) ts) q in (ap isCollection g, λ S. rw g)
+defined e f body u ts (entry.Set t c) m rs h said is = absurd (miss others 8 tt h)
+defined e f body u ts (entry.Record c) m rs h said is = absurd (miss others 9 tt h)
+defined e f body u ts (entry.App t op c) m rs h said is = absurd (miss others 10 tt h)
+defined e f body u ts entry.Unreadable m rs h said is = absurd (miss others 11 tt h)
+
+-- ---- sets and records
+
+module _ {f : TermFile} {n : ℕ} {x : Step} {s s′ : Bytes} (c : Children) (e : s ≡ s′) (y : NewAt n f x) where
+  set-at : {t : ℕ} → TermIs f n (tree.Set t) (childrenIn s′ c) → SetAt n (childrenIn s c) f x
+  set-at {t} is = record { at = y; element = t; is = rw e is }
+
+  record-at : {ns : List Bytes} → TermIs f n (tree.Record ns) (childrenIn s′ c) → RecordAt n (childrenIn s c) f x
+  record-at {ns} is = record { at = y; names = ns; is = rw e is }
 
 -- ---- the step of each entry
 
@@ -143,20 +164,20 @@ module _ {file : Bytes} {k many limit n o : ℕ} {work : List ℕ} {out : Bytes}
 
   pub new-entity : {s : Span} {t : ℕ} {body id : Bytes} {work′ : List ℕ} {out′ : Bytes} {q : Progress} → r ≡ entry.Entity t s → body ≡ bodyAt file o → id ≡ take (s .len) (drop (s .start) body)
       → Advances file k many limit (EntityAt n t id) (entityWalk n t id) work out p work′ out′ q → Advances file k many limit (NewAt n) (newWalk n) work out p work′ out′ q
-  unfolding termSaid namedMark newWalk entityWalk Utf8Mark MarkInRange counted spanned
+  unfolding termSaid namedMark newWalk entityWalk Utf8Mark MarkInRange counted spanned isCollection
   new-entity {s} {t} {id = id} e b h A =
       let is-text : id ≡ spanned (bodyAt file o) s = h ∙ ap (λ (y : Bytes). spanned y s) b in
       advances-by (λ f x I m y.
       let K = marked i same-number at T _ _ (ap (termSaid (bodyAt file o)) e) f I (y .below) in
-      (record { at = y; type-below = K .in-range; utf8 = rw is-text (K .utf8) }, λ S. rw (is-text) (step-entity (members f) (termAt f n) (K .rest) S _ _ (K .is)))) A
+      (record { at = record { at = y; plain = ap isCollection (K .is) }; type-below = K .in-range; utf8 = rw is-text (K .utf8) }, λ S. rw (is-text) (step-entity (members f) (termAt f n) (K .rest) S _ _ (K .is)))) A
 
   pub new-app : {t : ℕ} {op : Op} {c : Children} {body : Bytes} {work′ : List ℕ} {out′ : Bytes} {q : Progress} → r ≡ entry.App t op c → body ≡ bodyAt file o
       → Advances file k many limit (OperatorAt n (opOf body op)) (appWalk n (opOf body op)) work out p work′ out′ q → Advances file k many limit (NewAt n) (newWalk n) work out p work′ out′ q
-  unfolding termSaid namedMark newWalk appWalk MarkInRange
+  unfolding termSaid namedMark newWalk appWalk MarkInRange isCollection
   new-app {op = op} e b A =
       advances-by (λ f x I m y.
       let K = marked i same-number at T _ _ (ap (termSaid (bodyAt file o)) e) f I (y .below) in
-      (record { at = y; in-range = rw b (K .in-range .1) }, λ S. rw b (step-app (members f) (termAt f n) (K .rest) S _ _ (K .is)))) A
+      (record { at = record { at = y; plain = ap isCollection (K .is) }; in-range = rw b (K .in-range .1) }, λ S. rw b (step-app (members f) (termAt f n) (K .rest) S _ _ (K .is)))) A
 
   pub new-unreadable : r ≡ entry.Unreadable → Advances file k many limit (NewAt n) (newWalk n) work out p work out p
   unfolding termSaid
@@ -164,8 +185,28 @@ module _ {file : Bytes} {k many limit n o : ℕ} {work : List ℕ} {out : Bytes}
       advances-by (λ f x I m y. term-of i same-number at T f I (y .below) (λ m′ rs said known. absurd (Option·none-ne-some _ (sym (ap (termSaid (bodyAt file o)) e) ∙ said))))
       (advances-nothing (NewAt n) (λ f. went) (λ f y s. sticky-nothing y))
 
-  pub new-defined : {work′ : List ℕ} {out′ : Bytes} {q : Progress} → OneOf others (tagOf the-type r) → Advances file k many limit (NewAt n) (defineWalk n) work out p work′ out′ q
+  module _ {c : Children} {body : Bytes} {work′ : List ℕ} {out′ : Bytes} {q : Progress} where
+    pub new-set : {t : ℕ} → r ≡ entry.Set t c → body ≡ bodyAt file o → Advances file k many limit (SetAt n (childrenIn body c)) (defineWalk n) work out p work′ out′ q
+        → Advances file k many limit (NewAt n) (newWalk n) work out p work′ out′ q
+    unfolding termSaid namedMark newWalk defineWalk
+    new-set e b A =
+        advances-by (λ f x I m y.
+        let is = is-term i same-number at T _ _ (ap (termSaid (bodyAt file o)) e) f I (y .below) in
+        (set-at c b y is, λ S. step-set (members f) (termAt f n) _ S _ (sym (is .tree)))) A
+
+    pub new-record : r ≡ entry.Record c → body ≡ bodyAt file o → Advances file k many limit (RecordAt n (childrenIn body c)) (defineWalk n) work out p work′ out′ q
+        → Advances file k many limit (NewAt n) (newWalk n) work out p work′ out′ q
+    unfolding termSaid namedMark newWalk defineWalk
+    new-record e b A =
+        advances-by (λ f x I m y.
+        let is = is-term i same-number at T _ _ (ap (termSaid (bodyAt file o)) e) f I (y .below) in
+        (record-at c b y is, λ S. step-record (members f) (termAt f n) _ S _ (sym (is .tree)))) A
+
+  pub new-defined : {work′ : List ℕ} {out′ : Bytes} {q : Progress} → OneOf others (tagOf the-type r) → Advances file k many limit (DefinedAt n) (defineWalk n) work out p work′ out′ q
       → Advances file k many limit (NewAt n) (newWalk n) work out p work′ out′ q
   unfolding newWalk defineWalk
   new-defined h A =
-      advances-by (λ f x I m y. (y, λ S. term-of i same-number at T f I (y .below) (λ m′ rs said known. defined (members f) f (bodyAt file o) (termAt f n) (known .rest) S r m′ rs h said (known .is)))) A
+      advances-by (λ f x I m y.
+      term-of i same-number at T f I (y .below) (λ m′ rs said known.
+      let d = defined (members f) f (bodyAt file o) (termAt f n) (known .rest) r m′ rs h said (known .is) in
+      (record { at = y; plain = d .0 }, d .1))) A

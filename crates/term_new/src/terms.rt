@@ -32,6 +32,30 @@ pub fn encode_new(
             let id = field::part_of(body, s.start, s.len);
             crate::entities::define_entity(file, work, k, many, out, limit, p, n, t, id)
         }
+        TermEntry::Set(_, c) => crate::collections::define_set(
+            file,
+            work,
+            k,
+            many,
+            out,
+            limit,
+            p,
+            n,
+            body,
+            c,
+        ),
+        TermEntry::Record(c) => crate::collections::define_record(
+            file,
+            work,
+            k,
+            many,
+            out,
+            limit,
+            p,
+            n,
+            body,
+            c,
+        ),
         TermEntry::App(_, op, _) => crate::applications::define_app(
             file,
             work,

@@ -2,4 +2,3 @@ pub mod Entering
 pub mod Testing
 pub mod PatternLaws
 pub mod AttributeLaws
-pub mod OperatorLaws

@@ -7,12 +7,10 @@ use mathlib.Core.List.{List, [], _∷_, map}
 use lib.ListN.{length}
 use Rattle.script_spec.specs.Base.{Bytes, any}
 use Rattle.script_spec.specs.Utf8.{isUtf8, codePoints}
-use Rattle.script_spec.specs.Tree.{Op, typeOf, children, eqTm}
-use Rattle.script_spec.specs.File.{TermFile, types, funs, terms, members, typeAt, termAt, namedOp}
+use Rattle.script_spec.specs.Tree.{typeOf, children, eqTm}
+use Rattle.script_spec.specs.File.{TermFile, types, terms, members, typeAt, termAt}
 use Rattle.script_spec.specs.Walk as walk
-use Rattle.script_spec.specs.Walk.{State, Step, went, Walk, ensure, lowEnough, recordGet, operatorStep, encodeNew}
-use Rattle.index.specs.First.{OpInRange}
-use Rattle.index.specs.Meaning.{counted}
+use Rattle.script_spec.specs.Walk.{State, Step, went, Walk, ensure, lowEnough, recordGet, encodeNew}
 use Rattle.progress.specs.Progress.{Advances}
 use Rattle.progress.specs.declared.Progress.{Progress}
 
@@ -37,11 +35,6 @@ pub record TypedAt (n t : ℕ) (f : TermFile) (x : Step) : Type 0 where
   pub below : n < length (terms f)
   pub type-below : t < length (types f)
 
--- it is new, and the function of an operator is one of the file's
-pub record OperatorAt (n : ℕ) (op : Op ℕ) (f : TermFile) (x : Step) : Type 0 where
-  pub at : NewAt n f x
-  pub in-range : OpInRange (counted (length (types f)) (length (funs f)) n) op
-
 -- ---- steps over the term with number n
 
 -- it is entered
@@ -63,10 +56,6 @@ attributeWalk n t a f = recordGet (termAt f n) a (typeAt f t ∷ [])
 -- an attribute of the first child
 unfoldable pub getWalk : ℕ → Bytes → TermFile → Walk
 getWalk n a f = recordGet (termAt f n) a (map typeOf (children (termAt f n)))
-
--- what an operator asks for
-unfoldable pub operatorWalk : ℕ → Op ℕ → TermFile → Walk
-operatorWalk n op f = operatorStep (members f) (termAt f n) (namedOp f op)
 
 -- whatever term it is
 unfoldable pub newWalk : ℕ → TermFile → Walk

@@ -22,7 +22,7 @@ pub fn check_attribute(
     if spell::sorts::type_name(work, k, t) == 0 {
         return progress::refuse(p, 18, n);
     }
-    match query::find_attribute(file, work, k, t, a) {
+    match query::index_of_attr(file, work, k, t, a) {
         Attribute::NotRecord => progress::refuse(p, 17, n),
         Attribute::Missing => progress::refuse(p, 16, n),
         Attribute::At(_) => p,

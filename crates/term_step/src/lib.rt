@@ -1,6 +1,5 @@
-// Entering a term, and what its text, its pattern, its attribute or its operator asks for.
+// Entering a term, and what its text, its pattern or its attribute asks for.
 pub mod attributes;
-pub mod operators;
 pub mod patterns;
 pub mod texts;
 

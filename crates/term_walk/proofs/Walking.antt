@@ -27,12 +27,14 @@ use Rattle.naming.proofs.Tables.{table-known}
 use Rattle.progress.specs.Progress.{Holds, Advances}
 use Rattle.progress.specs.declared.Progress.{Progress}
 use Rattle.progress.proofs.Advancing.{advances-nothing, advances-then}
-use Rattle.progress.proofs.Running.{sticky-same, advances-went, advances-as, advances-passed}
+use Rattle.progress.proofs.Running.{advances-went, advances-as, advances-by, advances-passed}
 use Rattle.term_entry.specs.Terms.{childrenIn}
 use Rattle.term_entry.specs.declared.Children.{Children}
 use Rattle.type_walk.specs.Types.{typeReady, typeWalk}
-use Rattle.term_step.specs.Steps.{NewAt, newWalk}
-use Rattle.term_walk.specs.Terms.{termReady, termWalk, TermsReady, termsWalk, below, childrenWalk, ChildrenAre, ToEncode}
+use Rattle.term_step.specs.Steps.{termReady, NewAt, newWalk}
+use Rattle.term_walk.specs.Terms.{termWalk, ownTypeWalk, below, childrenWalk, partWalk, termsWalk, ToEncode}
+use Rattle.term_walk.specs.declared.Part.{Part}
+use Rattle.term_walk.specs.declared.Part.the-variants as part
 
 -- ---- one term
 
@@ -81,46 +83,70 @@ module _ {file : Bytes} {k many limit name : ℕ} {work : List ℕ} {out : Bytes
   leaves-term h = advances-passed {ready = termReady n} {walk = termWalk n} z (λ f o S I m R W. term-left (members f) (termAt f n) S (known I (W .numbers) n R (λ q. h (e ∙ q))))
 
   -- any other comes after its type and its children
-  pub encodes-term : {offset t : ℕ} {c : Children} {work₁ work₂ work₃ : List ℕ} {out₁ out₂ out₃ : Bytes} {p₁ p₂ p₃ : Progress} (i : ℕ) → name ≡ 0 → i ≡ n → offset ≡ cell work k termOffset i
-      → ToEncode file work k n c → t ≡ cell work k termType n → Advances file k many limit (typeReady t) (typeWalk t) work out p work₁ out₁ p₁
-      → Advances file k many limit (TermsReady n (childrenIn (bodyAt file offset) c)) (termsWalk (childrenIn (bodyAt file offset) c)) work₁ out₁ p₁ work₂ out₂ p₂
-      → Advances file k many limit (NewAt n) (newWalk n) work₂ out₂ p₂ work₃ out₃ p₃
+  pub encodes-term : {work₁ work₂ work₃ : List ℕ} {out₁ out₂ out₃ : Bytes} {p₁ p₂ p₃ : Progress} → name ≡ 0 → Advances file k many limit (termReady n) (partWalk part.OwnType n) work out p work₁ out₁ p₁
+      → Advances file k many limit (termReady n) (partWalk part.Children n) work₁ out₁ p₁ work₂ out₂ p₂ → Advances file k many limit (NewAt n) (newWalk n) work₂ out₂ p₂ work₃ out₃ p₃
       → Advances file k many limit (termReady n) (termWalk n) work out p work₃ out₃ p₃
-  unfolding termReady termWalk newWalk typeReady typeWalk childrenWalk sticky
-  encodes-term {offset} {t} {c} {work₁} {work₂} {work₃} {out₁} {out₂} {out₃} {p₁} {p₂} {p₃} i h same-number place C ty A B D =
+  unfolding termReady termWalk newWalk partWalk ownTypeWalk childrenWalk sticky
+  encodes-term {work₁} {work₂} {work₃} {out₁} {out₂} {out₃} {p₁} {p₂} {p₃} h A B D =
       advances-went {ready = termReady n} {walk = termWalk n} (kept-trans (A .kept) (kept-trans (B .kept) (D .kept))) z (λ f o S I small m R W.
-      let row = I .term-row n R in
-      let rs = childrenIn (bodyAt file offset) c in
-      let here : offset ≡ cell work k termOffset n = place ∙ ap (cell work k termOffset) same-number in
-      let are : ChildrenAre f n rs = subst (λ (j : ℕ). ChildrenAre f n (childrenIn (bodyAt file j) c)) (sym here) (C .go f I R) in
-      let typed : typeAt f t ≡ typeOf (termAt f n) = ap (typeAt f) ty ∙ row .type-is in
       let new = unknown I (W .numbers) n R (sym e ∙ h) in
       let I₁ = index-kept (A .kept) I in
       let I₂ = index-kept (B .kept) I₁ in
-      let x₁ = encodeType (members f) (typeAt f t) S in
-      let x₂ = sticky (termsWalk rs f) x₁ in
-      let steps : x₂ ≡ sticky (parts (members f) (termAt f n)) (encodeType (members f) (typeOf (termAt f n)) S) =
-      sym (sticky-same (childrenWalk n f) (termsWalk rs f) x₁ (are .walks)) ∙ ap (λ (y : Ty). sticky (childrenWalk n f) (encodeType (members f) y S)) typed in
-      let h₁ : Holds f k limit o work₁ out₁ p₁ x₁ = A .go f o (went S) I small m (rw ty (row .type-below)) W in
-      let h₂ : Holds f k limit o work₂ out₂ p₂ x₂ = B .go f o x₁ I₁ small m (record { inside = R; lower = are .lower }) h₁ in
-      let h₃ = D .go f o x₂ I₂ small m (record { below = R; new = λ S₁ q. term-still-new (members f) (termAt f n) S S₁ new (sym steps ∙ q) }) h₂ in
-      subst (Holds f k limit o work₃ out₃ p₃) (ap (sticky (encodeNew (members f) (termAt f n))) steps ∙ term-new (members f) (termAt f n) S new) h₃)
+      let x₁ = ownTypeWalk n f S in
+      let x₂ = sticky (childrenWalk n f) x₁ in
+      let h₁ : Holds f k limit o work₁ out₁ p₁ x₁ = A .go f o (went S) I small m R W in
+      let h₂ : Holds f k limit o work₂ out₂ p₂ x₂ = B .go f o x₁ I₁ small m R h₁ in
+      let h₃ = D .go f o x₂ I₂ small m (record { below = R; new = λ S₁ q. term-still-new (members f) (termAt f n) S S₁ new q }) h₂ in
+      subst (Holds f k limit o work₃ out₃ p₃) (term-new (members f) (termAt f n) S new) h₃)
+
+-- ---- its type, or its children
+
+module _ {file : Bytes} {k many limit : ℕ} (n : ℕ) {work work′ : List ℕ} {out out′ : Bytes} {p p′ : Progress} {x : Part} where
+  pub encodes-type-part : x ≡ part.OwnType → Advances file k many limit (termReady n) (ownTypeWalk n) work out p work′ out′ p′ → Advances file k many limit (termReady n) (partWalk x n) work out p work′ out′ p′
+  unfolding partWalk
+  encodes-type-part e A = rw e A
+
+  pub encodes-children-part : x ≡ part.Children → Advances file k many limit (termReady n) (childrenWalk n) work out p work′ out′ p′ → Advances file k many limit (termReady n) (partWalk x n) work out p work′ out′ p′
+  unfolding partWalk
+  encodes-children-part e A = rw e A
+
+-- ---- the type
+
+-- a term's type, by its number
+pub encodes-own-type : {file : Bytes} {k many limit n t : ℕ} {work work′ : List ℕ} {out out′ : Bytes} {p p′ : Progress} (i : ℕ) → i ≡ n → t ≡ cell work k termType i
+    → Advances file k many limit (typeReady t) (typeWalk t) work out p work′ out′ p′ → Advances file k many limit (termReady n) (ownTypeWalk n) work out p work′ out′ p′
+unfolding termReady ownTypeWalk typeReady typeWalk
+encodes-own-type {k = k} {n = n} {t = t} {work = work} i same-number e A =
+    let is : t ≡ cell work k termType n = e ∙ ap (cell work k termType) same-number in
+    advances-by (λ f x I m R.
+    let row = I .term-row n R in
+    (rw is (row .type-below), λ S. ap (λ (ty : Ty). encodeType (members f) ty S) (sym (ap (typeAt f) is ∙ row .type-is)))) A
 
 -- ---- the children
 
--- encoding the terms `rest` from here makes encoding `whole` from the start
-pub record TermsLeft (file : Bytes) (k many limit n : ℕ) (whole : List ℕ) (work₀ : List ℕ) (out₀ : Bytes) (p₀ : Progress) (work : List ℕ) (out : Bytes) (p : Progress) (rest : List ℕ) : Type 0 where
+-- terms with these numbers come before the term with number n, which is above them
+pub record TermsReady (n : ℕ) (rs : List ℕ) (f : TermFile) (x : Step) : Type 0 where
+  pub inside : n < length (terms f)
+  pub lower : Below n rs
+
+-- encoding the terms `rest` from here makes encoding the children of the term with number n from the start
+pub record TermsLeft (file : Bytes) (k many limit n : ℕ) (work₀ : List ℕ) (out₀ : Bytes) (p₀ : Progress) (work : List ℕ) (out : Bytes) (p : Progress) (rest : List ℕ) : Type 0 where
   pub go : (work′ : List ℕ) (out′ : Bytes) (p′ : Progress) → Advances file k many limit (TermsReady n rest) (termsWalk rest) work out p work′ out′ p′
-      → Advances file k many limit (TermsReady n whole) (termsWalk whole) work₀ out₀ p₀ work′ out′ p′
+      → Advances file k many limit (termReady n) (childrenWalk n) work₀ out₀ p₀ work′ out′ p′
 
-pub terms-start : {file : Bytes} {k many limit n : ℕ} {rs work : List ℕ} {out : Bytes} {p : Progress} → TermsLeft file k many limit n rs work out p work out p rs
-terms-start = record { go = λ w o q A. A }
+pub terms-start : {file : Bytes} {k many limit n offset : ℕ} {c : Children} {work : List ℕ} {out : Bytes} {p : Progress} (i : ℕ) → i ≡ n → offset ≡ cell work k termOffset i → ToEncode file work k n c
+    → TermsLeft file k many limit n work out p work out p (childrenIn (bodyAt file offset) c)
+unfolding termReady
+terms-start {file} {k} {many} {limit} {n} {offset} {c} {work} {out} {p} i same-number place C =
+    let here : cell work k termOffset n ≡ offset = sym (place ∙ ap (cell work k termOffset) same-number) in
+    subst (λ (j : ℕ). TermsLeft file k many limit n work out p work out p (childrenIn (bodyAt file j) c)) here
+    (record { go = λ w o q A. advances-by (λ f x I m R. let are = C .go f I R in (record { inside = R; lower = are .lower }, are .walks)) A })
 
-module _ {file : Bytes} {k many limit n : ℕ} {whole work₀ : List ℕ} {out₀ : Bytes} {p₀ : Progress} {work : List ℕ} {out : Bytes} {p : Progress} {rest : List ℕ}
-    (L : TermsLeft file k many limit n whole work₀ out₀ p₀ work out p rest) where
+module _ {file : Bytes} {k many limit n : ℕ} {work₀ : List ℕ} {out₀ : Bytes} {p₀ : Progress} {work : List ℕ} {out : Bytes} {p : Progress} {rest : List ℕ}
+    (L : TermsLeft file k many limit n work₀ out₀ p₀ work out p rest) where
   -- one child more
   pub terms-on : {r : ℕ} {rs work₁ : List ℕ} {out₁ : Bytes} {p₁ : Progress} → rest ≡ r ∷ rs → r < n → Advances file k many limit (termReady r) (termWalk r) work out p work₁ out₁ p₁
-      → TermsLeft file k many limit n whole work₀ out₀ p₀ work₁ out₁ p₁ rs
+      → TermsLeft file k many limit n work₀ out₀ p₀ work₁ out₁ p₁ rs
   unfolding termReady termWalk termsWalk encodeTerm encodeTerms forest Below All
   terms-on {r} {rs} {work₁} {out₁} {p₁} e l A = record {
     go = λ w o q B.
@@ -132,11 +158,11 @@ module _ {file : Bytes} {k many limit n : ℕ} {whole work₀ : List ℕ} {out�
   }
 
   -- none is left
-  pub terms-end : rest ≡ [] → Advances file k many limit (TermsReady n whole) (termsWalk whole) work₀ out₀ p₀ work out p
+  pub terms-end : rest ≡ [] → Advances file k many limit (termReady n) (childrenWalk n) work₀ out₀ p₀ work out p
   unfolding termsWalk encodeTerm encodeTerms forest
   terms-end e = L .go work out p (rw e (advances-nothing (TermsReady n []) (termsWalk []) (λ f x R. sticky-nothing x)))
 
   -- a child that has no lower number does not occur
-  pub terms-never : {r : ℕ} {rs : List ℕ} → rest ≡ r ∷ rs → n ≤ r → Advances file k many limit (TermsReady n whole) (termsWalk whole) work₀ out₀ p₀ work out p
+  pub terms-never : {r : ℕ} {rs : List ℕ} → rest ≡ r ∷ rs → n ≤ r → Advances file k many limit (termReady n) (childrenWalk n) work₀ out₀ p₀ work out p
   unfolding Below All
   terms-never {r} {rs} e h = L .go work out p (rw e (advances-nothing (TermsReady n (r ∷ rs)) (termsWalk (r ∷ rs)) (λ f x R. absurd (let l = R .lower .0 in omega arith))))

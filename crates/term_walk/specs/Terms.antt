@@ -5,40 +5,42 @@ use mathlib.Core.Path.{_≡_}
 use mathlib.Core.List.{List, map}
 use lib.ListN.{length}
 use Rattle.script_spec.specs.Base.{Bytes}
-use Rattle.script_spec.specs.Tree.{Tm, Mark, Forest, node, forest, isFalsehood}
+use Rattle.script_spec.specs.Tree.{Tm, Mark, Forest, node, forest, typeOf, isFalsehood}
 use Rattle.script_spec.specs.File.{TermFile, terms, members, termAt}
-use Rattle.script_spec.specs.Walk.{State, Step, Walk, unless, encodeTerm, encodeTerms}
+use Rattle.script_spec.specs.Walk.{State, Walk, unless, encodeType, encodeTerm, encodeTerms}
 use Rattle.index.specs.Cells.{cell, termOffset}
 use Rattle.index.specs.First.{Below}
 use Rattle.index.specs.Standing.{bodyAt}
 use Rattle.index.specs.Meaning.{Index}
 use Rattle.term_entry.specs.Terms.{childrenIn}
 use Rattle.term_entry.specs.declared.Children.{Children}
+use Rattle.term_walk.specs.declared.Part.{Part}
+use Rattle.term_walk.specs.declared.Part.the-variants as part
 
--- the term with number n is one of the file's
-unfoldable pub termReady : ℕ → TermFile → Step → Type 0
-termReady n f x = n < length (terms f)
-
--- it is encoded
+-- the term with number n is encoded
 unfoldable pub termWalk : ℕ → TermFile → Walk
 termWalk n f = encodeTerm (members f) (termAt f n)
 
--- terms with these numbers come before the term with number n, which is above them
-pub record TermsReady (n : ℕ) (rs : List ℕ) (f : TermFile) (x : Step) : Type 0 where
-  pub inside : n < length (terms f)
-  pub lower : Below n rs
-
--- they are encoded one after the other
-unfoldable pub termsWalk : List ℕ → TermFile → Walk
-termsWalk rs f = encodeTerms (members f) (forest (map (termAt f) rs))
+-- its type is encoded
+unfoldable pub ownTypeWalk : ℕ → TermFile → Walk
+ownTypeWalk n f = encodeType (members f) (typeOf (termAt f n))
 
 -- a term's children
 unfoldable pub below : Tm → Forest Mark
 below (node m ts) = ts
 
--- a term's children are encoded; those under the `false` of a `Bvnego` are not
+-- its children are encoded; those under the `false` of a `Bvnego` are not
 unfoldable pub childrenWalk : ℕ → TermFile → Walk
 childrenWalk n f = unless (λ s. isFalsehood (termAt f n)) (encodeTerms (members f) (below (termAt f n)))
+
+-- the one or the other
+unfoldable pub partWalk : Part → ℕ → TermFile → Walk
+partWalk part.OwnType = ownTypeWalk
+partWalk part.Children = childrenWalk
+
+-- the terms with these numbers are encoded one after the other
+unfoldable pub termsWalk : List ℕ → TermFile → Walk
+termsWalk rs f = encodeTerms (members f) (forest (map (termAt f) rs))
 
 -- encoding the terms with these numbers is encoding the children of the term with number n
 pub record ChildrenAre (f : TermFile) (n : ℕ) (rs : List ℕ) : Type 0 where

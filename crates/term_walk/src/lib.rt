@@ -4,13 +4,19 @@ use query::Negated;
 use term_entry::Child;
 use term_entry::Children;
 ghost use mathlib.Core.Path.{_≡_};
-ghost use Rattle.index.specs.Cells.{cell, termFirst, termType};
+ghost use Rattle.index.specs.Cells.{termFirst};
 ghost use Rattle.index.specs.Standing.{bodyAt};
 ghost use Rattle.naming.specs.Naming.{nameAt, termName};
 ghost use Rattle.progress.specs.Progress.{Advances};
-ghost use Rattle.term_entry.specs.Terms.{childrenIn};
 ghost use Rattle.term_entry.specs.Children.{TakesChild};
-ghost use Rattle.term_walk.specs.Terms.{termReady, termWalk, TermsReady, termsWalk, ToEncode};
+ghost use Rattle.term_step.specs.Steps.{termReady};
+ghost use Rattle.term_walk.specs.Terms.{termWalk, ownTypeWalk, childrenWalk, partWalk, ToEncode};
+
+// What of a term is encoded before it.
+enum Part {
+    OwnType,
+    Children,
+}
 
 // What stands for the name of the term with number n.
 fn term_name(work: &[u32], k: usize, n: u32) -> u32
@@ -23,13 +29,6 @@ fn term_name(work: &[u32], k: usize, n: u32) -> u32
         naming::TERM_NAME,
         entry::wide(n),
     )
-}
-
-// The number of the type of the term with number n.
-fn term_type(work: &[u32], k: usize, n: u32) -> u32
-    ensures { λ r. ⌜ r ≡ cell (now (work .entry)) k termType n ⌝ }
-{
-    index::get(work, k, index::TERM_TYPE, entry::wide(n))
 }
 
 // The children of the term with number n that are encoded before it: none under the `false` of a `Bvnego`.
@@ -56,6 +55,24 @@ fn take_child(file: &[u8], offset: u32, c: Children) -> Child
     term_entry::take_child(entry::body_at(file, offset), c)
 }
 
+// Encodes the type of the term with number n.
+fn encode_own_type(
+    file: &[u8],
+    work: &mut [u32],
+    k: usize,
+    many: u32,
+    out: &mut [u8],
+    limit: usize,
+    p: Progress,
+    n: u32,
+) -> Progress
+    ensures { λ r.
+        ⌜ Advances (now (file .entry)) k many limit (termReady n) (ownTypeWalk n) (now (work .entry)) (now (out .entry)) p (now (work .exit)) (now (out .exit)) r ⌝ }
+{
+    let t = index::get(work, k, index::TERM_TYPE, entry::wide(n));
+    type_walk::encode_type(file, work, k, many, out, limit, p, t)
+}
+
 // Encodes the term with number n, where it has no name yet.
 pub fn encode_term(
     file: &[u8],
@@ -76,15 +93,33 @@ pub fn encode_term(
     if term_name(work, k, n) != 0 {
         return p;
     }
-    let offset = index::get(work, k, index::TERM_OFFSET, entry::wide(n));
-    let c = to_encode(file, work, k, n);
-    let t = term_type(work, k, n);
-    let typed = type_walk::encode_type(file, work, k, many, out, limit, p, t);
-    let q = encode_terms(file, work, k, many, out, limit, typed, n, offset, c);
+    let typed = encode_part(file, work, k, many, out, limit, p, n, Part::OwnType);
+    let q = encode_part(file, work, k, many, out, limit, typed, n, Part::Children);
     term_new::terms::encode_new(file, work, k, many, out, limit, q, n)
 }
 
-// Encodes the children that are left of the term with number n at an offset. A child has a lower number.
+// Encodes the type of the term with number n, or its children.
+fn encode_part(
+    file: &[u8],
+    work: &mut [u32],
+    k: usize,
+    many: u32,
+    out: &mut [u8],
+    limit: usize,
+    p: Progress,
+    n: u32,
+    part: Part,
+) -> Progress
+    ensures { λ r.
+        ⌜ Advances (now (file .entry)) k many limit (termReady n) (partWalk part n) (now (work .entry)) (now (out .entry)) p (now (work .exit)) (now (out .exit)) r ⌝ }
+{
+    match part {
+        Part::OwnType => encode_own_type(file, work, k, many, out, limit, p, n),
+        Part::Children => encode_terms(file, work, k, many, out, limit, p, n),
+    }
+}
+
+// Encodes the children of the term with number n, one after the other. A child has a lower number.
 fn encode_terms(
     file: &[u8],
     work: &mut [u32],
@@ -94,14 +129,13 @@ fn encode_terms(
     limit: usize,
     p: Progress,
     n: u32,
-    offset: u32,
-    c: Children,
 ) -> Progress
     ensures { λ r.
-        ⌜ Advances (now (file .entry)) k many limit (TermsReady n (childrenIn (bodyAt (now (file .entry)) offset) c)) (termsWalk (childrenIn (bodyAt (now (file .entry)) offset) c)) (now (work .entry)) (now (out .entry)) p (now (work .exit)) (now (out .exit)) r ⌝ }
+        ⌜ Advances (now (file .entry)) k many limit (termReady n) (childrenWalk n) (now (work .entry)) (now (out .entry)) p (now (work .exit)) (now (out .exit)) r ⌝ }
 {
+    let offset = index::get(work, k, index::TERM_OFFSET, entry::wide(n));
     let mut q = p;
-    let mut left = c;
+    let mut left = to_encode(file, work, k, n);
     while 0 < left.left {
         let child = take_child(file, offset, left);
         let number = child.number;

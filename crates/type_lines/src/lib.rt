@@ -90,7 +90,7 @@ pub fn put_type_lines(
             let text = field::part_of(body, span.start, span.len);
             declare_entity_type(file, work, k, many, out, at, limit, text, name)
         }
-        TypeEntry::Ext(x) => datatype::put_ext_declaration(out, at, limit, x),
+        TypeEntry::Ext(x) => datatype::declare_ext_type(out, at, limit, x),
         TypeEntry::Record(n) => declare_record_type(file, work, k, out, at, limit, body, name, n),
         _ => at,
     }

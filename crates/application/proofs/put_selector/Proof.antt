@@ -10,7 +10,7 @@ use Rattle.application.proofs.put_selector.Tie as tie
 
 returns-2 : tie.Need-returns-2
 unfolding bytes
-returns-2 c = selector-at (omega (arith, c.before.before.before.before.before.before.before.before.before.before.before.before.if1.left)) c.before.before.before.before.before.before.before.before.before.before.before.take-child.ensures (c.before.before.before.before.before.before.before.before.before.get.ensures ∙ (rw (c.before.before.before.before.before.before.before.before.before.before.wide.ensures .0))) c.before.before.before.before.before.before.before.before.find-attribute.ensures c.before.before.before.before.before.before.i.given.1 c.before.before.put-numbered.ensures
+returns-2 c = selector-at (omega (arith, c.before.before.before.before.before.before.before.before.before.before.before.before.if1.left)) c.before.before.before.before.before.before.before.before.before.before.before.take-child.ensures (c.before.before.before.before.before.before.before.before.before.get.ensures ∙ (rw (c.before.before.before.before.before.before.before.before.before.before.wide.ensures .0))) c.before.before.before.before.before.before.before.before.index-of-attr.ensures c.before.before.before.before.before.before.i.given.1 c.before.before.put-numbered.ensures
 
 pub put-selector-spec : {M : Type 1} → statement M
 put-selector-spec =
@@ -18,4 +18,4 @@ put-selector-spec =
     (tie.spec
     (λ c. selector-none c.if1.taken) (λ c κs. search needs) (λ c κs. search needs) (λ c κs. search needs) (λ c κs. search needs) (λ c. search needs) (λ c. search needs) (λ c κs. search needs) (λ c. search needs)
     returns-2
-    (λ c. selector-nowhere (omega (arith, c.before.before.before.before.before.if1.left)) c.before.before.before.before.take-child.ensures (c.before.before.get.ensures ∙ (rw (c.before.before.before.wide.ensures .0))) c.before.find-attribute.ensures c.match.keys2))
+    (λ c. selector-nowhere (omega (arith, c.before.before.before.before.before.if1.left)) c.before.before.before.before.take-child.ensures (c.before.before.get.ensures ∙ (rw (c.before.before.before.wide.ensures .0))) c.before.index-of-attr.ensures c.match.keys2))

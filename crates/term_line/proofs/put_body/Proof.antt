@@ -1,7 +1,7 @@
 -- `term_line::put_body` meets its contract: each term by its arm.
 -- Assumes nothing.
 use Rattle.script_spec.specs.Base.{bytes}
-use Rattle.term_line.proofs.BodyLaws.{body-entity, body-value, body-none, body-some, body-set, body-record, body-application, body-atom}
+use Rattle.term_line.proofs.BodyLaws.{body-entity, body-value, body-none, body-some, body-application, body-atom}
 use borrow.Author.Needs.{needs}
 use Rattle.term_line.proofs.put_body.Statement.{statement}
 use Rattle.term_line.proofs.put_body.Tie as tie
@@ -13,12 +13,10 @@ returns-3 c = body-none c.before.before.before.before.before.before.before.befor
 pub put-body-spec : {M : Type 1} → statement M
 put-body-spec =
     tie.close
-    (tie.spec (λ c κs. search needs) (λ c κs. search needs) (λ c. search needs) (λ c κs. search needs) (λ c κs. search needs) (λ c. search needs) (λ c κs. search needs) (λ c. search needs) (λ c. search needs) (λ c κs. search needs) (λ c. search needs) (λ c κs. search needs) (λ c. search needs) (λ c κs. search needs) (λ c. search needs) (λ c κs. search needs) (λ c. search needs) (λ c κs. search needs) (λ c κs. search needs) (λ c. search needs)
+    (tie.spec (λ c κs. search needs) (λ c κs. search needs) (λ c. search needs) (λ c κs. search needs) (λ c κs. search needs) (λ c. search needs) (λ c κs. search needs) (λ c. search needs) (λ c. search needs) (λ c κs. search needs) (λ c. search needs) (λ c κs. search needs) (λ c. search needs) (λ c κs. search needs) (λ c κs. search needs) (λ c. search needs)
     (λ c. body-entity c.before.before.before.before.before.before.before.before.before.term-at.ensures c.before.before.before.before.before.before.term.given.1 c.before.before.before.before.before.before.before.before.body-at.ensures c.before.before.before.before.part-of.ensures c.before.before.put-entity.ensures) (λ c. search needs)
     (λ c. body-value c.before.before.before.before.before.before.before.before.term-at.ensures c.before.before.before.before.before.term2.given.1 c.before.before.put-ext-value.ensures) (λ c. search needs)
     returns-3 (λ c. search needs)
     (λ c. body-some c.before.before.before.before.before.before.before.before.term-at.ensures c.before.before.before.before.before.term3.given.1 c.before.before.put-some.ensures) (λ c. search needs)
-    (λ c. body-set c.before.before.before.before.before.before.before.before.term-at.ensures c.before.before.before.before.before.before.before.body-at.ensures c.before.before.before.before.before.term4.given.1 c.before.before.put-set.ensures) (λ c. search needs)
-    (λ c. body-record c.before.before.before.before.before.before.before.before.term-at.ensures c.before.before.before.before.before.before.before.body-at.ensures c.before.before.before.before.before.term5.given.1 c.before.before.put-record.ensures) (λ c. search needs)
-    (λ c. body-application c.before.before.before.before.before.before.before.before.term-at.ensures c.before.before.before.before.before.before.before.body-at.ensures c.before.before.before.before.before.term6.given.1 c.before.before.put-application.ensures) (λ c. search needs)
-    (λ c. body-atom c.before.before.before.before.before.before.term-at.ensures c.before.before.before.before.match.keys8 c.before.before.put-atom.ensures))
+    (λ c. body-application c.before.before.before.before.before.before.before.before.term-at.ensures c.before.before.before.before.before.before.before.body-at.ensures c.before.before.before.before.before.term4.given.1 c.before.before.put-application.ensures) (λ c. search needs)
+    (λ c. body-atom c.before.before.before.before.before.before.term-at.ensures c.before.before.before.before.match.keys6 c.before.before.put-atom.ensures))

@@ -10,5 +10,5 @@ pub define-term-spec : {M : Type 1} → statement M
 define-term-spec =
     tie.close
     (tie.spec
-    (λ c. advances-refused c.if1.taken) (λ c κs. search needs) (λ c κs. search needs) (λ c κs. search needs) (λ c. search needs) (λ c. search needs)
-    (λ c. defines c.before.before.before.before.before.before.before.before.before.before.if1.left c.before.before.before.before.before.before.before.before.enter.ensures c.before.before.before.put-definition.ensures c.placed.ensures))
+    (λ c. advances-refused c.if1.taken) (λ c κs. search needs) (λ c κs. search needs) (λ c κs. search needs) (λ c κs. search needs) (λ c κs. search needs) (λ c. search needs) (λ c. search needs)
+    (λ c. defines c.before.before.before.before.before.before.before.before.before.before.before.before.before.before.before.before.before.before.before.if1.left c.before.before.before.before.before.before.before.before.before.before.before.before.before.before.before.before.before.enter.ensures c.before.before.before.before.before.before.before.before.before.before.before.before.put-head.ensures c.before.before.before.put-end.ensures c.placed.ensures c.before.before.before.before.before.before.before.put-body.ensures))

@@ -10,7 +10,7 @@ returns : tie.Need-returns
 returns c = spells-entity c.before.before.before.before.before.before.before.before.type-at.ensures c.before.before.before.before.before.before.span.given.1 c.before.before.before.before.before.before.before.before.before.before.body-at.ensures (c.before.before.before.before.before.before.before.before.before.before.before.get.ensures ∙ (rw (c.before.before.before.before.before.before.before.before.before.before.before.before.wide.ensures .0))) c.before.before.before.before.part-of.ensures c.before.before.before.before.before.before.before.before.before.type-name.ensures c.before.before.declare-entity-type.ensures
 
 returns-2 : tie.Need-returns-2
-returns-2 c = spells-ext c.before.before.before.before.before.before.before.type-at.ensures c.before.before.before.before.before.x.given.1 c.before.before.put-ext-declaration.ensures
+returns-2 c = spells-ext c.before.before.before.before.before.before.before.type-at.ensures c.before.before.before.before.before.x.given.1 c.before.before.declare-ext-type.ensures
 
 returns-3 : tie.Need-returns-3
 returns-3 c = spells-record-type c.before.before.before.before.before.before.before.type-at.ensures c.before.before.before.before.before.n.given.1 c.before.before.before.before.before.before.before.before.before.body-at.ensures (c.before.before.before.before.before.before.before.before.before.before.get.ensures ∙ (rw (c.before.before.before.before.before.before.before.before.before.before.before.wide.ensures .0))) c.before.before.before.before.before.before.before.before.type-name.ensures c.before.before.declare-record-type.ensures

@@ -1,11 +1,15 @@
--- `term_new::applications::define_ordinary` meets its contract.
+-- `term_new::applications::define_ordinary` meets its contract: each operator by its arm.
 -- Assumes nothing.
 use borrow.Author.Needs.{needs}
-use Rattle.term_new.proofs.ApplicationLaws.{ordinary-then}
+use Rattle.term_new.proofs.OperatorLaws.{ordinary-get, ordinary-pattern, ordinary-uuf, ordinary-other}
 use Rattle.term_new.proofs.applications.define_ordinary.Statement.{statement}
 use Rattle.term_new.proofs.applications.define_ordinary.Tie as tie
 
 pub define-ordinary-spec : {M : Type 1} → statement M
 define-ordinary-spec =
     tie.close
-    (tie.spec (λ c κs. search needs) (λ c κs. search needs) (λ c. search needs) (λ c. search needs) (λ c. ordinary-then _ c.before.before.before.before.before.before.before.before.before.before.before.operator-step.ensures c.before.before.before.before.define-term.ensures))
+    (tie.spec (λ c. search needs) (λ c κs. search needs) (λ c κs. search needs) (λ c. search needs) (λ c κs. search needs) (λ c κs. search needs) (λ c. search needs) (λ c κs. search needs) (λ c κs. search needs) (λ c κs. search needs) (λ c. search needs) (λ c. search needs)
+    (λ c. ordinary-get _ _ c.before.before.before.before.before.before.before.before.before.op.given.1 c.before.before.before.before.before.before.before.part-of.ensures c.before.before.before.before.define-record-get.ensures) (λ c. search needs) (λ c. search needs)
+    (λ c. ordinary-pattern _ _ c.before.before.before.before.before.before.before.before.before.op2.given.1 c.before.before.before.before.before.before.before.check-pattern.ensures c.before.before.before.before.define-term.ensures) (λ c. search needs) (λ c. search needs)
+    (λ c. ordinary-uuf _ _ c.before.before.before.before.before.before.before.before.before.before.before.before.before.before.before.op3.given.1 c.before.before.before.before.before.before.before.before.before.before.before.encode-uuf.ensures c.before.before.before.before.define-term2.ensures) (λ c. search needs) (λ c. search needs)
+    (λ c. ordinary-other _ _ c.before.before.before.before.before.before.before.match.keys4 c.before.before.before.before.define-term3.ensures))

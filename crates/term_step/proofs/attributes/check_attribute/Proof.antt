@@ -12,6 +12,6 @@ check-attribute-spec =
     (tie.spec
     (λ c. tests-refused c.if1.taken) (λ c κs. search needs) (λ c κs. search needs)
     (λ c. attribute-unnamed _ c.before.before.before.if1.left c.before.before.type-name.ensures c.before.if2.taken c.refuse.ensures) (λ c κs. search needs) (λ c. search needs) (λ c κs. search needs) (λ c. search needs) (λ c κs. search needs) (λ c. search needs)
-    (λ c. attribute-plain _ c.before.before.before.before.before.before.if1.left c.before.before.before.before.before.type-name.ensures c.before.before.before.before.if2.left c.before.before.before.find-attribute.ensures c.before.enum-told.given.1 c.refuse2.ensures)
-    (λ c. attribute-missing _ c.before.before.before.before.before.before.if1.left c.before.before.before.before.before.type-name.ensures c.before.before.before.before.if2.left c.before.before.before.find-attribute.ensures c.before.enum-told2.given.1 c.refuse3.ensures)
-    (λ c. attribute-found _ c.before.before.before.before.before.if1.left c.before.before.before.before.type-name.ensures c.before.before.before.if2.left c.before.before.find-attribute.ensures c.enum-told3.given.1))
+    (λ c. attribute-plain _ c.before.before.before.before.before.before.if1.left c.before.before.before.before.before.type-name.ensures c.before.before.before.before.if2.left c.before.before.before.index-of-attr.ensures c.before.enum-told.given.1 c.refuse2.ensures)
+    (λ c. attribute-missing _ c.before.before.before.before.before.before.if1.left c.before.before.before.before.before.type-name.ensures c.before.before.before.before.if2.left c.before.before.before.index-of-attr.ensures c.before.enum-told2.given.1 c.refuse3.ensures)
+    (λ c. attribute-found _ c.before.before.before.before.before.if1.left c.before.before.before.before.type-name.ensures c.before.before.before.if2.left c.before.before.index-of-attr.ensures c.enum-told3.given.1))

@@ -1,4 +1,4 @@
--- `datatype::put_ext_declaration` meets its contract: each declaration by its arm.
+-- `datatype::declare_ext_type` meets its contract: each declaration by its arm.
 -- Assumes nothing.
 use Rattle.script_spec.specs.Base.{bytes, joined}
 use Rattle.script_spec.specs.Command.{line, spelled, headed, spaced, datatypeBody, constructorList}
@@ -6,8 +6,8 @@ use Rattle.script_spec.specs.Spelling.{extName, extConstructors}
 use Rattle.writer.proofs.Laws.{says}
 use Rattle.entry.specs.Types.{extTypeOf}
 use borrow.Author.Needs.{needs}
-use Rattle.datatype.proofs.put_ext_declaration.Statement.{statement}
-use Rattle.datatype.proofs.put_ext_declaration.Tie as tie
+use Rattle.datatype.proofs.declare_ext_type.Statement.{statement}
+use Rattle.datatype.proofs.declare_ext_type.Tie as tie
 
 returns : tie.Need-returns
 unfolding bytes joined line spelled headed spaced datatypeBody constructorList extName extConstructors extTypeOf
@@ -25,8 +25,8 @@ returns-4 : tie.Need-returns-4
 unfolding bytes joined line spelled headed spaced datatypeBody constructorList extName extConstructors extTypeOf
 returns-4 c = says (rw c.before.before.before.before.before.enum-told4.given.1) c.before.before.put-at4.ensures
 
-pub put-ext-declaration-spec : {M : Type 1} → statement M
-put-ext-declaration-spec =
+pub declare-ext-type-spec : {M : Type 1} → statement M
+declare-ext-type-spec =
     tie.close
     (tie.spec (λ c. search needs) (λ c. search needs) (λ c κs. search needs) (λ c. search needs) (λ c. search needs) (λ c κs. search needs) (λ c. search needs) (λ c. search needs) (λ c κs. search needs) (λ c. search needs) (λ c. search needs) (λ c κs. search needs) (λ c. search needs)
     returns (λ c. search needs)
