@@ -3,13 +3,13 @@
 use Prim.Native.Nat.{ℕ, zero, suc, _+_, _*_, _-_, _<_, _≤_}
 use native.Mathlib.Omega.{arith}
 use native.Mathlib.Decide.{ℕ-discrete}
-use mathlib.Core.Path.{_≡_, refl, sym, ap, _∙_}
+use mathlib.Core.Path.{_≡_, refl, ap, _∙_}
 use mathlib.Core.Bool.{Bool, true, false}
-use mathlib.Core.List.{List, [], _∷_}
+use mathlib.Core.List.{List}
 use lib.ListN.{length, drop}
 use Rattle.script_spec.specs.Base.{Bytes, ascending}
-use Rattle.index.specs.Cells.{placed, cell, store, shared, Apart, listRow}
-use Rattle.index.specs.Lists.{firstText, texts, Listed}
+use Rattle.index.specs.Cells.{placed, cell, store, shared, listRow}
+use Rattle.index.specs.Lists.{texts, Listed}
 use Rattle.index.proofs.Cells.{length-store, cell-store-same, cell-store-apart}
 use Rattle.entry.specs.Places.{IsText}
 use Rattle.entry.specs.declared.lists.Text.{Text}

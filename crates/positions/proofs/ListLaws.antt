@@ -5,11 +5,9 @@ use native.Mathlib.Omega.{arith}
 use native.Mathlib.Decide.{decLt}
 use mathlib.Core.Path.{_≡_, refl, sym, ap, _∙_, subst}
 use mathlib.Core.Bool.{true}
-use mathlib.Core.List.{List, [], _∷_}
-use mathlib.Core.Option.{some}
-use lib.ListN.{length, getD, drop}
+use mathlib.Core.List.{List}
+use lib.ListN.{length, drop}
 use Rattle.script_spec.specs.Base.{Bytes, ascending}
-use Rattle.script_spec.specs.File as records
 use Rattle.script_spec.specs.File.{TermFile, types, enums}
 use Rattle.index.specs.Cells.{placed, cell, store, shared, Apart, typeOffset, enumOffset, hash, enumList, typeList, listRow}
 use Rattle.index.specs.Standing.{bodyAt}

@@ -2,12 +2,11 @@
 -- Assumes nothing.
 use Prim.Native.Nat.{ℕ, _+_, _<_, _≤_}
 use native.Mathlib.Omega.{arith}
-use mathlib.Core.Path.{_≡_, refl, sym, ap, _∙_, subst}
+use mathlib.Core.Path.{_≡_, refl, _∙_, subst}
 use mathlib.Core.List.{List}
 use lib.ListN.{length}
 use Rattle.script_spec.specs.Base.{Bytes}
 use Rattle.script_spec.specs.File.{TermFile, types, enums}
-use Rattle.index.specs.Meaning.{Index}
 use Rattle.positions.specs.Made.{Listing, Known, ListsType, ListsTypes, ListsEnum, ListsEnums, MakesLists}
 use Rattle.positions.proofs.ListLaws.{listing-start, listing-end}
 

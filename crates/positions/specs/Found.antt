@@ -1,6 +1,6 @@
 -- Where a text stands in a list of a body: the scan, the halves of the rows of its list, and the search with a list.
 -- Assumes nothing.
-use Prim.Native.Nat.{ℕ, _+_, _<_, _≤_}
+use Prim.Native.Nat.{ℕ, suc, _+_, _<_, _≤_}
 use mathlib.Core.Path.{_≡_}
 use mathlib.Core.Bool.{true, false}
 use mathlib.Core.Logic.{_⊎_}
@@ -25,6 +25,10 @@ pub record FindsText (body : Bytes) (from count skip : ℕ) (name : Bytes) (r : 
 -- the same, of texts that have a list
 pub record FindsListed (body : Bytes) (work : List ℕ) (k base from count skip : ℕ) (name : Bytes) (r : Found) : Type 0 where
   pub go : Listed body skip (texts skip count (drop from body)) work k base → FindsText body from count skip name r
+
+-- the same, by the entry of their list
+pub record Finds (body : Bytes) (work : List ℕ) (k list from count skip : ℕ) (name : Bytes) (r : Found) : Type 0 where
+  pub go : ((base : ℕ) → list ≡ suc base → Listed body skip (texts skip count (drop from body)) work k base) → FindsText body from count skip name r
 
 -- the text of a row
 unfoldable pub rowText : Bytes → List ℕ → ℕ → ℕ → ℕ → Bytes

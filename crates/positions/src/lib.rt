@@ -6,7 +6,7 @@ ghost use Prim.Native.Nat.{_<_, _+_};
 ghost use lib.ListN.{drop};
 ghost use Rattle.script_spec.specs.Base.{before};
 ghost use Rattle.index.specs.Lists.{firstText};
-ghost use Rattle.positions.specs.Found.{FindsText, FindsListed, Halves, Few};
+ghost use Rattle.positions.specs.Found.{FindsText, FindsListed, Finds, Halves, Few};
 
 // Where a text stands in a list.
 pub enum Found {
@@ -15,7 +15,7 @@ pub enum Found {
 }
 
 // Where a text stands among so many texts from a place of the body on, with so many bytes after each.
-pub fn find_text(body: &[u8], from: usize, count: u32, skip: usize, name: &[u8]) -> Found
+fn find_text(body: &[u8], from: usize, count: u32, skip: usize, name: &[u8]) -> Found
     ensures { λ r. ⌜ FindsText (now (body .entry)) from count skip (now (name .entry)) r ⌝ }
 {
     let mut at = from;
@@ -74,7 +74,7 @@ fn few(n: u32) -> u32
 }
 
 // Where a text stands among texts that have a list whose first row is `base`.
-pub fn find_listed(
+fn find_listed(
     body: &[u8],
     work: &[u32],
     k: usize,
@@ -101,4 +101,23 @@ pub fn find_listed(
         Found::At(i) => Found::At(first + i),
         Found::Nowhere => Found::Nowhere,
     }
+}
+
+// Where a text stands among so many texts, by the entry that the index has for their list: one more than its first row, or 0.
+pub fn find(
+    body: &[u8],
+    work: &[u32],
+    k: usize,
+    list: u32,
+    from: usize,
+    count: u32,
+    skip: usize,
+    name: &[u8],
+) -> Found
+    ensures { λ r. ⌜ Finds (now (body .entry)) (now (work .entry)) k list from count skip (now (name .entry)) r ⌝ }
+{
+    if list == 0 {
+        return find_text(body, from, count, skip, name);
+    }
+    find_listed(body, work, k, list - 1, from, count, skip, name)
 }

@@ -1,4 +1,3 @@
 pub mod NegoLaws
 pub mod NegationLaws
-pub mod SearchLaws
 pub mod MemberLaws

@@ -1,9 +1,9 @@
 -- The lines of a type from its entry: of a record type, of an enum, of an entity type, and of a datatype by its mark.
 -- Assumes nothing.
-use mathlib.Core.Path.{_≡_, refl, sym, ap, _∙_}
+use mathlib.Core.Path.{_≡_, sym, ap, _∙_}
 use mathlib.Core.List.{List, [], _++_}
 use mathlib.Core.Option.{none, some}
-use Prim.Native.Nat.{ℕ, zero, suc, _<_, _≤_}
+use Prim.Native.Nat.{ℕ, _<_, _≤_}
 use native.Mathlib.Omega.{arith}
 use lib.ListN.{length, drop}
 use borrow.Author.Tests.{lt-ltb, le-ltb}

@@ -3,17 +3,12 @@
 use mathlib.Core.Path.{refl}
 use mathlib.Core.Logic.{inl, inr}
 use native.Mathlib.Omega.{arith}
-use borrow.Author.Needs.{needs}
 use Rattle.positions.proofs.few.Statement.{statement}
 use Rattle.positions.proofs.few.Tie as tie
-use Rattle.positions.proofs.few.Reads as reads
-use Rattle.positions.proofs.few.Lts as lts
 
--- src/lib.rt:71:9
 returns : tie.Need-returns
 returns c = record { most = omega arith; small = omega arith; whole = inl refl }
 
--- src/lib.rt:67:1
 returns-2 : tie.Need-returns-2
 returns-2 c = record { most = omega arith; small = omega arith; whole = inr refl }
 
