@@ -19,7 +19,7 @@ use Rattle.writer.proofs.Laws.{_then_, says}
 use Rattle.bitvec.proofs.Powers.{power-whole}
 use Rattle.pattern.specs.Elements.{elements}
 use Rattle.index.specs.First.{All, Below, MarkInRange}
-use Rattle.entry.specs.Places.{numberAt}
+use Rattle.index.specs.Lists.{numberAt}
 use Rattle.operator.specs.Operators.{opOf}
 use Rattle.operator.specs.declared.Op as operator
 use Rattle.operator.specs.declared.Op.the-variants as op

@@ -21,7 +21,7 @@ use Rattle.index.specs.First.{All}
 use Rattle.index.specs.Standing.{loose, entryRead, entryOf, entryAt, bodyAt}
 use Rattle.index.specs.Meaning.{Index}
 use Rattle.index.proofs.Readers.{Gives, Pairwise, Line, _&_, got-value, gives-pure, gives-after, lookup-pairwise}
-use Rattle.entry.specs.Places.{numberAt}
+use Rattle.index.specs.Lists.{numberAt}
 use Rattle.entry.proofs.Inverse.{entry-whole, bind-inverse, u32-inverse, tested-inverse}
 use Rattle.entry.proofs.TermRows.{term-stands}
 use Rattle.term_entry.specs.Terms.{termSaid, TermAt}

@@ -16,7 +16,7 @@ use Rattle.pattern.specs.Elements.{elements}
 use Rattle.index.specs.First.{OpInRange, Below}
 use Rattle.index.specs.Meaning.{Index, counted}
 use Rattle.naming.specs.Naming.{Numbers}
-use Rattle.entry.specs.Places.{numberAt}
+use Rattle.index.specs.Lists.{numberAt}
 use Rattle.operator.specs.Operators.{opOf}
 use Rattle.operator.specs.declared.Op as operator
 use Rattle.term_entry.specs.Terms.{childrenIn}

@@ -5,7 +5,7 @@ ghost use lib.ListN.{drop};
 ghost use Rattle.script_spec.specs.Command.{line, comment};
 ghost use Rattle.script_spec.specs.Spelling.{entityComment};
 ghost use Rattle.writer.specs.Writing.{Appends};
-ghost use Rattle.entry.specs.Places.{texts};
+ghost use Rattle.index.specs.Lists.{texts};
 
 // Writes the comment of an entity type that is no enum.
 pub fn put_entity_comment(out: &mut [u8], at: usize, limit: usize, name: &[u8]) -> usize

@@ -20,7 +20,7 @@ use Rattle.record_rules.specs.Marks.{markOf}
 use Rattle.record_rules.proofs.Marks.{entry-mark}
 use Rattle.search.specs.Searchable.{Indexed}
 use Rattle.search.proofs.Entered.{indexed-input}
-use Rattle.entry.specs.Places.{numberAt}
+use Rattle.index.specs.Lists.{numberAt}
 use Rattle.entry.proofs.Inverse.{entry-whole, bind-inverse, tested-inverse}
 use Rattle.enter.specs.Entering.{Enters}
 use Rattle.enter.specs.Inputs.{inputCount}

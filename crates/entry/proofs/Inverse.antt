@@ -13,7 +13,8 @@ use Rattle.script_spec.specs.Utf8.{isUtf8}
 use Rattle.script_spec.specs.Fields.{Entry, Read, got, bad, Reader, _>>=_, pure, ensure, low, number, part, u32, text, times, ref, pair, whole}
 use Rattle.index.specs.Standing.{entryRead}
 use Rattle.index.proofs.Readers.{bad-not-got, got-value}
-use Rattle.entry.specs.Places.{numberAt, firstText, textSize, namedItems}
+use Rattle.index.specs.Lists.{numberAt, firstText, textSize}
+use Rattle.entry.specs.Places.{namedItems}
 
 pub got-rest : {A : Type 0} (a b : A) (s rest : Bytes) → got a s ≡ got b rest → s ≡ rest
 got-rest a b s rest e = cc

@@ -19,7 +19,8 @@ use Rattle.term_file.specs.Marks.{Marked, MarkedAs, mark}
 use Rattle.term_file.specs.declared.mark.Kind.{Kind}
 use Rattle.term_file.specs.declared.mark.Kind.the-variants as kind
 use Rattle.term_file.proofs.Marked.{names, unmarked}
-use Rattle.entry.specs.Places.{numberAt, firstText, textSize, namedItems, texts, IsText}
+use Rattle.index.specs.Lists.{numberAt, firstText, textSize, texts}
+use Rattle.entry.specs.Places.{namedItems, IsText}
 use Rattle.entry.proofs.Inverse.{u32-inverse}
 
 -- ---- numbers
@@ -108,3 +109,9 @@ pub texts-named : (n : ℕ) (s : Bytes) → firsts (namedItems n s) ≡ texts 4 
 unfolding firsts namedItems texts
 texts-named zero s = refl
 texts-named (suc n) s = ap (λ (l : List Bytes). firstText s ∷ l) (texts-named n (drop 4 (drop (textSize s) s)))
+
+-- so many texts are so many
+pub length-texts : (skip n : ℕ) (s : Bytes) → length (texts skip n s) ≡ n
+unfolding texts
+length-texts skip zero s = refl
+length-texts skip (suc n) s = ap suc (length-texts skip n (drop skip (drop (textSize s) s)))

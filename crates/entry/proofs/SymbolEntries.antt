@@ -16,7 +16,8 @@ use Rattle.term_file.specs.Marks.{mark, Marked}
 use Rattle.term_file.proofs.mark.Kind.{the-type}
 use Rattle.term_file.specs.declared.mark.Kind.{Kind}
 use Rattle.term_file.specs.declared.mark.Kind.the-variants as kind
-use Rattle.entry.specs.Places.{numberAt, texts, IsText}
+use Rattle.index.specs.Lists.{numberAt, texts}
+use Rattle.entry.specs.Places.{IsText}
 use Rattle.entry.specs.Symbols.{textOf, IsEnum, IsFun, EnumAt, FunAt}
 use Rattle.entry.specs.declared.symbols.Enum.{Enum}
 use Rattle.entry.specs.declared.symbols.Fun.{Fun}

@@ -22,7 +22,8 @@ use Rattle.term_file.specs.Marks.{mark, Marked}
 use Rattle.term_file.proofs.mark.Kind.{the-type}
 use Rattle.term_file.specs.declared.mark.Kind.{Kind}
 use Rattle.term_file.specs.declared.mark.Kind.the-variants as kind
-use Rattle.entry.specs.Places.{numberAt, firstText, namedItems}
+use Rattle.index.specs.Lists.{numberAt, firstText}
+use Rattle.entry.specs.Places.{namedItems}
 use Rattle.entry.specs.Types.{extTypeOf, typeSaid, IsType, TypeAt}
 use Rattle.entry.specs.declared.types.ExtType.{ExtType}
 use Rattle.entry.specs.declared.types.TypeEntry.{TypeEntry}

@@ -8,7 +8,7 @@ use lib.ListN.{take, drop}
 use Rattle.script_spec.specs.Base.{Bytes}
 use Rattle.script_spec.specs.Fields as fields
 use Rattle.index.specs.Standing.{bodyAt, entryOf, entryAt}
-use Rattle.entry.specs.Places.{texts}
+use Rattle.index.specs.Lists.{texts}
 use Rattle.entry.specs.declared.lists.Text.{Text}
 use Rattle.entry.specs.declared.symbols.Enum.{Enum}
 use Rattle.entry.specs.declared.symbols.Fun.{Fun}

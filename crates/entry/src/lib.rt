@@ -10,7 +10,7 @@ ghost use mathlib.Core.Path.{_≡_};
 ghost use Prim.Native.Nat.{_<_, _^_};
 ghost use Rattle.index.specs.Standing.{markAt, bodyAt};
 ghost use Rattle.term_file.specs.Marks.{Marked};
-ghost use Rattle.entry.specs.Places.{numberAt};
+ghost use Rattle.index.specs.Lists.{numberAt};
 
 pub fn wide(n: u32) -> usize
     ensures { λ r. ⌜ (r ≡ n) × (r < 2 ^ 32) ⌝ }

@@ -13,6 +13,8 @@ use lib.Dec.{ltb}
 use lib.ListN.{length, getD, replicate, length-set, length-replicate, getD-replicate, List·getD-eq-default}
 use lib.Seq.{getD-set-same, getD-set-other, set-out}
 use Rattle.index.specs.Cells.{placed, standing, offset, cell, store}
+unfoldable pub use Rattle.index.specs.Cells.{shared}
+pub use Rattle.index.specs.Cells.{Apart}
 
 -- an entry that the memory has
 pub record Inside (size k column i : ℕ) : Type 0 where
@@ -28,10 +30,6 @@ base column = placed (ltb column 12) column (column - 12)
 
 row : ℕ → ℕ → ℕ → ℕ
 row k column i = placed (ltb column 12) i (k - 1 - i)
-
--- the column with which a column shares
-unfoldable pub shared : ℕ → ℕ
-shared column = placed (ltb column 12) (column + 12) (column - 12)
 
 module _ (k column i : ℕ) where
   standing-start : column < 12 → standing k column i ≡ column * k + i
@@ -136,11 +134,6 @@ offset-apart k c c′ i i′ n h h′ e = go (decLt c c′) (decLt c′ c)
         n q (omega (arith, ap (λ (m : ℕ). m * k) q))
 
 -- ---- two entries
-
--- neither the same entry, nor one that is counted from the other end
-pub record Apart (k column i column′ i′ : ℕ) : Type 0 where
-  pub other : column ≡ column′ → i ≡ i′ → ⊥
-  pub facing : shared column ≡ column′ → suc (i + i′) ≡ k → ⊥
 
 -- two entries of columns that share with no one
 pub apart-plain : {k column i column′ i′ : ℕ} → column < 12 → column′ < 12 → (column ≡ column′ → i ≡ i′ → ⊥) → Apart k column i column′ i′

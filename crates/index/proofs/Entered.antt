@@ -15,6 +15,7 @@ use Rattle.script_spec.specs.Fields as fields
 use Rattle.script_spec.specs.File.{TermFile, Named, type, enum, func, term, input, types, funs, terms, inputs, enums, typeAt, termAt, named, earlier}
 use Rattle.index.specs.Cells.{cell, hash}
 use Rattle.index.specs.Names.{Names}
+use Rattle.index.specs.Lists.{Blank}
 use Rattle.index.specs.First.{orElse, firstType, InRange}
 use Rattle.index.specs.Meaning.{Stands, counted, inputAt, Indexed}
 use Rattle.index.proofs.Growth.{lists-type, lists-func, lists-term, lists-enum, lists-input, type-added, fun-added, term-added, types-kept, terms-kept}
@@ -22,12 +23,12 @@ use Rattle.index.proofs.Later.{more-append, in-range-more, named-kept}
 use Rattle.index.proofs.Stores.{TypeStored, FunStored, TermStored, EnumStored, InputStored}
 use Rattle.index.proofs.Names.{Stays, names-none, names-same}
 use Rattle.index.proofs.Places.{place-last}
-use Rattle.index.proofs.Rows.{index-grown, depths-grown}
+use Rattle.index.proofs.Rows.{listed-none, index-grown, depths-grown}
 
--- any memory is the index of no records
-pub indexed-none : (file : Bytes) (work : List ℕ) (k : ℕ) → 12 * k ≤ length work → Indexed file [] work k
+-- a memory without lists is the index of no records
+pub indexed-none : (file : Bytes) (work : List ℕ) (k : ℕ) → 12 * k ≤ length work → Blank 0 0 work k → Indexed file [] work k
 unfolding types funs terms inputs enums collect
-indexed-none file work k fits =
+indexed-none file work k fits blank =
     record {
       index =
           record {
@@ -39,8 +40,9 @@ indexed-none file work k fits =
             input-row = λ n l. absurd (not-suc-le-zero l);
             fit = omega arith;
             names = names-none work k;
+            listed = listed-none file [] work k blank (omega arith);
           };
-      depths = record { type-depth = λ n l. absurd (not-suc-le-zero l); term-depth = λ n l. absurd (not-suc-le-zero l) };
+      depths = record { type-depth = λ n l. absurd (not-suc-le-zero l); term-depth = λ n l. absurd (not-suc-le-zero l); blank = blank };
     }
 
 -- ---- the new record's references
@@ -96,6 +98,10 @@ module _ {file : Bytes} {f : TermFile} {o : ℕ} {r : Named} (s : Stands file f 
 
 -- ---- each kind
 
+-- the counts of the longer file
+blank-counts : {ty fn ty′ fn′ : ℕ} {work : List ℕ} {k : ℕ} → ty′ ≡ ty → fn′ ≡ fn → Blank ty fn work k → Blank ty′ fn′ work k
+blank-counts p q B = rw (p, q) B
+
 module _ {file : Bytes} {f : TermFile} {work work′ : List ℕ} {k : ℕ} (I : Indexed file f work k) (room : suc (length f) ≤ k) where
   pub indexed-type : {o m d : ℕ} {t : Ty} → TypeStored f k o m d work work′ → Stays (cell work k hash) (cell work′ k hash) → Stands file f (earlier f) o (type t) → m ≡ orElse (length (types f)) (place (eqTy t) (types f)) → d ≡ depth t
       → Indexed file (f ++ (type t ∷ [])) work′ k
@@ -103,6 +109,7 @@ module _ {file : Bytes} {f : TermFile} {work work′ : List ℕ} {k : ℕ} (I : 
   indexed-type {t} S stays s first-is depth-is =
       let L = lists-type f t in
       let A = type-added f t in
+      let B = blank-counts (A .count-added) (ap length (L .funs-are)) (S .unlisted (I .depths .blank)) in
       record {
         index =
             index-grown file f (type t) k (S .untouched) (I .index) room
@@ -111,11 +118,12 @@ module _ {file : Bytes} {f : TermFile} {work work′ : List ℕ} {k : ℕ} (I : 
             (λ l. absurd (omega (arith, ap length (L .terms-are))))
             (λ l. absurd (omega (arith, ap length (L .enums-are))))
             (λ l. absurd (omega (arith, ap length (L .inputs-are))))
-            (names-same stays (I .index .names) (L .enums-are));
+            (names-same stays (I .index .names) (L .enums-are)) B;
         depths =
             depths-grown file f (type t) k (S .untouched) (I .depths)
             (λ l. S .depth-is ∙ depth-is ∙ ap depth (sym (A .name-added)))
-            (λ l. absurd (omega (arith, ap length (L .terms-are))));
+            (λ l. absurd (omega (arith, ap length (L .terms-are))))
+            B;
       }
 
   pub indexed-func : {o m : ℕ} {g : Fun} → FunStored f k o m work work′ → Stays (cell work k hash) (cell work′ k hash) → Stands file f (earlier f) o (func g) → m ≡ orElse (length (funs f)) (place (eqFun g) (funs f))
@@ -124,6 +132,7 @@ module _ {file : Bytes} {f : TermFile} {work work′ : List ℕ} {k : ℕ} (I : 
   indexed-func {g} S stays s first-is =
       let L = lists-func f g in
       let A = fun-added f g in
+      let B = blank-counts (ap length (L .types-are)) (A .count-added) (S .unlisted (I .depths .blank)) in
       record {
         index =
             index-grown file f (func g) k (S .untouched) (I .index) room
@@ -132,11 +141,12 @@ module _ {file : Bytes} {f : TermFile} {work work′ : List ℕ} {k : ℕ} (I : 
             (λ l. absurd (omega (arith, ap length (L .terms-are))))
             (λ l. absurd (omega (arith, ap length (L .enums-are))))
             (λ l. absurd (omega (arith, ap length (L .inputs-are))))
-            (names-same stays (I .index .names) (L .enums-are));
+            (names-same stays (I .index .names) (L .enums-are)) B;
         depths =
             depths-grown file f (func g) k (S .untouched) (I .depths)
             (λ l. absurd (omega (arith, ap length (L .types-are))))
-            (λ l. absurd (omega (arith, ap length (L .terms-are))));
+            (λ l. absurd (omega (arith, ap length (L .terms-are))))
+            B;
       }
 
   pub indexed-term : {o m τ d : ℕ} {t : Tm} → TermStored f k o m τ d (length f) work work′ → Stays (cell work k hash) (cell work′ k hash) → Stands file f (earlier f) o (term t) → m ≡ orElse (length (terms f)) (place (eqTm t) (terms f))
@@ -146,6 +156,7 @@ module _ {file : Bytes} {f : TermFile} {work work′ : List ℕ} {k : ℕ} (I : 
       let L = lists-term f t in
       let A = term-added f t in
       let K = types-kept f (term t) in
+      let B = blank-counts (ap length (L .types-are)) (ap length (L .funs-are)) (S .unlisted (I .depths .blank)) in
       record {
         index =
             index-grown file f (term t) k (S .untouched) (I .index) room
@@ -161,17 +172,19 @@ module _ {file : Bytes} {f : TermFile} {work work′ : List ℕ} {k : ℕ} (I : 
             })
             (λ l. absurd (omega (arith, ap length (L .enums-are))))
             (λ l. absurd (omega (arith, ap length (L .inputs-are))))
-            (names-same stays (I .index .names) (L .enums-are));
+            (names-same stays (I .index .names) (L .enums-are)) B;
         depths =
             depths-grown file f (term t) k (S .untouched) (I .depths)
             (λ l. absurd (omega (arith, ap length (L .types-are))))
-            (λ l. S .depth-is ∙ depth-is ∙ ap depth (sym (A .name-added)));
+            (λ l. S .depth-is ∙ depth-is ∙ ap depth (sym (A .name-added)))
+            B;
       }
 
   pub indexed-enum : {o : ℕ} {name : Bytes} {members : List Bytes} → EnumStored f k o work work′ → Names (f ++ (enum name members ∷ [])) work′ k → Stands file f (earlier f) o (enum name members) → Indexed file (f ++ (enum name members ∷ [])) work′ k
   indexed-enum {name} {members} S names s =
       let L = lists-enum f name members in
       let last : getD (enums (f ++ (enum name members ∷ []))) (length (enums f)) ([], []) ≡ (name, members) = rw (L .enums-are) (getD-append-seam (enums f) (name, members) [] ([], [])) in
+      let B = blank-counts (ap length (L .types-are)) (ap length (L .funs-are)) (S .unlisted (I .depths .blank)) in
       record {
         index =
             index-grown file f (enum name members) k (S .untouched) (I .index) room
@@ -180,11 +193,12 @@ module _ {file : Bytes} {f : TermFile} {work work′ : List ℕ} {k : ℕ} (I : 
             (λ l. absurd (omega (arith, ap length (L .terms-are))))
             (λ l. rw last record { stands = rw (S .offset-is) (s .reads ∙ ap some (enum-entry f (s .entry) name members (s .names))) })
             (λ l. absurd (omega (arith, ap length (L .inputs-are))))
-            names;
+            names B;
         depths =
             depths-grown file f (enum name members) k (S .untouched) (I .depths)
             (λ l. absurd (omega (arith, ap length (L .types-are))))
-            (λ l. absurd (omega (arith, ap length (L .terms-are))));
+            (λ l. absurd (omega (arith, ap length (L .terms-are))))
+            B;
       }
 
   pub indexed-input : {n : ℕ} → InputStored f k n work work′ → Stays (cell work k hash) (cell work′ k hash) → n < length (terms f) → Indexed file (f ++ (input (termAt f n) ∷ [])) work′ k
@@ -192,6 +206,7 @@ module _ {file : Bytes} {f : TermFile} {work work′ : List ℕ} {k : ℕ} (I : 
   indexed-input {n} S stays below =
       let t = termAt f n in
       let L = lists-input f t in
+      let B = blank-counts (ap length (L .types-are)) (ap length (L .funs-are)) (S .unlisted (I .depths .blank)) in
       record {
         index =
             index-grown file f (input t) k (S .untouched) (I .index) room
@@ -203,9 +218,10 @@ module _ {file : Bytes} {f : TermFile} {work work′ : List ℕ} {k : ℕ} (I : 
               below = rw (S .term-is) (omega (arith, more-append f (input t) .terms-more));
               is = rw (S .term-is) (terms-kept f (input t) .name-kept n below ∙ sym (rw (L .inputs-are) (getD-append-seam (inputs f) t [] _)));
             })
-            (names-same stays (I .index .names) (L .enums-are));
+            (names-same stays (I .index .names) (L .enums-are)) B;
         depths =
             depths-grown file f (input t) k (S .untouched) (I .depths)
             (λ l. absurd (omega (arith, ap length (L .types-are))))
-            (λ l. absurd (omega (arith, ap length (L .terms-are))));
+            (λ l. absurd (omega (arith, ap length (L .terms-are))))
+            B;
       }

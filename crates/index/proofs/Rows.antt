@@ -1,7 +1,7 @@
 -- The index of a file with one record more: old rows are kept where their entries are, and the new record's row is added.
 -- Assumes nothing.
 use mathlib.Core.Path.{_≡_, sym, ap, _∙_, subst}
-use Prim.Native.Nat.{ℕ, suc, _+_, _≤_, _<_}
+use Prim.Native.Nat.{ℕ, suc, _+_, _*_, _≤_, _<_}
 use native.Mathlib.Nat.{le-refl}
 use native.Mathlib.Omega.{arith}
 use mathlib.Core.Logic.{_⊎_, ⊎-elim}
@@ -11,10 +11,11 @@ use Rattle.script_spec.specs.Base.{Bytes}
 use Rattle.script_spec.specs.Tree.{typeOf, depth}
 use Rattle.script_spec.specs.Fields.{Earlier}
 use Rattle.script_spec.specs.File.{TermFile, Named, types, funs, terms, inputs, enums, typeAt, termAt, earlier}
-use Rattle.index.specs.Cells.{cell, typeOffset, typeFirst, typeDepth, funOffset, funFirst, termOffset, termFirst, termType, termDepth, enumOffset, termPlace, inputTerm}
+use Rattle.index.specs.Cells.{cell, typeOffset, typeFirst, typeDepth, funOffset, funFirst, termOffset, termFirst, termType, termDepth, enumOffset, termPlace, inputTerm, enumList, typeList, listRow}
 use Rattle.index.specs.Names.{Names}
-use Rattle.index.specs.Meaning.{Stands, counted, inputAt, TypeRow, FunRow, TermRow, EnumRow, InputRow, Index, Depths}
-use Rattle.index.proofs.Growth.{lists-append, types-kept, funs-kept, terms-kept, Grown, types-grown, funs-grown, terms-grown, enums-grown, inputs-grown, counts-fewer}
+use Rattle.index.specs.Lists.{Listed, Blank}
+use Rattle.index.specs.Meaning.{Stands, counted, inputAt, TypeRow, FunRow, TermRow, EnumRow, InputRow, Listings, Index, Depths}
+use Rattle.index.proofs.Growth.{counts-together, lists-append, types-kept, funs-kept, terms-kept, Grown, types-grown, funs-grown, terms-grown, enums-grown, inputs-grown, counts-fewer}
 use Rattle.index.proofs.Later.{More, more-append, in-range-more, named-kept}
 use Rattle.index.proofs.Places.{place-kept}
 use Rattle.index.proofs.Stores.{used, Untouched}
@@ -22,6 +23,22 @@ use Rattle.index.proofs.Stores.{used, Untouched}
 -- what holds of the old numbers, and of the new one where there is one, holds of all
 all-rows : {A : Type 0} (xs zs : List A) (P : ℕ → Type 0) → Grown xs zs → ((n : ℕ) → n < length xs → P n) → (length xs < length zs → P (length xs)) → (n : ℕ) → n < length zs → P n
 all-rows xs zs P g old new n l = ⊎-elim (λ h. old n h) (λ e. subst P (sym e) (new (omega arith))) (g n l)
+
+-- ---- lists
+
+-- a list whose rows have what they had
+pub listed-same : {body body′ : Bytes} {skip : ℕ} {names : List Bytes} {work work′ : List ℕ} {k base : ℕ} → body′ ≡ body → ((j : ℕ) → 2 * j < length names → cell work′ k listRow (base + j) ≡ cell work k listRow (base + j))
+    → Listed body skip names work k base → Listed body′ skip names work′ k base
+listed-same e same L = rw e record { ordered = L .ordered; rows = λ j l. rw (same j l) (L .rows j l) }
+
+-- where no list is made, there is none to speak of
+pub listed-none : (file : Bytes) (f : TermFile) (work : List ℕ) (k : ℕ) → Blank (length (types f)) (length (funs f)) work k → length f ≤ k → Listings file f work k
+listed-none file f work k B fit =
+    let few = counts-together f in
+    record {
+      of-types = record { list = λ t base l e names a. absurd (let z : 0 ≡ suc base = sym (B .no-type-list t (omega arith)) ∙ e in omega arith) };
+      of-enums = record { list = λ t base l e names a. absurd (let z : 0 ≡ suc base = sym (B .no-enum-list t (omega arith)) ∙ e in omega arith) };
+    }
 
 -- ---- old rows
 
@@ -96,8 +113,9 @@ module _ (file : Bytes) (f : TermFile) (r : Named) (k : ℕ) {work work′ : Lis
       → (length (enums f) < length (enums (f ++ (r ∷ []))) → EnumRow file (f ++ (r ∷ [])) work′ k (length (enums f)) (getD (enums (f ++ (r ∷ []))) (length (enums f)) ([], []) .0) (getD (enums (f ++ (r ∷ []))) (length (enums f)) ([], []) .1))
       → (length (inputs f) < length (inputs (f ++ (r ∷ []))) → InputRow file (f ++ (r ∷ [])) work′ k (length (inputs f)))
       → Names (f ++ (r ∷ [])) work′ k
+      → Blank (length (types (f ++ (r ∷ [])))) (length (funs (f ++ (r ∷ [])))) work′ k
       → Index file (f ++ (r ∷ [])) work′ k
-  index-grown I room new-type new-fun new-term new-enum new-input names =
+  index-grown I room new-type new-fun new-term new-enum new-input names blank =
       record {
         fits = rw (U .same-size) (I .fits);
         type-row = all-rows (types f) (types (f ++ (r ∷ []))) (TypeRow file (f ++ (r ∷ [])) work′ k) (types-grown f r) (λ n l. type-kept n l (I .type-row n l)) new-type;
@@ -107,17 +125,23 @@ module _ (file : Bytes) (f : TermFile) (r : Named) (k : ℕ) {work work′ : Lis
             all-rows (enums f) (enums (f ++ (r ∷ []))) (λ n. EnumRow file (f ++ (r ∷ [])) work′ k n (getD (enums (f ++ (r ∷ []))) n ([], []) .0) (getD (enums (f ++ (r ∷ []))) n ([], []) .1)) (enums-grown f r)
             (λ n l. enum-kept n l (getD (enums f) n ([], [])) (getD (enums (f ++ (r ∷ []))) n ([], [])) (enum-old n l) (I .enum-row n l)) new-enum;
         input-row = all-rows (inputs f) (inputs (f ++ (r ∷ []))) (InputRow file (f ++ (r ∷ [])) work′ k) (inputs-grown f r) (λ n l. input-kept n l (I .input-row n l)) new-input;
-        fit = rw length-append (omega arith);
+        fit = fit-grown;
         names = names;
+        listed = listed-none file (f ++ (r ∷ [])) work′ k blank fit-grown;
       }
+    where
+      fit-grown : length (f ++ (r ∷ [])) ≤ k
+      fit-grown = rw length-append (omega arith)
 
   pub depths-grown : Depths file f work k
       → (length (types f) < length (types (f ++ (r ∷ []))) → cell work′ k typeDepth (length (types f)) ≡ depth (typeAt (f ++ (r ∷ [])) (length (types f))))
       → (length (terms f) < length (terms (f ++ (r ∷ []))) → cell work′ k termDepth (length (terms f)) ≡ depth (termAt (f ++ (r ∷ [])) (length (terms f))))
+      → Blank (length (types (f ++ (r ∷ [])))) (length (funs (f ++ (r ∷ [])))) work′ k
       → Depths file (f ++ (r ∷ [])) work′ k
   unfolding used
-  depths-grown D new-type new-term =
+  depths-grown D new-type new-term blank =
       record {
+        blank = blank;
         type-depth =
             all-rows (types f) (types (f ++ (r ∷ []))) (λ n. cell work′ k typeDepth n ≡ depth (typeAt (f ++ (r ∷ [])) n)) (types-grown f r)
             (λ n l. U .same typeDepth n l ∙ D .type-depth n l ∙ ap depth (sym (types-kept f r .name-kept n l))) new-type;

@@ -6,19 +6,13 @@ use native.Mathlib.Omega.{arith}
 use mathlib.Core.List.{List, [], _∷_}
 use lib.ListN.{length, getD}
 use Rattle.script_spec.specs.File.{TermFile, types, funs, terms, inputs, enums}
-use Rattle.index.specs.Cells.{placed, cell, store, typeOffset, typeFirst, typeDepth, funOffset, funFirst, termOffset, termFirst, termType, termDepth, enumOffset, hash, termPlace, inputTerm}
+use Rattle.index.specs.Cells.{placed, cell, store, typeOffset, typeFirst, typeDepth, funOffset, funFirst, termOffset, termFirst, termType, termDepth, enumOffset, hash, termPlace, inputTerm, enumList, typeList}
+use Rattle.index.specs.Lists.{Blank}
+unfoldable pub use Rattle.index.specs.Meaning.{used}
 use Rattle.index.proofs.Cells.{shared, Apart, length-store, cell-store-same, cell-store-apart}
 use Rattle.index.proofs.Growth.{counts-together}
 
 -- ---- rows that stay
-
--- how many entries of each column the records f have, column after column; the slots belong to no record
-unfoldable pub used : TermFile → ℕ → ℕ
-used f column =
-    let ty = length (types f) in
-    let fn = length (funs f) in
-    let tm = length (terms f) in
-    getD (ty ∷ ty ∷ ty ∷ fn ∷ fn ∷ fn ∷ tm ∷ tm ∷ tm ∷ tm ∷ length (enums f) ∷ 0 ∷ tm ∷ 0 ∷ 0 ∷ 0 ∷ 0 ∷ 0 ∷ 0 ∷ 0 ∷ 0 ∷ 0 ∷ length (inputs f) ∷ []) column 0
 
 -- the rows of the records f have what they had
 pub record Untouched (f : TermFile) (k : ℕ) (work work′ : List ℕ) : Type 0 where
@@ -51,12 +45,46 @@ pub untouched-slot : (f : TermFile) (k : ℕ) (work : List ℕ) (i v : ℕ) → 
 unfolding used shared placed
 untouched-slot f k work i v l = untouched-store (untouched-refl f k work) hash i v (record { after = omega arith; before = omega arith })
 
+-- ---- lists that are not made
+
+-- a store in a column that shares with no list
+pub blank-store : {ty fn : ℕ} {work : List ℕ} {k : ℕ} → Blank ty fn work k → (column n v : ℕ) → (column ≡ typeList → ⊥) → (shared column ≡ typeList → ⊥) → (column ≡ enumList → ⊥) → (shared column ≡ enumList → ⊥)
+    → Blank ty fn (store work k column n v) k
+blank-store {work = work} {k} B column n v a b a′ b′ =
+    record {
+      no-type-list = λ i l. cell-store-apart work k column n v typeList i (record { other = λ e q. a e; facing = λ e q. b e }) ∙ B .no-type-list i l;
+      no-enum-list = λ i l. cell-store-apart work k column n v enumList i (record { other = λ e q. a′ e; facing = λ e q. b′ e }) ∙ B .no-enum-list i l;
+    }
+
+-- a slot
+pub blank-slot : {ty fn : ℕ} {work : List ℕ} {k : ℕ} → Blank ty fn work k → (i v : ℕ) → Blank ty fn (store work k hash i v) k
+unfolding shared placed
+blank-slot B i v = blank-store B hash i v (λ e. omega arith) (λ e. omega arith) (λ e. omega arith) (λ e. omega arith)
+
+-- the number of the first equal type, and function, of a new one
+blank-type : {ty fn : ℕ} {work : List ℕ} {k : ℕ} → Blank ty fn work k → (v : ℕ) → Blank (suc ty) fn (store work k typeFirst ty v) k
+unfolding shared placed
+blank-type {ty} {work = work} {k} B v =
+    record {
+      no-type-list = λ i l. cell-store-apart work k typeFirst ty v typeList i (record { other = λ e q. omega arith; facing = λ e q. omega arith }) ∙ B .no-type-list i l;
+      no-enum-list = λ i l. cell-store-apart work k typeFirst ty v enumList i (record { other = λ e q. omega arith; facing = λ e q. omega arith }) ∙ B .no-enum-list i (omega arith);
+    }
+
+blank-fun : {ty fn : ℕ} {work : List ℕ} {k : ℕ} → Blank ty fn work k → (v : ℕ) → Blank ty (suc fn) (store work k funFirst fn v) k
+unfolding shared placed
+blank-fun {fn = fn} {work} {k} B v =
+    record {
+      no-type-list = λ i l. cell-store-apart work k funFirst fn v typeList i (record { other = λ e q. omega arith; facing = λ e q. omega arith }) ∙ B .no-type-list i (omega arith);
+      no-enum-list = λ i l. cell-store-apart work k funFirst fn v enumList i (record { other = λ e q. omega arith; facing = λ e q. omega arith }) ∙ B .no-enum-list i l;
+    }
+
 -- ---- whole rows
 
 module _ (f : TermFile) (k : ℕ) where
   -- the row of a type is stored
   pub record TypeStored (offset first depth : ℕ) (work work′ : List ℕ) : Type 0 where
     pub untouched : Untouched f k work work′
+    pub unlisted : Blank (length (types f)) (length (funs f)) work k → Blank (suc (length (types f))) (length (funs f)) work′ k
     pub offset-is : cell work′ k typeOffset (length (types f)) ≡ offset
     pub first-is : cell work′ k typeFirst (length (types f)) ≡ first
     pub depth-is : cell work′ k typeDepth (length (types f)) ≡ depth
@@ -64,12 +92,14 @@ module _ (f : TermFile) (k : ℕ) where
   -- the row of a function
   pub record FunStored (offset first : ℕ) (work work′ : List ℕ) : Type 0 where
     pub untouched : Untouched f k work work′
+    pub unlisted : Blank (length (types f)) (length (funs f)) work k → Blank (length (types f)) (suc (length (funs f))) work′ k
     pub offset-is : cell work′ k funOffset (length (funs f)) ≡ offset
     pub first-is : cell work′ k funFirst (length (funs f)) ≡ first
 
   -- the row of a term
   pub record TermStored (offset first type depth place : ℕ) (work work′ : List ℕ) : Type 0 where
     pub untouched : Untouched f k work work′
+    pub unlisted : Blank (length (types f)) (length (funs f)) work k → Blank (length (types f)) (length (funs f)) work′ k
     pub offset-is : cell work′ k termOffset (length (terms f)) ≡ offset
     pub first-is : cell work′ k termFirst (length (terms f)) ≡ first
     pub type-is : cell work′ k termType (length (terms f)) ≡ type
@@ -79,11 +109,13 @@ module _ (f : TermFile) (k : ℕ) where
   -- the row of an enum
   pub record EnumStored (offset : ℕ) (work work′ : List ℕ) : Type 0 where
     pub untouched : Untouched f k work work′
+    pub unlisted : Blank (length (types f)) (length (funs f)) work k → Blank (length (types f)) (length (funs f)) work′ k
     pub offset-is : cell work′ k enumOffset (length (enums f)) ≡ offset
 
   -- the row of an input
   pub record InputStored (term : ℕ) (work work′ : List ℕ) : Type 0 where
     pub untouched : Untouched f k work work′
+    pub unlisted : Blank (length (types f)) (length (funs f)) work k → Blank (length (types f)) (length (funs f)) work′ k
     pub term-is : cell work′ k inputTerm (length (inputs f)) ≡ term
 
 module _ (f : TermFile) (k : ℕ) (work : List ℕ) (fits : 12 * k ≤ length work) (room : suc (length f) ≤ k) where
@@ -105,6 +137,7 @@ module _ (f : TermFile) (k : ℕ) (work : List ℕ) (fits : 12 * k ≤ length wo
       let b = untouched-store a typeFirst n first (record { after = omega arith; before = omega arith }) in
       record {
         untouched = untouched-store b typeDepth n depth (record { after = omega arith; before = omega arith });
+        unlisted = λ B. blank-store (blank-type (blank-store B typeOffset n offset (λ e. omega arith) (λ e. omega arith) (λ e. omega arith) (λ e. omega arith)) first) typeDepth n depth (λ e. omega arith) (λ e. omega arith) (λ e. omega arith) (λ e. omega arith);
         offset-is =
             under _ n typeDepth typeOffset depth (λ e. omega arith) (λ e. omega arith) ∙ under _ n typeFirst typeOffset first (λ e. omega arith) (λ e. omega arith)
             ∙ stored (untouched-refl f k work) typeOffset n offset (omega arith) (omega arith);
@@ -120,6 +153,7 @@ module _ (f : TermFile) (k : ℕ) (work : List ℕ) (fits : 12 * k ≤ length wo
       let a = untouched-store (untouched-refl f k work) funOffset n offset (record { after = omega arith; before = omega arith }) in
       record {
         untouched = untouched-store a funFirst n first (record { after = omega arith; before = omega arith });
+        unlisted = λ B. blank-fun (blank-store B funOffset n offset (λ e. omega arith) (λ e. omega arith) (λ e. omega arith) (λ e. omega arith)) first;
         offset-is = under _ n funFirst funOffset first (λ e. omega arith) (λ e. omega arith) ∙ stored (untouched-refl f k work) funOffset n offset (omega arith) (omega arith);
         first-is = stored a funFirst n first (omega arith) (omega arith);
       }
@@ -137,6 +171,12 @@ module _ (f : TermFile) (k : ℕ) (work : List ℕ) (fits : 12 * k ≤ length wo
       let d = untouched-store c termDepth n depth (record { after = omega arith; before = omega arith }) in
       record {
         untouched = untouched-store d termPlace n place (record { after = omega arith; before = omega arith });
+        unlisted = λ B.
+            let b1 = blank-store B termOffset n offset (λ e. omega arith) (λ e. omega arith) (λ e. omega arith) (λ e. omega arith) in
+            let b2 = blank-store b1 termFirst n first (λ e. omega arith) (λ e. omega arith) (λ e. omega arith) (λ e. omega arith) in
+            let b3 = blank-store b2 termType n type (λ e. omega arith) (λ e. omega arith) (λ e. omega arith) (λ e. omega arith) in
+            let b4 = blank-store b3 termDepth n depth (λ e. omega arith) (λ e. omega arith) (λ e. omega arith) (λ e. omega arith) in
+            blank-store b4 termPlace n place (λ e. omega arith) (λ e. omega arith) (λ e. omega arith) (λ e. omega arith);
         offset-is =
             under _ n termPlace termOffset place (λ e. omega arith) (λ e. omega arith) ∙ under _ n termDepth termOffset depth (λ e. omega arith) (λ e. omega arith)
             ∙ under _ n termType termOffset type (λ e. omega arith) (λ e. omega arith) ∙ under _ n termFirst termOffset first (λ e. omega arith) (λ e. omega arith)
@@ -158,6 +198,7 @@ module _ (f : TermFile) (k : ℕ) (work : List ℕ) (fits : 12 * k ≤ length wo
       let n = length (enums f) in
       record {
         untouched = untouched-store (untouched-refl f k work) enumOffset n offset (record { after = omega arith; before = omega arith });
+        unlisted = λ B. blank-store B enumOffset n offset (λ e. omega arith) (λ e. omega arith) (λ e. omega arith) (λ e. omega arith);
         offset-is = stored (untouched-refl f k work) enumOffset n offset (omega arith) (omega arith);
       }
 
@@ -168,5 +209,6 @@ module _ (f : TermFile) (k : ℕ) (work : List ℕ) (fits : 12 * k ≤ length wo
       let n = length (inputs f) in
       record {
         untouched = untouched-store (untouched-refl f k work) inputTerm n term (record { after = omega arith; before = omega arith });
+        unlisted = λ B. blank-store B inputTerm n term (λ e. omega arith) (λ e. omega arith) (λ e. omega arith) (λ e. omega arith);
         term-is = stored (untouched-refl f k work) inputTerm n term (omega arith) (omega arith);
       }

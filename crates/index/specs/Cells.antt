@@ -1,6 +1,7 @@
 -- The working memory as a table of columns with k entries each: what stands at an entry, and the memory after a store.
 -- Assumes nothing.
-use Prim.Native.Nat.{ℕ, _+_, _-_, _*_}
+use Prim.Native.Nat.{ℕ, suc, _+_, _-_, _*_}
+use mathlib.Core.Path.{_≡_}
 use mathlib.Core.Bool.{Bool, true, false, _&&_}
 use mathlib.Core.List.{List}
 use lib.Dec.{leb, ltb}
@@ -26,6 +27,15 @@ cell work k column i = getD work (offset (length work) k column i) 0
 -- the memory with v at the entry i of a column, unchanged where there is none
 unfoldable pub store : List ℕ → ℕ → ℕ → ℕ → ℕ → List ℕ
 store work k column i v = set work (offset (length work) k column i) v
+
+-- the column with which a column shares
+unfoldable pub shared : ℕ → ℕ
+shared column = placed (ltb column 12) (column + 12) (column - 12)
+
+-- neither the same entry, nor one that is counted from the other end
+pub record Apart (k column i column′ i′ : ℕ) : Type 0 where
+  pub other : column ≡ column′ → i ≡ i′ → ⊥
+  pub facing : shared column ≡ column′ → suc (i + i′) ≡ k → ⊥
 
 -- ---- the columns, as `COLUMNS` and the constants below it in src/lib.rt have them
 
@@ -72,3 +82,12 @@ termPlace = 12
 -- at the end of the offsets of enums
 abbrev pub inputTerm : ℕ
 inputTerm = 22
+
+abbrev pub enumList : ℕ
+enumList = 13
+
+abbrev pub typeList : ℕ
+typeList = 16
+
+abbrev pub listRow : ℕ
+listRow = 19

@@ -8,14 +8,23 @@ use mathlib.Core.List.{List, [], _∷_}
 use mathlib.Core.Option.{some}
 use lib.ListN.{length, getD}
 use Rattle.script_spec.specs.Base.{Bytes}
-use Rattle.script_spec.specs.Tree.{Tm, typeOf, depth, node, nil, Some}
+use Rattle.script_spec.specs.Tree.{Tm, typeOf, depth, node, nil, Some, attributes}
 use Rattle.script_spec.specs.Fields.{Entry, Earlier}
 use Rattle.script_spec.specs.Fields as fields
 use Rattle.script_spec.specs.File.{TermFile, Named, type, enum, func, term, input, types, funs, terms, inputs, enums, typeAt, funAt, termAt, named}
-use Rattle.index.specs.Cells.{cell, typeOffset, typeFirst, typeDepth, funOffset, funFirst, termOffset, termFirst, termType, termDepth, enumOffset, termPlace, inputTerm}
+use Rattle.index.specs.Cells.{cell, typeOffset, typeFirst, typeDepth, funOffset, funFirst, termOffset, termFirst, termType, termDepth, enumOffset, termPlace, inputTerm, enumList, typeList}
 use Rattle.index.specs.First.{firstType, firstFun, firstTerm, InRange}
 use Rattle.index.specs.Standing.{entryAt}
 use Rattle.index.specs.Names.{Names}
+use Rattle.index.specs.Lists.{ListsOf, Blank}
+
+-- how many entries of each column the records f have
+unfoldable pub used : TermFile → ℕ → ℕ
+used f column =
+    let ty = length (types f) in
+    let fn = length (funs f) in
+    let tm = length (terms f) in
+    getD (ty ∷ ty ∷ ty ∷ fn ∷ fn ∷ fn ∷ tm ∷ tm ∷ tm ∷ tm ∷ length (enums f) ∷ 0 ∷ tm ∷ 0 ∷ 0 ∷ 0 ∷ 0 ∷ 0 ∷ 0 ∷ 0 ∷ 0 ∷ 0 ∷ length (inputs f) ∷ []) column 0
 
 -- the record at an offset of the file names r among the records f, and refers only to records that e counts
 pub record Stands (file : Bytes) (f : TermFile) (e : Earlier) (offset : ℕ) (r : Named) : Type 0 where
@@ -46,6 +55,13 @@ termPlaceOf (r ∷ f) n = placeAfter r (λ m. termPlaceOf f m) n
 unfoldable pub inputAt : TermFile → ℕ → Tm
 inputAt f n = getD (inputs f) n (node Some nil)
 
+-- a type has attributes of these names, and an enum these members
+abbrev pub HasAttributes : TermFile → ℕ → List Bytes → Type 0
+HasAttributes f t names = attributes (typeAt f t) ≡ some names
+
+abbrev pub HasMembers : TermFile → ℕ → List Bytes → Type 0
+HasMembers f e names = getD (enums f) e ([], []) .1 ≡ names
+
 module _ (file : Bytes) (f : TermFile) (work : List ℕ) (k : ℕ) where
   -- the row of a type, which refers to types of lower numbers
   pub record TypeRow (n : ℕ) : Type 0 where
@@ -75,6 +91,11 @@ module _ (file : Bytes) (f : TermFile) (work : List ℕ) (k : ℕ) where
     pub below : cell work k inputTerm n < length (terms f)
     pub is : termAt f (cell work k inputTerm n) ≡ inputAt f n
 
+  -- the lists of the attributes of record types, and of the members of enums, where they are made
+  pub record Listings : Type 0 where
+    pub of-types : ListsOf file work k typeList typeOffset 4 (length (types f)) (HasAttributes f)
+    pub of-enums : ListsOf file work k enumList enumOffset 0 (length (enums f)) (HasMembers f)
+
   -- every type, function, term, enum and input of the file has its row, and every enum its slot
   pub record Index : Type 0 where
     pub fits : 12 * k ≤ length work
@@ -85,11 +106,13 @@ module _ (file : Bytes) (f : TermFile) (work : List ℕ) (k : ℕ) where
     pub input-row : (n : ℕ) → n < length (inputs f) → InputRow n
     pub fit : length f ≤ k
     pub names : Names f work k
+    pub listed : Listings
 
-  -- the depths, which check needs
+  -- the depths, which check needs, and that it makes no list
   pub record Depths : Type 0 where
     pub type-depth : (n : ℕ) → n < length (types f) → cell work k typeDepth n ≡ depth (typeAt f n)
     pub term-depth : (n : ℕ) → n < length (terms f) → cell work k termDepth n ≡ depth (termAt f n)
+    pub blank : Blank (length (types f)) (length (funs f)) work k
 
 -- the index of the records f, with the depths
 pub record Indexed (file : Bytes) (f : TermFile) (work : List ℕ) (k : ℕ) : Type 0 where

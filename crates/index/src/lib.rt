@@ -38,6 +38,15 @@ pub const TERM_PLACE: usize = 12;
 // The terms of the inputs, at the end of the offsets of the enums.
 pub const INPUT_TERM: usize = 22;
 
+// One more than the first row of the list of an enum's members, at the end of the first equal types, and of the list of a record type's
+// attributes, at the end of the first equal functions; 0 where there is no list.
+pub const ENUM_LIST: usize = 13;
+
+pub const TYPE_LIST: usize = 16;
+
+// The rows of the lists, at the end of the first equal terms: the places of every second text.
+pub const LIST_ROW: usize = 19;
+
 // How many entries each column has for a file of n bytes.
 pub fn capacity(n: usize) -> usize
     ensures { λ r. ⌜ r ≡ n / 6 ⌝ }

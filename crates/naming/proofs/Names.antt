@@ -18,10 +18,11 @@ use Rattle.script_spec.specs.Command.{Command}
 use Rattle.script_spec.specs.Walk.{State, start, enterType, enterFun, enterTerm, write, numbered, names}
 use Rattle.index.specs.Cells.{placed, cell, store, typeFirst, funFirst, termFirst}
 use Rattle.index.specs.First.{firstType, firstFun, firstTerm}
+use Rattle.index.specs.Standing.{bodyAt}
 use Rattle.index.specs.Meaning.{Index}
 use Rattle.index.proofs.Names.{names-same}
 use Rattle.index.proofs.Cells.{shared, length-store, cell-store-same, cell-store-apart, cell-store-other}
-use Rattle.index.proofs.Rows.{types-fit, funs-fit, terms-fit}
+use Rattle.index.proofs.Rows.{listed-same, types-fit, funs-fit, terms-fit}
 use Rattle.index.proofs.Firsts.{FirstEqual, Equality, first-below, first-types, first-funs, first-terms, equal-types, equal-funs, equal-terms}
 use Rattle.naming.specs.Naming.{typeName, funName, termName, isName, hasNames, nameAt, placeOf, Table, Numbers, Kept}
 use Rattle.naming.proofs.Tables.{table-start, table-same, table-place, table-enter}
@@ -87,6 +88,15 @@ module _ {file : Bytes} {f : TermFile} {work work′ : List ℕ} {k : ℕ} (K : 
         input-row = λ n l. record { below = rw (K .others 22 n refl) (I .input-row n l .below); is = rw (K .others 22 n refl) (I .input-row n l .is) };
         fit = I .fit;
         names = names-same (record { same = λ i h. K .others 11 i refl }) (I .names) refl;
+        listed =
+            record {
+              of-types = record {
+                list = λ t base l e names a. listed-same (ap (bodyAt file) (K .others 0 t refl)) (λ j l. K .others 19 (base + j) refl) (I .listed .of-types .list t base l (sym (K .others 16 t refl) ∙ e) names a);
+              };
+              of-enums = record {
+                list = λ t base l e names a. listed-same (ap (bodyAt file) (K .others 10 t refl)) (λ j l. K .others 19 (base + j) refl) (I .listed .of-enums .list t base l (sym (K .others 13 t refl) ∙ e) names a);
+              };
+            };
       }
 
 -- ---- a store

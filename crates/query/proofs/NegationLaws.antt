@@ -25,7 +25,6 @@ use Rattle.operator.specs.declared.Op.{Op}
 use Rattle.entry.specs.Places.{namedItems}
 use Rattle.entry.specs.Types.{extTypeOf, typeSaid, TypeAt}
 use Rattle.entry.proofs.types.TypeEntry as types-entry
-use Rattle.entry.proofs.Rows.{type-stands}
 use Rattle.entry.proofs.TermRows.{term-stands}
 use Rattle.entry.specs.declared.types.TypeEntry.{TypeEntry}
 use Rattle.entry.specs.declared.types.TypeEntry.the-variants as entry
@@ -37,10 +36,11 @@ use Rattle.term_entry.specs.declared.TermEntry.{TermEntry}
 use Rattle.term_entry.specs.declared.TermEntry.the-variants as terms-entry
 use Rattle.term_entry.proofs.TermEntry as term-type
 use Rattle.term_entry.proofs.ChildLaws.{no-children, length-children}
+use Rattle.positions.proofs.Attributes.{never, type-here}
 use Rattle.query.specs.Negations.{negationSaid, IsNego, IsBool, NegationOver, Negates, IsOther, NegationOf}
 use Rattle.query.specs.declared.Negated.{Negated}
 use Rattle.query.specs.declared.Negated.the-variants as negated
-use Rattle.query.proofs.NegoLaws.{never, nego, namedOp-nego, negation-nego, negation-other, negation-ordinary, not-one-ordinary}
+use Rattle.query.proofs.NegoLaws.{nego, namedOp-nego, negation-nego, negation-other, negation-ordinary, not-one-ordinary}
 
 -- ---- types
 
@@ -80,14 +80,10 @@ module _ (body : Bytes) {m : TypeMark} {rs : List ℕ} where
   not-bits-said entry.Unreadable h e = never (cc)
 
 module _ {file : Bytes} {work : List ℕ} {k t : ℕ} {r : TypeEntry} (T : TypeAt file (cell work k typeOffset t) r) where
-  pub type-here : {A : Type 0} (f : TermFile) → Index file f work k → t < length (types f)
-      → ((m : TypeMark) (rs : List ℕ) → typeSaid (bodyAt file (cell work k typeOffset t)) r ≡ some (fields.type m rs) → node m (forest (map (typeAt f) rs)) ≡ typeAt f t → A) → A
-  type-here f I l next = type-stands (I .type-row t l .stands) (λ m rs reads below tree. next m rs (T .go m rs reads) tree)
-
   -- a type without parts
   plain-here : (n : TypeMark) → ((body : Bytes) → typeSaid body r ≡ some (fields.type n [])) → (f : TermFile) → Index file f work k → t < length (types f) → typeAt f t ≡ node n nil
   unfolding forest
-  plain-here n said f I l = type-here f I l (λ m rs e tree.
+  plain-here n said f I l = type-here T f I l (λ m rs e tree.
       let s = said (bodyAt file (cell work k typeOffset t)) in
       let marked : m ≡ n = cc in
       let none : rs ≡ [] = cc in
@@ -100,7 +96,7 @@ module _ {file : Bytes} {work : List ℕ} {k t : ℕ} {r : TypeEntry} (T : TypeA
   pub not-bool : OneOf not-bools (tagOf types-entry.the-type r) → IsBool file work k t false
   not-bool o = record {
     if-so = λ f I l h. never (cc);
-    if-not = λ f I l h e. type-here f I l (λ m rs said tree. let marked : m ≡ Bool· = cc in not-bool-said _ r o said marked);
+    if-not = λ f I l h e. type-here T f I l (λ m rs said tree. let marked : m ≡ Bool· = cc in not-bool-said _ r o said marked);
   }
 
   pub over-bits : {n : ℕ} → r ≡ entry.BitVec n → NegationOver file work k t (negated.Comparison n)
@@ -109,7 +105,7 @@ module _ {file : Bytes} {work : List ℕ} {k t : ℕ} {r : TypeEntry} (T : TypeA
 
   pub over-other : OneOf not-bits (tagOf types-entry.the-type r) → NegationOver file work k t negated.Falsehood
   unfolding negationSaid negationWith
-  over-other o = record { go = λ f I l. type-here f I l (λ m rs said tree. rw (← tree) (not-bits-said _ r o said)) }
+  over-other o = record { go = λ f I l. type-here T f I l (λ m rs said tree. rw (← tree) (not-bits-said _ r o said)) }
 
 -- ---- a `Bvnego` over its arguments
 

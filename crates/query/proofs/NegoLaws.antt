@@ -1,7 +1,6 @@
 -- `Bvnego` among the operators, and what a term with this operator or another one is.
 -- Assumes nothing.
 use Prim.Native.Nat.{ℕ}
-use native.Mathlib.Omega.{arith}
 use mathlib.Core.Path.{_≡_, refl, ap}
 use mathlib.Core.Bool.{true, false}
 use mathlib.Core.List.{List, [], _∷_, map}
@@ -16,10 +15,8 @@ use Rattle.operator.specs.Operators.{opOf}
 use Rattle.operator.proofs.Op.{the-type}
 use Rattle.operator.specs.declared.Op.{Op}
 use Rattle.operator.specs.declared.Op.the-variants as op
+use Rattle.positions.proofs.Attributes.{never}
 use Rattle.query.specs.Negations.{IsNego}
-
-pub never : {A : Type 0} → _≡_ {A = ℕ} 0 1 → A
-never h = absurd (omega arith)
 
 -- ---- operators
 

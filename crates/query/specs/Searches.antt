@@ -1,32 +1,22 @@
--- Where a text stands in a list of a body, an attribute in a record type, and a member in an enum.
+-- Where an attribute stands in a record type, and a member in an enum.
 -- Assumes nothing.
 use Prim.Native.Nat.{ℕ, _<_}
 use mathlib.Core.Path.{_≡_}
 use mathlib.Core.Bool.{true}
 use mathlib.Core.List.{List}
 use mathlib.Core.Option.{Option, none, some}
-use lib.ListN.{length, drop}
+use lib.ListN.{length}
 use Rattle.script_spec.specs.Base.{Bytes, isSome, same, place}
 use Rattle.script_spec.specs.Tree.{Ty, Enums, attributes, attribute, enumOf}
 use Rattle.script_spec.specs.File.{TermFile, types, enums, members, typeAt}
 use Rattle.index.specs.Meaning.{Index}
-use Rattle.entry.specs.Places.{texts}
 use Rattle.enum_table.specs.Enums.{enumAt, membersAt}
-use Rattle.query.specs.declared.Found.{Found}
-use Rattle.query.specs.declared.Found.the-variants as found
+use Rattle.positions.specs.Found.{placeSaid}
+use Rattle.positions.specs.declared.Found.{Found}
 use Rattle.query.specs.declared.Attribute.{Attribute}
 use Rattle.query.specs.declared.Attribute.the-variants as answer
 use Rattle.query.specs.declared.Member.{Member}
 use Rattle.query.specs.declared.Member.the-variants as member
-
--- the place that an answer says
-unfoldable pub placeSaid : Found → Option ℕ
-placeSaid (found.At i) = some i
-placeSaid found.Nowhere = none
-
--- the first of some texts of a body that is this text
-pub record FindsText (body : Bytes) (from count skip : ℕ) (name : Bytes) (r : Found) : Type 0 where
-  pub is : place (same name) (texts skip count (drop from body)) ≡ placeSaid r
 
 -- what an answer says of an attribute of a type
 unfoldable pub AttributeSaid : Attribute → Bytes → Ty → Type 0

@@ -1,15 +1,15 @@
 // What the encoder asks of types and terms: what a `Bvnego` is written as, and where an attribute or a member stands.
-use entry::lists;
 use entry::types::TypeEntry;
 use field::Cursor;
 use field::ReadNumber;
 use operator::Op;
+use positions::Found;
 use term_entry::Children;
 use term_entry::TermEntry;
 use term_file::mark::Kind;
 ghost use Rattle.index.specs.Cells.{cell, typeOffset};
 ghost use Rattle.entry.specs.Types.{TypeAt};
-ghost use Rattle.query.specs.Searches.{FindsText, FindsAttribute, IsEnum, FindsIn, FindsMember};
+ghost use Rattle.query.specs.Searches.{FindsAttribute, IsEnum, FindsIn, FindsMember};
 ghost use Rattle.query.specs.Negations.{IsNego, IsBool, NegationOver, Negates, OtherCode, IsOther, NegationOf};
 
 // What a term is as a `Bvnego`: over an argument of so many bits a comparison, over any other `false`.
@@ -17,12 +17,6 @@ pub enum Negated {
     Ordinary,
     Falsehood,
     Comparison(u32),
-}
-
-// Where a text stands in a list.
-enum Found {
-    At(u32),
-    Nowhere,
 }
 
 // Where an attribute stands in a type, if the type is a record type.
@@ -136,33 +130,19 @@ pub fn negation_of(file: &[u8], work: &[u32], k: usize, n: u32) -> Negated
     }
 }
 
-// Where a text stands among so many texts from a place of the body on, with so many bytes after each.
-fn find_text(body: &[u8], from: usize, count: u32, skip: usize, name: &[u8]) -> Found
-    ensures { λ r. ⌜ FindsText (now (body .entry)) from count skip (now (name .entry)) r ⌝ }
-{
-    let mut at = from;
-    let mut i: u32 = 0;
-    while i < count {
-        let text = lists::text_at(body, at);
-        if check::same(name, field::part_of(body, text.start, text.len)) {
-            return Found::At(i);
-        }
-        at = lists::past(body, text.end, skip);
-        i += 1;
-    }
-    Found::Nowhere
-}
-
 // Where an attribute stands in the type with number t.
 pub fn index_of_attr(file: &[u8], work: &[u32], k: usize, t: u32, name: &[u8]) -> Attribute
     ensures { λ r. ⌜ FindsAttribute (now (file .entry)) (now (work .entry)) k t (now (name .entry)) r ⌝ }
 {
     let offset = index::get(work, k, index::TYPE_OFFSET, entry::wide(t));
     match entry::types::type_at(file, offset) {
-        TypeEntry::Record(n) => match find_text(entry::body_at(file, offset), 4, n, 4, name) {
-            Found::At(i) => Attribute::At(i),
-            Found::Nowhere => Attribute::Missing,
-        },
+        TypeEntry::Record(n) => {
+            let list = index::get(work, k, index::TYPE_LIST, entry::wide(t));
+            match positions::find(entry::body_at(file, offset), work, k, list, 4, n, 4, name) {
+                Found::At(i) => Attribute::At(i),
+                Found::Nowhere => Attribute::Missing,
+            }
+        }
         _ => Attribute::NotRecord,
     }
 }
@@ -190,7 +170,17 @@ fn find_in(file: &[u8], work: &[u32], k: usize, e: u32, id: &[u8]) -> Found
 {
     let offset = index::get(work, k, index::ENUM_OFFSET, entry::wide(e));
     let x = entry::symbols::enum_at(file, offset);
-    find_text(entry::body_at(file, offset), x.from, x.members, 0, id)
+    let list = index::get(work, k, index::ENUM_LIST, entry::wide(e));
+    positions::find(
+        entry::body_at(file, offset),
+        work,
+        k,
+        list,
+        x.from,
+        x.members,
+        0,
+        id,
+    )
 }
 
 // Where a member stands in the type with number t, among so many enums.

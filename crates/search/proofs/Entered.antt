@@ -9,7 +9,7 @@ use lib.ListN.{length, length-append, replicate}
 use Rattle.script_spec.specs.Base.{Bytes, collect}
 use Rattle.script_spec.specs.Tree.{Ty, Fun, Tm, typeOf, depth}
 use Rattle.script_spec.specs.File.{TermFile, Named, type, enum, func, term, input, types, funs, terms, inputs, enums, typeAt, termAt, earlier}
-use Rattle.index.specs.Cells.{placed, cell, store, typeOffset, typeFirst, typeDepth, funOffset, funFirst, termOffset, termFirst, termType, termDepth, enumOffset, hash, termPlace, inputTerm}
+use Rattle.index.specs.Cells.{placed, cell, store, typeOffset, typeFirst, typeDepth, funOffset, funFirst, termOffset, termFirst, termType, termDepth, enumOffset, hash, termPlace, inputTerm, enumList, typeList}
 use Rattle.index.specs.First.{canonical, firstType}
 use Rattle.index.specs.Standing.{entryAt}
 use Rattle.index.specs.Meaning.{Stands}
@@ -28,13 +28,13 @@ use Rattle.search.specs.Searchable.{Indexed}
 use Rattle.search.specs.Found.{Enrols}
 use Rattle.search.specs.Named.{NewName}
 use Rattle.search.proofs.Numbers.{entries-read, type-looks, fun-looks, term-looks, type-found, fun-found, term-found}
-use Rattle.search.proofs.Growth.{stored-untouched, enrolled-untouched, enrolled-stays, enrolled-fewer, enrolled-reached, types-kept, funs-kept, terms-kept, slots-grown}
+use Rattle.search.proofs.Growth.{stored-untouched, stored-unlisted, enrolled-untouched, enrolled-unlisted, enrolled-stays, enrolled-fewer, enrolled-reached, types-kept, funs-kept, terms-kept, slots-grown}
 
 -- a memory of zeros is the index of no records
 pub indexed-none : (file : Bytes) (work : List ℕ) (k size : ℕ) → 12 * k ≤ length work → k ≤ 1048576 → work ≡ replicate size 0 → Indexed file [] work k
 unfolding types funs terms collect
 indexed-none file work k size fits small zeros =
-    let I = rows.indexed-none file work k fits in
+    let I = rows.indexed-none file work k fits (record { no-type-list = λ i l. rw zeros (cell-zeros size k typeList i); no-enum-list = λ i l. rw zeros (cell-zeros size k enumList i) }) in
     record {
       index = I .index;
       depths = I .depths;
@@ -85,7 +85,7 @@ module _ {file : Bytes} {f : TermFile} {work : List ℕ} {k : ℕ} (I : Indexed 
       let U = untouched-then C (S .untouched) in
       let same : (i : ℕ) → cell work′ k hash i ≡ cell work₀ k hash i
       = λ i. slots-beside _ k typeDepth n d (λ e. omega arith) (λ e. omega arith) i ∙ slots-beside _ k typeFirst n m (λ e. omega arith) (λ e. omega arith) i ∙ slots-beside _ k typeOffset n o (λ e. omega arith) (λ e. omega arith) i in
-      let J = rows.indexed-type without room (record { untouched = U; offset-is = S .offset-is; first-is = S .first-is; depth-is = S .depth-is }) (enrolled-stays A fits work′ same) s (type-found (I .index) s (A .found)) deep in
+      let J = rows.indexed-type without room (record { untouched = U; unlisted = λ B. S .unlisted (enrolled-unlisted A B); offset-is = S .offset-is; first-is = S .first-is; depth-is = S .depth-is }) (enrolled-stays A fits work′ same) s (type-found (I .index) s (A .found)) deep in
       let L = lists-type f t in
       record {
         index = J .index;
@@ -111,7 +111,7 @@ module _ {file : Bytes} {f : TermFile} {work : List ℕ} {k : ℕ} (I : Indexed 
       let U = untouched-then C (S .untouched) in
       let same : (i : ℕ) → cell work′ k hash i ≡ cell work₀ k hash i
       = λ i. slots-beside _ k funFirst n m (λ e. omega arith) (λ e. omega arith) i ∙ slots-beside _ k funOffset n o (λ e. omega arith) (λ e. omega arith) i in
-      let J = rows.indexed-func without room (record { untouched = U; offset-is = S .offset-is; first-is = S .first-is }) (enrolled-stays A fits work′ same) s (fun-found (I .index) s (A .found)) in
+      let J = rows.indexed-func without room (record { untouched = U; unlisted = λ B. S .unlisted (enrolled-unlisted A B); offset-is = S .offset-is; first-is = S .first-is }) (enrolled-stays A fits work′ same) s (fun-found (I .index) s (A .found)) in
       let L = lists-func f g in
       record {
         index = J .index;
@@ -140,7 +140,7 @@ module _ {file : Bytes} {f : TermFile} {work : List ℕ} {k : ℕ} (I : Indexed 
       let same : (i : ℕ) → cell work′ k hash i ≡ cell work₀ k hash i
       = λ i. slots-beside _ k termPlace n (length f) (λ e. omega arith) (λ e. omega arith) i ∙ slots-beside _ k termDepth n d (λ e. omega arith) (λ e. omega arith) i ∙ slots-beside _ k termType n τ (λ e. omega arith) (λ e. omega arith) i ∙ slots-beside _ k termFirst n m (λ e. omega arith) (λ e. omega arith) i
       ∙ slots-beside _ k termOffset n o (λ e. omega arith) (λ e. omega arith) i in
-      let J = rows.indexed-term without room (record { untouched = U; offset-is = S .offset-is; first-is = S .first-is; type-is = S .type-is; depth-is = S .depth-is; place-is = S .place-is }) (enrolled-stays A fits work′ same) s (term-found (I .index) s (A .found)) below type-is type-first deep in
+      let J = rows.indexed-term without room (record { untouched = U; unlisted = λ B. S .unlisted (enrolled-unlisted A B); offset-is = S .offset-is; first-is = S .first-is; type-is = S .type-is; depth-is = S .depth-is; place-is = S .place-is }) (enrolled-stays A fits work′ same) s (term-found (I .index) s (A .found)) below type-is type-first deep in
       let L = lists-term f t in
       record {
         index = J .index;
@@ -172,7 +172,7 @@ module _ {file : Bytes} {f : TermFile} {work : List ℕ} {k : ℕ} (I : Indexed 
       let M =
       names-added f (f ++ (enum name members ∷ [])) name members (L .enums-are) stays (I .index .names)
       (subst (λ (count : ℕ). Reached (nameHome k) k (cell work′ k hash) 3 count (enumName (f ++ (enum name members ∷ []))) n) (one-more (enums f) (name, members) (L .enums-are)) new) (N .miss .none) in
-      let J = rows.indexed-enum without room (record { untouched = U; offset-is = S .offset-is }) M s in
+      let J = rows.indexed-enum without room (record { untouched = U; unlisted = λ B. S .unlisted (stored-unlisted T B); offset-is = S .offset-is }) M s in
       record {
         index = J .index;
         depths = J .depths;

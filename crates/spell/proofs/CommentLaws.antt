@@ -7,7 +7,8 @@ use native.Mathlib.Omega.{arith}
 use lib.ListN.{take, drop}
 use Rattle.script_spec.specs.Base.{Bytes, bytes, joined, collect, endsLine}
 use Rattle.script_spec.specs.Text.{oneLine, spaceIf}
-use Rattle.entry.specs.Places.{texts, IsText}
+use Rattle.index.specs.Lists.{texts}
+use Rattle.entry.specs.Places.{IsText}
 use Rattle.entry.specs.declared.lists.Text.{Text}
 
 -- a text after a comma, on one line

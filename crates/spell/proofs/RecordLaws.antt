@@ -17,7 +17,8 @@ use Rattle.writer.proofs.Laws.{_then_, says}
 use Rattle.index.specs.First.{All, Below}
 use Rattle.index.specs.Meaning.{Index}
 use Rattle.naming.specs.Naming.{Numbers}
-use Rattle.entry.specs.Places.{numberAt, textSize, namedItems, IsText}
+use Rattle.index.specs.Lists.{numberAt, textSize}
+use Rattle.entry.specs.Places.{namedItems, IsText}
 use Rattle.entry.specs.declared.lists.Text.{Text}
 use Rattle.spell.specs.Sorts.{SpellsSort}
 use Rattle.spell.specs.Records.{partText, partsText, partsOf, recordName, partSorts, argumentsText, SpellsPart, SpellsParts, SpellsSpaced, SpellsRecord}

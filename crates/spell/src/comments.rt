@@ -6,7 +6,7 @@ ghost use lib.ListN.{take, drop};
 ghost use Rattle.script_spec.specs.Base.{bytes, joined};
 ghost use Rattle.script_spec.specs.Text.{oneLine};
 ghost use Rattle.writer.specs.Writing.{Appends};
-ghost use Rattle.entry.specs.Places.{texts};
+ghost use Rattle.index.specs.Lists.{texts};
 
 // A text of the body on one line.
 fn put_text(out: &mut [u8], at: usize, limit: usize, body: &[u8], item: Text) -> usize

@@ -6,7 +6,7 @@ ghost use lib.ListN.{drop};
 ghost use Rattle.script_spec.specs.Base.{bytes, joined};
 ghost use Rattle.script_spec.specs.Command.{_⊹_, line, comment};
 ghost use Rattle.writer.specs.Writing.{Appends};
-ghost use Rattle.entry.specs.Places.{texts};
+ghost use Rattle.index.specs.Lists.{texts};
 ghost use Rattle.spell.specs.Records.{SpellsPart, SpellsParts, SpellsSpaced, SpellsRecord};
 
 // Writes the i-th part, which has the type with number p, of the record type whose name `name` stands for.

@@ -24,7 +24,7 @@ use Rattle.term_file.specs.Marks.{mark, Marked}
 use Rattle.term_file.proofs.mark.Kind.{the-type}
 use Rattle.term_file.specs.declared.mark.Kind.{Kind}
 use Rattle.term_file.specs.declared.mark.Kind.the-variants as kind
-use Rattle.entry.specs.Places.{numberAt}
+use Rattle.index.specs.Lists.{numberAt}
 use Rattle.entry.proofs.Inverse.{entry-whole}
 use Rattle.entry.proofs.Classes.{marked-entry}
 use Rattle.term_entry.specs.Terms.{references, childrenIn, termSaid, IsTerm}

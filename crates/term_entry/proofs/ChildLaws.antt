@@ -7,7 +7,8 @@ use mathlib.Core.Bool.{Bool, true, false}
 use mathlib.Core.List.{List, [], _∷_}
 use lib.ListN.{length, drop}
 use Rattle.script_spec.specs.Base.{Bytes, seconds}
-use Rattle.entry.specs.Places.{numberAt, namedItems, IsText}
+use Rattle.index.specs.Lists.{numberAt}
+use Rattle.entry.specs.Places.{namedItems, IsText}
 use Rattle.entry.specs.declared.lists.Text.{Text}
 use Rattle.term_entry.specs.Terms.{references, childrenIn}
 use Rattle.term_entry.specs.Children.{ahead, TakesChild}

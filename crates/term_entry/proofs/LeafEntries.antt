@@ -18,7 +18,8 @@ use Rattle.field.specs.Answers.{spanned}
 use Rattle.field.specs.declared.Span.{Span}
 use Rattle.field.proofs.Skims.{bind-bad}
 use Rattle.field.proofs.Coded.{at-past}
-use Rattle.entry.specs.Places.{numberAt, IsText}
+use Rattle.index.specs.Lists.{numberAt}
+use Rattle.entry.specs.Places.{IsText}
 use Rattle.entry.specs.declared.lists.Text.{Text}
 use Rattle.entry.proofs.Inverse.{entry-whole, bind-inverse, ensure-inverse, tested-inverse, text-inverse, part-inverse}
 use Rattle.entry.proofs.TypeEntries.{coded-at, coded-none}

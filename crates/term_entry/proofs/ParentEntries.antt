@@ -19,7 +19,8 @@ use Rattle.field.proofs.Laws.{reads-next, reads-stop, reads-pure, reads-ensured
 use Rattle.field.proofs.Coded.{reads-chosen}
 use Rattle.operator.specs.Operators.{opOf, uninterpreted, zeroExtend}
 use Rattle.operator.specs.declared.Op.{Op}
-use Rattle.entry.specs.Places.{numberAt, namedItems}
+use Rattle.index.specs.Lists.{numberAt}
+use Rattle.entry.specs.Places.{namedItems}
 use Rattle.entry.proofs.Inverse.{got-rest, bind-inverse, tested-inverse, u32-inverse, named-inverse}
 use Rattle.entry.proofs.TypeEntries.{coded-by}
 use Rattle.term_entry.specs.Terms.{references, childrenIn, termSaid, IsTerm}

@@ -18,7 +18,7 @@ use Rattle.field.specs.Reads.{value, refusal, asRead, Reads}
 use Rattle.field.proofs.Skims.{bind-bad}
 use Rattle.field.proofs.Coded.{at-past}
 use Rattle.term_file.specs.Fields.{values}
-use Rattle.entry.specs.Places.{numberAt}
+use Rattle.index.specs.Lists.{numberAt}
 use Rattle.entry.proofs.Inverse.{got-rest, bind-inverse, ensure-inverse, part-inverse}
 use Rattle.entry.proofs.TypeEntries.{coded-at, coded-none}
 use Rattle.term_entry.specs.Terms.{valueOf, termSaid, IsTerm}

@@ -10,7 +10,7 @@ use Rattle.script_spec.specs.Base.{Bytes}
 use Rattle.script_spec.specs.Tree.{TermMark}
 use Rattle.script_spec.specs.Fields.{term}
 use Rattle.index.specs.Standing.{bodyAt, entryOf, entryAt}
-use Rattle.entry.specs.Places.{textSize}
+use Rattle.index.specs.Lists.{textSize}
 use Rattle.term_entry.specs.Terms.{childrenIn}
 use Rattle.term_entry.specs.declared.Children.{Children}
 use Rattle.term_entry.specs.declared.Child.{Child}

@@ -14,7 +14,8 @@ use Rattle.index.specs.Standing.{entryOf, bodyAt, entryAt}
 use Rattle.bitvec.specs.Value.{whole}
 use Rattle.field.specs.Answers.{spanned}
 use Rattle.operator.specs.Operators.{opOf}
-use Rattle.entry.specs.Places.{numberAt, namedItems}
+use Rattle.index.specs.Lists.{numberAt}
+use Rattle.entry.specs.Places.{namedItems}
 use Rattle.term_entry.specs.declared.Children.{Children}
 use Rattle.term_entry.specs.declared.Value.{Value}
 use Rattle.term_entry.specs.declared.Value.the-variants as value

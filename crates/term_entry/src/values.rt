@@ -6,7 +6,7 @@ use field::ReadNumber;
 ghost use mathlib.Core.Path.{_≡_};
 ghost use Prim.Native.Nat.{_+_, _*_, _^_, _<_};
 ghost use lib.ListN.{getD};
-ghost use Rattle.entry.specs.Places.{numberAt};
+ghost use Rattle.index.specs.Lists.{numberAt};
 ghost use mathlib.Core.Option.{some};
 ghost use Rattle.script_spec.specs.Base.{bytes};
 ghost use Rattle.term_entry.specs.Terms.{IsTerm};

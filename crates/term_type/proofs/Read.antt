@@ -16,7 +16,7 @@ use Rattle.script_spec.proofs.Computes
 use Rattle.index.specs.Cells.{cell, typeFirst, termType}
 use Rattle.index.specs.Rules.{typeBy}
 use Rattle.index.specs.Standing.{markAt, sizeAt, bodyAt, entryOf, entryAt}
-use Rattle.entry.specs.Places.{numberAt}
+use Rattle.index.specs.Lists.{numberAt}
 use Rattle.entry.proofs.Inverse.{tested-inverse}
 use Rattle.segments.specs.Segment.{Segment, plain, typeRef, termRef}
 use Rattle.segments.specs.Machine.{segments, start, startType, startTerm, startList, ahead, remaining, fieldThen, last, items}

@@ -16,7 +16,7 @@ use Rattle.index.specs.First.{orElse, Below, InRange}
 use Rattle.index.specs.Rules.{listed, typeBy, typeNamed}
 use Rattle.index.specs.Standing.{bodyAt, entryAt}
 use Rattle.index.specs.Meaning.{Index}
-use Rattle.entry.specs.Places.{numberAt}
+use Rattle.index.specs.Lists.{numberAt}
 use Rattle.compare.specs.View.{Decides, viewed, numbers, segmentsAt}
 use Rattle.compare.specs.declared.View.the-variants.{Listed}
 use Rattle.search.specs.Searchable.{Indexed}

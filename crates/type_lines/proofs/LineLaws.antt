@@ -1,9 +1,9 @@
 -- The lines of a type from its entry: of a record type, of an enum, of an entity type, and of a datatype by its mark.
 -- Assumes nothing.
-use mathlib.Core.Path.{_≡_, refl, sym, ap, _∙_}
+use mathlib.Core.Path.{_≡_, sym, ap, _∙_}
 use mathlib.Core.List.{List, [], _++_}
 use mathlib.Core.Option.{none, some}
-use Prim.Native.Nat.{ℕ, zero, suc, _<_, _≤_}
+use Prim.Native.Nat.{ℕ, _<_, _≤_}
 use native.Mathlib.Omega.{arith}
 use lib.ListN.{length, drop}
 use borrow.Author.Tests.{lt-ltb, le-ltb}
@@ -15,18 +15,14 @@ use Rattle.writer.specs.Writing.{Appends}
 use Rattle.writer.proofs.Laws.{_then_, says}
 use Rattle.index.specs.Cells.{cell, enumOffset}
 use Rattle.index.specs.Standing.{bodyAt}
-use Rattle.entry.specs.Places.{texts, textSize}
+use Rattle.index.specs.Lists.{texts}
+use Rattle.entry.proofs.Places.{length-texts}
 use Rattle.entry.specs.Symbols.{EnumAt}
 use Rattle.entry.specs.declared.symbols.Enum.{Enum}
 use Rattle.enum_table.specs.Enums.{enumAt, membersAt, FindsEnum}
 use Rattle.spell.specs.Records.{SpellsRecord}
 use Rattle.datatype.specs.Members.{entityName, SpellsEnum}
 use Rattle.type_lines.specs.Lines.{entityLines, recordLines, SpellsRecordLines, SpellsEnumLines, SpellsEntityLines}
-
-length-texts : (skip n : ℕ) (s : Bytes) → length (texts skip n s) ≡ n
-unfolding texts
-length-texts skip zero s = refl
-length-texts skip (suc n) s = ap suc (length-texts skip n (drop skip (drop (textSize s) s)))
 
 module _ {file : Bytes} {work : List ℕ} {k name limit at : ℕ} {x : Bytes} where
   pub record-lines : {body y z : Bytes} {n p r : ℕ} → Appends limit x at y p (line (comment (bytes "{" ⊹ joined (bytes ", ") (texts 4 n (drop 4 body)) ⊹ bytes "}")))

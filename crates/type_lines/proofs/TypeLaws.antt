@@ -26,7 +26,7 @@ use Rattle.naming.specs.Naming.{typeName, nameAt, placeOf}
 use Rattle.naming.proofs.Names.{place-type}
 use Rattle.field.specs.Answers.{spanned}
 use Rattle.field.specs.declared.Span.{Span}
-use Rattle.entry.specs.Places.{texts}
+use Rattle.index.specs.Lists.{texts}
 use Rattle.entry.specs.Types.{extTypeOf, typeSaid, TypeAt}
 use Rattle.entry.proofs.Places.{texts-named}
 use Rattle.entry.proofs.Rows.{type-stands}

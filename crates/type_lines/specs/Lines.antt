@@ -15,7 +15,7 @@ use Rattle.writer.specs.Writing.{Appends}
 use Rattle.index.specs.First.{Below}
 use Rattle.index.specs.Meaning.{Index}
 use Rattle.naming.specs.Naming.{Numbers}
-use Rattle.entry.specs.Places.{texts}
+use Rattle.index.specs.Lists.{texts}
 use Rattle.enum_table.specs.Enums.{enumAt}
 use Rattle.spell.specs.Records.{partsOf, recordName, partSorts}
 use Rattle.datatype.specs.Members.{entityName}

@@ -12,7 +12,8 @@ use denote.Enum.Declared.{tagOf}
 use Rattle.script_spec.specs.Base.{Bytes, seconds}
 use Rattle.script_spec.specs.Tree.{TypeMark}
 use Rattle.script_spec.specs.Fields.{type}
-use Rattle.entry.specs.Places.{numberAt, namedItems, IsText}
+use Rattle.index.specs.Lists.{numberAt}
+use Rattle.entry.specs.Places.{namedItems, IsText}
 use Rattle.entry.specs.Types.{typeSaid, TypeAt}
 use Rattle.entry.specs.declared.lists.Text.{Text}
 use Rattle.entry.proofs.types.TypeEntry.{the-type}

@@ -3,7 +3,7 @@
 use mathlib.Core.Path.{_≡_, refl}
 use lib.ListN.{length, drop}
 use Rattle.writer.proofs.Laws.{_then_, says, nothing}
-use Rattle.entry.specs.Places.{texts}
+use Rattle.index.specs.Lists.{texts}
 use Rattle.spell.proofs.Runs.{Continues, continues-start, continues-on, continues-end}
 use Rattle.spell.proofs.CommentLaws.{led, texts-none, led-none, texts-start, texts-next}
 use native.Mathlib.Omega.{arith}

@@ -1,10 +1,10 @@
--- `query::find_text` meets its contract. The loop's invariant: no text that was passed is the same.
+-- `positions::find_text` meets its contract. The loop's invariant: no text that was passed is the same.
 -- Assumes nothing.
 use Prim.Native.Nat.{_-_}
-use Rattle.query.proofs.SearchLaws.{Passed, passed-none, passed-on, found-here, found-nowhere}
+use Rattle.positions.proofs.SearchLaws.{Passed, passed-none, passed-on, found-here, found-nowhere}
 use borrow.Author.Needs.{needs}
-use Rattle.query.proofs.find_text.Statement.{statement}
-use Rattle.query.proofs.find_text.Tie as tie
+use Rattle.positions.proofs.find_text.Statement.{statement}
+use Rattle.positions.proofs.find_text.Tie as tie
 
 abbrev Inv-loop : tie.InvT-loop
 Inv-loop body from count skip name at₀ i₀ at i = Passed body from count skip name i at

@@ -8,10 +8,11 @@ use mathlib.Core.Option.{Option, none, some}
 use lib.ListN.{take, drop}
 use Rattle.script_spec.specs.Base.{Bytes, same, place, placeFrom}
 use Rattle.script_spec.proofs.Laws.{same-eq, same-refl, is-true}
-use Rattle.entry.specs.Places.{firstText, texts, IsText}
+use Rattle.index.specs.Lists.{firstText, texts}
+use Rattle.entry.specs.Places.{IsText}
 use Rattle.entry.specs.declared.lists.Text.{Text}
-use Rattle.query.specs.Searches.{placeSaid, FindsText}
-use Rattle.query.specs.declared.Found.the-variants as found
+use Rattle.positions.specs.Found.{placeSaid, FindsText}
+use Rattle.positions.specs.declared.Found.the-variants as found
 
 -- a place in what is left after i texts, as a place in the whole
 unfoldable pub after : ℕ → Option ℕ → Option ℕ
