@@ -25,6 +25,8 @@ use Rattle.naming.proofs.Names.{index-kept, numbers-start}
 use Rattle.naming.proofs.Sticky.{sticky-went}
 use Rattle.progress.specs.Progress.{Holds, Advances}
 use Rattle.progress.specs.declared.Progress.{Progress}
+use Rattle.positions.specs.Made.{Known, MakesLists}
+use Rattle.positions.proofs.Ascending.{accepted-ascends}
 use Rattle.term_check.specs.Promise.{countsOf, Accepts, Fills}
 use Rattle.term_check.specs.Promise as check
 use Rattle.term_check.specs.declared.Counts.{Counts}
@@ -136,9 +138,13 @@ module _ (file : Bytes) (work : List ℕ) (x : Bytes) {work₁ work₂ : List �
       encodes file work x (R .cleared ∙ ap (λ (m : ℕ). replicate m 0) size)
       (subst (λ (a : Answer Bytes). Gives x y r a) (sym (encoded-refused file (length work) n p (length x) (B .refuses))) (R .gives))
 
-  pub encodes-accepted : {c : Counts} {many count : ℕ} → v ≡ fill.Done c → many ≡ c .enums → count ≡ c .inputs → EncodesRecords file many count work₁ x work₂ y r → Encodes file work x work₂ y r
+  pub encodes-accepted : {c : Counts} {many count terms ty k : ℕ} {listed : List ℕ} → v ≡ fill.Done c → k ≡ length file / 6 → terms ≡ c .terms → ty ≡ c .types → many ≡ c .enums → count ≡ c .inputs
+      → MakesLists file k terms ty many work₁ listed → length listed ≡ length work₁ → EncodesRecords file many count listed x work₂ y r → Encodes file work x work₂ y r
   unfolding countsOf
-  encodes-accepted {c} {many} {count} e m n R =
+  encodes-accepted {c} {many} {count} {terms} {ty} {k} {listed} e hk t ty-is m n M same R =
       let B : Accepts file work work₁ c = subst (λ (u : Filled). Fills file work work₁ u) e F in
-      encodes file work x (R .cleared ∙ ap (λ (m : ℕ). replicate m 0) size)
-      (R .go (length work) (B .records) (B .accepts) (B .index) (m ∙ ap (λ (d : Counts). d .enums) (B .counts)) (n ∙ ap (λ (d : Counts). d .inputs) (B .counts)))
+      let K : Known file (B .records) k terms work₁ =
+      record { index = rw hk (B .index); ascends = accepted-ascends file (length work) (B .records) (B .accepts); terms-are = t ∙ ap (λ (d : Counts). d .terms) (B .counts) } in
+      let many-is = m ∙ ap (λ (d : Counts). d .enums) (B .counts) in
+      encodes file work x (R .cleared ∙ ap (λ (m : ℕ). replicate m 0) (same ∙ size))
+      (R .go (length work) (B .records) (B .accepts) (rw hk at (M .go (B .records) K (ty-is ∙ ap (λ (d : Counts). d .types) (B .counts)) many-is)) many-is (n ∙ ap (λ (d : Counts). d .inputs) (B .counts)))

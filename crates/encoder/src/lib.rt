@@ -92,6 +92,10 @@ pub fn encode(file: &[u8], work: &mut [u32], script: &mut [u8]) -> Encoded
 {
     match term_check::fill(file, work) {
         Filled::Refused(n, place) => refuse(work, script, n, place),
-        Filled::Done(c) => encode_records(file, work, c.enums, c.inputs, script),
+        Filled::Done(c) => {
+            let k = index::capacity(file.len());
+            positions::lists::make_lists(file, work, k, c.terms, c.types, c.enums);
+            encode_records(file, work, c.enums, c.inputs, script)
+        }
     }
 }
