@@ -1,16 +1,14 @@
 -- Steps of the walk one after the other: nothing, two in a row, and a refusal that stays.
 -- Assumes nothing.
-use Prim.Native.Nat.{ℕ, _<_}
-use mathlib.Core.Path.{_≡_, sym, ap, _∙_, subst}
+use Prim.Native.Nat.{ℕ}
+use mathlib.Core.Path.{_≡_, sym, subst}
 use mathlib.Core.List.{List}
-use native.Mathlib.Omega.{arith}
 use Rattle.script_spec.specs.Base.{Bytes}
 use Rattle.script_spec.specs.File.{TermFile}
-use Rattle.script_spec.specs.Walk.{State, Step, went, stopped, Walk, _>>_}
-use Rattle.naming.specs.Naming.{Kept}
+use Rattle.script_spec.specs.Walk.{Step, Walk, _>>_}
 use Rattle.naming.specs.Sticky.{sticky}
 use Rattle.naming.proofs.Names.{kept-refl, kept-trans, index-kept}
-use Rattle.naming.proofs.Sticky.{sticky-then, sticky-nothing}
+use Rattle.naming.proofs.Sticky.{sticky-then}
 use Rattle.progress.specs.Progress.{Holds, Advances}
 use Rattle.progress.specs.declared.Progress.{Progress}
 

@@ -1,10 +1,9 @@
 -- A record that is no `Bvnego`: by its mark, or by its operator's code, since only one place of the table has `Bvnego`.
 -- Assumes nothing.
 use Prim.Native.Nat.{ℕ, zero, suc, _^_}
-use native.Mathlib.Omega.{arith}
 use mathlib.Core.Path.{_≡_, refl, sym, ap, _∙_, subst}
-use mathlib.Core.Bool.{Bool, true, false}
-use mathlib.Core.List.{List, [], _∷_, _++_, map}
+use mathlib.Core.Bool.{Bool, false}
+use mathlib.Core.List.{List, [], _∷_, _++_}
 use mathlib.Core.Option.{Option, none, some, Option·none-ne-some}
 use lib.ListN.{length, take, drop}
 use package.types.Run.{OneOf, miss}
@@ -12,7 +11,7 @@ use denote.Enum.Declared.{tagOf}
 use Rattle.script_spec.specs.Base.{Bytes, bytes, at, same, lookup, andThen}
 use Rattle.script_spec.specs.Tree as tree
 use Rattle.script_spec.specs.Tree.{PlainOp, Op, App, Plain, Bvnego}
-use Rattle.script_spec.specs.Fields.{Entry, term, got, Reader, _>>=_, pure, present, byte, u32, text, list, ref, element, extOp, plain, operators, operator, marks}
+use Rattle.script_spec.specs.Fields.{term, got, Reader, _>>=_, pure, present, byte, u32, text, list, ref, element, extOp, plain, operators, operator, marks}
 use Rattle.index.specs.First.{All}
 use Rattle.index.specs.Standing.{markAt, bodyAt, entryOf, entryAt, loose}
 use Rattle.index.proofs.Readers.{Gives, gives-after, gives-pure, got-value, bad-not-got}

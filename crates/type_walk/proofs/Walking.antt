@@ -9,7 +9,7 @@ use lib.Dec.{eqb}
 use lib.ListN.{length}
 use borrow.Author.Tests.{eq-eqb, ne-eqb}
 use Rattle.script_spec.specs.Base.{Bytes, any, isSome}
-use Rattle.script_spec.specs.Tree.{Ty, eqTy, forest, datatype, datatypeMark}
+use Rattle.script_spec.specs.Tree.{Ty, eqTy, forest, datatype}
 use Rattle.script_spec.specs.File.{TermFile, types, members, typeAt}
 use Rattle.script_spec.specs.Walk.{State, went, encodeType, encodeTypes}
 use Rattle.index.specs.Cells.{cell, typeOffset, typeFirst}
