@@ -24,7 +24,7 @@ use Rattle.entry.proofs.Classes.{termShape, shape, kind-shape, marked-entry}
 use Rattle.entry.proofs.Inverse.{entry-whole, bind-inverse, tested-inverse}
 use Rattle.entry.proofs.TypeEntries.{coded-by}
 use Rattle.query.specs.Negations.{OtherCode, IsOther}
-use Rattle.query.proofs.NegoLaws.{never}
+use Rattle.positions.proofs.Attributes.{never}
 
 -- ---- the table of operators
 
