@@ -11,7 +11,7 @@ use Rattle.script_spec.specs.Base.{Bytes}
 use Rattle.script_spec.specs.Tree.{typeOf, depth}
 use Rattle.script_spec.specs.Fields.{Earlier}
 use Rattle.script_spec.specs.File.{TermFile, Named, types, funs, terms, inputs, enums, typeAt, termAt, earlier}
-use Rattle.index.specs.Cells.{cell, typeOffset, typeFirst, typeDepth, funOffset, funFirst, termOffset, termFirst, termType, termDepth, enumOffset, termPlace, inputTerm, enumList, typeList, listRow}
+use Rattle.index.specs.Cells.{cell, typeOffset, typeFirst, typeDepth, funOffset, funFirst, termOffset, termFirst, termType, termDepth, enumOffset, termPlace, inputTerm, listRow}
 use Rattle.index.specs.Names.{Names}
 use Rattle.index.specs.Lists.{Listed, Blank}
 use Rattle.index.specs.Meaning.{Stands, counted, inputAt, TypeRow, FunRow, TermRow, EnumRow, InputRow, Listings, Index, Depths}

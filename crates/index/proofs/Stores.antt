@@ -3,8 +3,8 @@
 use mathlib.Core.Path.{_≡_, refl, _∙_}
 use Prim.Native.Nat.{ℕ, suc, _+_, _*_, _≤_, _<_}
 use native.Mathlib.Omega.{arith}
-use mathlib.Core.List.{List, [], _∷_}
-use lib.ListN.{length, getD}
+use mathlib.Core.List.{List}
+use lib.ListN.{length}
 use Rattle.script_spec.specs.File.{TermFile, types, funs, terms, inputs, enums}
 use Rattle.index.specs.Cells.{placed, cell, store, typeOffset, typeFirst, typeDepth, funOffset, funFirst, termOffset, termFirst, termType, termDepth, enumOffset, hash, termPlace, inputTerm, enumList, typeList}
 use Rattle.index.specs.Lists.{Blank}

@@ -75,17 +75,22 @@ enumOffset = 10
 abbrev pub hash : ℕ
 hash = 11
 
+-- at the end of the offsets of types
 abbrev pub termPlace : ℕ
 termPlace = 12
 
+-- at the end of the offsets of enums
 abbrev pub inputTerm : ℕ
 inputTerm = 22
 
+-- at the end of the first equal types
 abbrev pub enumList : ℕ
 enumList = 13
 
+-- at the end of the first equal functions
 abbrev pub typeList : ℕ
 typeList = 16
 
+-- at the end of the first equal terms
 abbrev pub listRow : ℕ
 listRow = 19
