@@ -83,11 +83,14 @@ termPlace = 12
 abbrev pub inputTerm : ℕ
 inputTerm = 22
 
+-- at the end of the first equal types
 abbrev pub enumList : ℕ
 enumList = 13
 
+-- at the end of the first equal functions
 abbrev pub typeList : ℕ
 typeList = 16
 
+-- at the end of the first equal terms
 abbrev pub listRow : ℕ
 listRow = 19

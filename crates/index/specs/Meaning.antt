@@ -18,7 +18,7 @@ use Rattle.index.specs.Standing.{entryAt}
 use Rattle.index.specs.Names.{Names}
 use Rattle.index.specs.Lists.{ListsOf, Blank}
 
--- how many entries of each column the records f have
+-- how many entries of each column the records f have, column after column; the slots and the lists belong to no record
 unfoldable pub used : TermFile → ℕ → ℕ
 used f column =
     let ty = length (types f) in
