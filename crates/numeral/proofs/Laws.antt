@@ -1,16 +1,16 @@
--- Laws of the loop that lays a numeral's digits from the end.
+-- Laws of the loop that lays a numeral's digits from the end, and of the decimal numerals of up to five digits.
 -- Assumes nothing.
 use mathlib.Core.Path.{_≡_, refl, sym, _∙_}
-use mathlib.Core.List.{[], _∷_}
-use Prim.Native.Nat.{ℕ, zero, suc, _-_, _/_, _%_, _^_, _≤_, _<_}
-use native.Mathlib.Nat.{div-lt-iff-lt-mul, div-lt-self, mul-le-mul-left, pow-suc, mod-eq-of-lt, lt-of-lt-of-le, not-suc-le-zero, mod-lt}
+use mathlib.Core.List.{[], _∷_, _++_}
+use Prim.Native.Nat.{ℕ, zero, suc, _+_, _-_, _*_, _/_, _%_, _^_, _≤_, _<_}
+use native.Mathlib.Nat.{div-lt-iff-lt-mul, div-lt-self, mul-le-mul-left, pow-suc, mod-eq-of-lt, lt-of-lt-of-le, not-suc-le-zero, mod-lt, div-div-eq-div-mul}
 use native.Mathlib.Numerals.{sub-one}
 use native.Mathlib.Omega.{arith}
 use lib.ListN.{length, drop, set, take, length-set, length-drop, drop-of-length-le}
 use lib.Seq.{take-all}
-use Rattle.script_spec.specs.Base.{Bytes}
-use Rattle.script_spec.specs.Text.{digit, digits}
-use Rattle.script_spec.proofs.LastDigit.{digits-one, digits-more}
+use Rattle.script_spec.specs.Base.{Bytes, bytes}
+use Rattle.script_spec.specs.Text.{digit, digits, decimal}
+use Rattle.script_spec.proofs.LastDigit.{digits-one, digits-more, decimal-one, decimal-more}
 use Rattle.numeral.specs.Base.{IsBase}
 
 -- a turn of the loop makes the rest smaller
@@ -76,3 +76,50 @@ pub laid-end : (n base left i : ℕ) (text : Bytes) → left < base → Laid n b
 laid-end n base left i text h l =
     let k : length (drop i text) ≤ 20 - i = rw length-drop (omega (arith, l .size)) in
     take-all (20 - i) (drop i text) k ∙ l .holds ∙ (rw (mod-eq-of-lt h) (sym (digits-one base left left (l .rest) h))) ∙ l .same
+
+-- ---- decimal numerals of up to five digits
+
+-- a decimal digit's code
+pub digit-code : (n : ℕ) → n < 10 → 48 + n ≡ digit n
+unfolding digit bytes
+digit-code zero h = refl
+digit-code (suc zero) h = refl
+digit-code (suc (suc zero)) h = refl
+digit-code (suc (suc (suc zero))) h = refl
+digit-code (suc (suc (suc (suc zero)))) h = refl
+digit-code (suc (suc (suc (suc (suc zero))))) h = refl
+digit-code (suc (suc (suc (suc (suc (suc zero)))))) h = refl
+digit-code (suc (suc (suc (suc (suc (suc (suc zero))))))) h = refl
+digit-code (suc (suc (suc (suc (suc (suc (suc (suc zero)))))))) h = refl
+digit-code (suc (suc (suc (suc (suc (suc (suc (suc (suc zero))))))))) h = refl
+digit-code (suc (suc (suc (suc (suc (suc (suc (suc (suc (suc n)))))))))) h = absurd (omega arith)
+
+-- a last digit after the numeral of a tenth
+decimal-next : (n d : ℕ) (s : Bytes) → 10 ≤ n → s ≡ decimal (n / 10) → d ≡ digit (n % 10) → s ++ (d ∷ []) ≡ decimal n
+decimal-next n d s h e f = rw (decimal-more n h, e, f)
+
+-- a digit of a tenth is the next digit
+digit-tenth : (n m k d : ℕ) → m ≡ 10 * k → d ≡ digit (n / m % 10) → d ≡ digit (n / 10 / k % 10)
+digit-tenth n m k d h e = rw (div-div-eq-div-mul n 10 k, ← h) e
+
+pub one-digit : {n a : ℕ} → n < 10 → a ≡ digit (n % 10) → a ∷ [] ≡ decimal n
+one-digit {n} h e = rw (e, mod-eq-of-lt h) (sym (decimal-one n h))
+
+pub two-digits : {n a b : ℕ} → 10 ≤ n → n < 100 → a ≡ digit (n / 10 % 10) → b ≡ digit (n % 10) → a ∷ b ∷ [] ≡ decimal n
+two-digits {n} {a} {b} h k e f = decimal-next n b (a ∷ []) h (one-digit (omega arith) e) f
+
+pub three-digits : {n a b c : ℕ} → 100 ≤ n → n < 1000 → a ≡ digit (n / 100 % 10) → b ≡ digit (n / 10 % 10) → c ≡ digit (n % 10) → a ∷ b ∷ c ∷ [] ≡ decimal n
+three-digits {n} {a} {b} {c} h k e f g =
+    decimal-next n c (a ∷ b ∷ []) (omega arith) (two-digits (omega arith) (omega arith) (digit-tenth n 100 10 a refl e) f) g
+
+pub four-digits : {n a b c d : ℕ} → 1000 ≤ n → n < 10000 → a ≡ digit (n / 1000 % 10) → b ≡ digit (n / 100 % 10) → c ≡ digit (n / 10 % 10)
+    → d ≡ digit (n % 10) → a ∷ b ∷ c ∷ d ∷ [] ≡ decimal n
+four-digits {n} {a} {b} {c} {d} h k e f g i =
+    decimal-next n d (a ∷ b ∷ c ∷ []) (omega arith)
+    (three-digits (omega arith) (omega arith) (digit-tenth n 1000 100 a refl e) (digit-tenth n 100 10 b refl f) g) i
+
+pub five-digits : {n a b c d e : ℕ} → 10000 ≤ n → n < 100000 → a ≡ digit (n / 10000 % 10) → b ≡ digit (n / 1000 % 10) → c ≡ digit (n / 100 % 10)
+    → d ≡ digit (n / 10 % 10) → e ≡ digit (n % 10) → a ∷ b ∷ c ∷ d ∷ e ∷ [] ≡ decimal n
+five-digits {n} {a} {b} {c} {d} {e} h k f g i j l =
+    decimal-next n e (a ∷ b ∷ c ∷ d ∷ []) (omega arith)
+    (four-digits (omega arith) (omega arith) (digit-tenth n 10000 1000 a refl f) (digit-tenth n 1000 100 b refl g) (digit-tenth n 100 10 c refl i) j) l

@@ -32,10 +32,42 @@ fn put_numeral(out: &mut [u8], at: usize, limit: usize, n: u64, base: u64) -> us
     writer::put_at(out, at, limit, &text[i..])
 }
 
-// Writes n in decimal.
+// The digit of n's ones in decimal.
+fn ones(n: u64) -> u8
+    ensures { λ r. ⌜ r ≡ digit (n % 10) ⌝ }
+{
+    48 + (n % 10) as u8
+}
+
+// Writes n in decimal. Numbers of up to five digits, which most are, are divided by constants alone.
 pub fn put_decimal(out: &mut [u8], at: usize, limit: usize, n: u64) -> usize
     ensures { λ r. ⌜ Appends limit (now (out .entry)) at (now (out .exit)) r (decimal n) ⌝ }
 {
+    if n < 10 {
+        return writer::put_byte(out, at, limit, ones(n));
+    }
+    if n < 100 {
+        let text = [ones(n / 10), ones(n)];
+        return writer::put_at(out, at, limit, &text);
+    }
+    if n < 1000 {
+        let text = [ones(n / 100), ones(n / 10), ones(n)];
+        return writer::put_at(out, at, limit, &text);
+    }
+    if n < 10000 {
+        let text = [ones(n / 1000), ones(n / 100), ones(n / 10), ones(n)];
+        return writer::put_at(out, at, limit, &text);
+    }
+    if n < 100000 {
+        let text = [
+            ones(n / 10000),
+            ones(n / 1000),
+            ones(n / 100),
+            ones(n / 10),
+            ones(n),
+        ];
+        return writer::put_at(out, at, limit, &text);
+    }
     put_numeral(out, at, limit, n, 10)
 }
 
