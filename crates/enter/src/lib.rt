@@ -13,14 +13,7 @@ pub enum Entered {
 }
 
 // Enters the function at an offset and a place, of which there are `count` before it.
-pub fn enter_fun(
-    file: &[u8],
-    work: &mut [u32],
-    k: usize,
-    count: u32,
-    o: u32,
-    place: u32,
-) -> Entered
+pub fn enter_fun(file: &[u8], work: &mut [u32], k: usize, count: u32, o: u32, place: u32) -> Entered
     ensures { λ r. ⌜ Enters func funCount (now (file .entry)) (now (work .entry)) (now (work .exit)) k count o place r ⌝ }
 {
     let first = search::enrol(
@@ -40,15 +33,7 @@ pub fn enter_fun(
 }
 
 // Stores the row of a type, with its depth and its place.
-fn store_type(
-    file: &[u8],
-    work: &mut [u32],
-    k: usize,
-    count: u32,
-    o: u32,
-    depth: u32,
-    place: u32,
-)
+fn store_type(file: &[u8], work: &mut [u32], k: usize, count: u32, o: u32, depth: u32, place: u32)
     ensures { λ _. ⌜ StoresType (now (file .entry)) (now (work .entry)) (now (work .exit)) k count o depth place ⌝ }
 {
     let first = search::enrol(

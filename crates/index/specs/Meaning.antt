@@ -11,7 +11,7 @@ use Rattle.script_spec.specs.Base.{Bytes, empty}
 use Rattle.script_spec.specs.Tree.{Tm, typeOf, depth, node, nil, Some, attributes}
 use Rattle.script_spec.specs.Fields.{Entry, Earlier}
 use Rattle.script_spec.specs.Fields as fields
-use Rattle.script_spec.specs.File.{TermFile, Named, type, enum, func, term, input, types, funs, terms, inputs, enums, typeAt, funAt, termAt, named}
+use Rattle.script_spec.specs.File.{TermFile, Named, type, func, term, types, funs, terms, inputs, enums, typeAt, funAt, termAt, named}
 use Rattle.index.specs.Cells.{cell, typeOffset, typeFirst, typeDepth, funOffset, funFirst, termOffset, termFirst, termType, termDepth, enumOffset, termPlace, typePlace, funPlace, enumPlace, inputPlace, inputTerm, enumList, typeList}
 use Rattle.index.specs.First.{firstType, firstFun, firstTerm, InRange}
 use Rattle.index.specs.Standing.{entryAt}

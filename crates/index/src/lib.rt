@@ -43,8 +43,8 @@ pub const ENUM_PLACE: usize = 17;
 
 pub const INPUT_PLACE: usize = 18;
 
-// The names of the functions, at the end of the depths of the types, which the names of the types replace: what clears one column of
-// names and writes there reaches no other column.
+// The names of the functions, at the end of the depths of the types, which give way to the names of the types: a column of names is
+// cleared whole, and has nothing else at its end.
 pub const FUN_NAME: usize = 14;
 
 // The terms of the inputs, at the end of the offsets of the enums.
