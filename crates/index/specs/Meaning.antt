@@ -39,13 +39,13 @@ pub record Stands (file : Bytes) (f : TermFile) (e : Earlier) (offset : ℕ) (r 
 unfoldable pub counted : ℕ → ℕ → ℕ → Earlier
 counted ty fn tm = record { types = ty; funs = fn; terms = tm; isEntity = λ n. true }
 
--- the place of the record with number n of a kind, where a record that is none of that kind, or one, comes before the others
+-- the place of the record with number n of a kind, where one record comes before the others: one of another kind, or else of this one
 unfoldable pub placeAfter : Bool → (ℕ → ℕ) → ℕ → ℕ
 placeAfter true rest n = suc (rest n)
 placeAfter false rest zero = zero
 placeAfter false rest (suc n) = suc (rest n)
 
--- the place of the record with number n of a kind among the records of a file; the kind is one of `types`, `funs`, `terms`, `enums` and `inputs`
+-- the place of the record with number n of a kind, of `types`, `funs`, `terms`, `enums` or `inputs`, among the records of a file
 unfoldable pub recordPlace : {A : Type 0} → (TermFile → List A) → TermFile → ℕ → ℕ
 recordPlace kind [] n = zero
 recordPlace kind (r ∷ f) n = placeAfter (empty (kind (r ∷ []))) (λ m. recordPlace kind f m) n
