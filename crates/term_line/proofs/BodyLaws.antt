@@ -11,7 +11,7 @@ use package.types.Run.{OneOf, miss}
 use denote.Enum.Declared.{tagOf}
 use Rattle.script_spec.specs.Base.{Bytes, bytes, isSome, joined}
 use Rattle.script_spec.specs.Utf8.{isUtf8}
-use Rattle.script_spec.specs.Tree.{Ty, Tm, TermMark, Enums, Forest, Mark, node, nil, forest, children, Entity, Set, Record, enumOf, typeOf, typeFrom}
+use Rattle.script_spec.specs.Tree.{Ty, Tm, TermMark, Enums, Forest, Mark, node, nil, forest, children, Entity, Some, Set, Record, enumOf, typeOf, typeFrom}
 use Rattle.script_spec.specs.File as files
 use Rattle.script_spec.specs.File.{TermFile, terms, typeAt, termAt, namedMark, members}
 use Rattle.script_spec.specs.Text.{literal}
@@ -128,6 +128,11 @@ record-is : {f : TermFile} {n : ℕ} {ns : List Bytes} {rs : List ℕ} → TermI
 unfolding namedMark body spelling.bodyAt
 record-is {f} {rs = rs} T S = ap (λ (ty : Bytes). recordValue ty (atoms f S rs)) (sort-is T S) ∙ body-is T S
 
+pub spells-some : {file : Bytes} {work : List ℕ} {k many n i limit at q : ℕ} {x y : Bytes} → SpellsSome file work k many i limit x at y q → (f : TermFile) (S : State)
+    → Index file f work k → Numbers f work k S → many ≡ length (files.enums f) → n < length (terms f) → TermIs f n Some (i ∷ []) → Appends limit x at y q (fullSpelling f S n)
+unfolding namedMark body spelling.bodyAt atoms Below All
+spells-some P f S I N m l is = says (body-is is S) (P .go f S I N m (omega (arith, is .below .0)))
+
 module _ {file : Bytes} {work : List ℕ} {k many n limit at q : ℕ} {s x y : Bytes} {c : Children} where
   pub spells-set : SpellsSet file work k many n s c limit x at y q → {t : ℕ} (f : TermFile) (S : State) → Index file f work k → Numbers f work k S → many ≡ length (files.enums f) → n < length (terms f)
       → TermIs f n (Set t) (childrenIn s c) → Appends limit x at y q (fullSpelling f S n)
@@ -172,10 +177,8 @@ module _ {file : Bytes} {work : List ℕ} {k many n limit at q : ℕ} {x y : Byt
   }
 
   pub body-some : {i : ℕ} → r ≡ entry.Some i → SpellsSome file work k many i limit x at y q → SpellsBody file work k many n limit x at y q
-  unfolding termSaid namedMark body spelling.bodyAt atoms Below All
-  body-some {i} e P = record {
-    go = λ f S I N m l plain. let is = entry-is T (ap (termSaid _) e) f I l in says (body-is is S) (P .go f S I N m (omega (arith, is .below .0)));
-  }
+  unfolding termSaid
+  body-some e P = record { go = λ f S I N m l plain. spells-some P f S I N m l (entry-is T (ap (termSaid _) e) f I l) }
 
   pub body-entity : {t : ℕ} {p : Span} {s id : Bytes} → r ≡ entry.Entity t p → s ≡ standing.bodyAt file (cell work k termOffset n) → id ≡ take (p .len) (drop (p .start) s)
       → SpellsEntityBody file work k many n t id limit x at y q → SpellsBody file work k many n limit x at y q

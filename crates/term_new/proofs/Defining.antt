@@ -23,12 +23,12 @@ use Rattle.progress.specs.declared.Progress.{Progress}
 use Rattle.progress.proofs.Running.{movedTo, script-one, went-write, advances-went}
 use Rattle.term_entry.specs.Terms.{childrenIn}
 use Rattle.term_entry.specs.declared.Children.{Children}
-use Rattle.term_value.specs.Values.{SpellsSet, SpellsRecord}
+use Rattle.term_value.specs.Values.{SpellsSome, SpellsSet, SpellsRecord}
 use Rattle.term_line.specs.Lines.{fullSpelling, SpellsBody, SpellsHead, SpellsVariable}
 use Rattle.term_line.proofs.LineLaws.{definition-pieces}
-use Rattle.term_line.proofs.BodyLaws.{spells-set, spells-record}
+use Rattle.term_line.proofs.BodyLaws.{spells-some, spells-set, spells-record}
 use Rattle.term_step.specs.Steps.{NewAt, enterWalk, newWalk, Enters}
-use Rattle.term_new.specs.News.{VariableAt, DefinedAt, SetAt, RecordAt, defineWalk}
+use Rattle.term_new.specs.News.{VariableAt, DefinedAt, SomeAt, SetAt, RecordAt, defineWalk}
 
 -- a variable's id and type
 variable-is : {P : Type 0} (t : Tm) → isVariable t ≡ true → ((id : Bytes) (ty : Ty) (ts : Forest Mark) → t ≡ node (Var id ty) ts → P) → P
@@ -69,6 +69,9 @@ module _ {file : Bytes} {k many limit n a b at : ℕ} {work work′ : List ℕ} 
 
   pub defines : SpellsBody file work′ k many n limit out₁ a out₂ b → Advances file k many limit (DefinedAt n) (defineWalk n) work out p work′ out′ r
   defines B = defines-by (λ f x R. R .at) (λ f x S I N m R. B .go f S I N m (R .at .below) (R .plain))
+
+  pub defines-some : {m : ℕ} → SpellsSome file work′ k many m limit out₁ a out₂ b → Advances file k many limit (SomeAt n m) (defineWalk n) work out p work′ out′ r
+  defines-some B = defines-by (λ f x R. R .at) (λ f x S I N m R. spells-some B f S I N m (R .at .below) (R .is))
 
   module _ {s : Bytes} {c : Children} where
     pub defines-set : SpellsSet file work′ k many n s c limit out₁ a out₂ b → Advances file k many limit (SetAt n (childrenIn s c)) (defineWalk n) work out p work′ out′ r

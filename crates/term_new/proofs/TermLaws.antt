@@ -40,7 +40,7 @@ use Rattle.term_parts.specs.Records.{TermIs}
 use Rattle.term_parts.proofs.Rows.{entry-is}
 use Rattle.term_line.specs.Lines.{isCollection}
 use Rattle.term_step.specs.Steps.{NewAt, textWalk, newWalk, TestsText}
-use Rattle.term_new.specs.News.{VariableAt, DefinedAt, SetAt, RecordAt, EntityAt, OperatorAt, defineWalk, entityWalk, appWalk}
+use Rattle.term_new.specs.News.{VariableAt, DefinedAt, SomeAt, SetAt, RecordAt, EntityAt, OperatorAt, defineWalk, entityWalk, appWalk}
 
 -- ---- the term of an entry
 
@@ -82,6 +82,10 @@ module _ (e : Enums) (u : Tm) (ts : Forest Mark) (S : State) where
   unfolding encodeNew
   step-string id h = rw h
 
+  step-some : u ≡ node tree.Some ts → encodeNew e u S ≡ defineTerm e u S
+  unfolding encodeNew
+  step-some h = rw h
+
   step-set : (ty : Ty) → u ≡ node (tree.Set ty) ts → encodeNew e u S ≡ defineTerm e u S
   unfolding encodeNew
   step-set ty h = rw h
@@ -96,7 +100,7 @@ module _ (e : Enums) (u : Tm) (ts : Forest Mark) (S : State) where
 
 -- the places of the other entries that are defined whatever they hold
 abbrev others : List ℕ
-others = 5 ∷ 6 ∷ 7 ∷ []
+others = 5 ∷ 6 ∷ []
 
 -- the term of such an entry is no set and no record, and is defined
 defined : (e : Enums) (f : TermFile) (body : Bytes) (u : Tm) (ts : Forest Mark) (r : TermEntry) (m : TermMark ℕ ℕ) (rs : List ℕ)
@@ -109,7 +113,7 @@ defined e f body u ts (entry.StringLit p) m rs h said is = absurd (miss others 3
 defined e f body u ts (entry.Entity t p) m rs h said is = absurd (miss others 4 tt h)
 defined e f body u ts (entry.ExtLit v) m rs h said is = let q : m ≡ tree.ExtLit (valueOf v) = cc in let g : u ≡ node (tree.ExtLit (valueOf v)) ts = is ∙ ap (λ (y : TermMark ℕ ℕ). node (namedMark f y) ts) q in (ap isCollection g, λ S. rw g)
 defined e f body u ts (entry.None t) m rs h said is = let q : m ≡ tree.None t = cc in let g : u ≡ node (tree.None (typeAt f t)) ts = is ∙ ap (λ (y : TermMark ℕ ℕ). node (namedMark f y) ts) q in (ap isCollection g, λ S. rw g)
-defined e f body u ts (entry.Some n) m rs h said is = let q : m ≡ tree.Some = cc in let g : u ≡ node tree.Some ts = is ∙ ap (λ (y : TermMark ℕ ℕ). node (namedMark f y) ts) q in (ap isCollection g, λ S. rw g)
+defined e f body u ts (entry.Some n) m rs h said is = absurd (miss others 7 tt h)
 defined e f body u ts (entry.Set t c) m rs h said is = absurd (miss others 8 tt h)
 defined e f body u ts (entry.Record c) m rs h said is = absurd (miss others 9 tt h)
 defined e f body u ts (entry.App t op c) m rs h said is = absurd (miss others 10 tt h)
@@ -184,6 +188,14 @@ module _ {file : Bytes} {k many limit n o : ℕ} {work : List ℕ} {out : Bytes}
   new-unreadable e =
       advances-by (λ f x I m y. term-of i same-number at T f I (y .below) (λ m′ rs said known. absurd (Option·none-ne-some _ (sym (ap (termSaid (bodyAt file o)) e) ∙ said))))
       (advances-nothing (NewAt n) (λ f. went) (λ f y s. sticky-nothing y))
+
+  pub new-some : {m : ℕ} {work′ : List ℕ} {out′ : Bytes} {q : Progress} → r ≡ entry.Some m → Advances file k many limit (SomeAt n m) (defineWalk n) work out p work′ out′ q
+      → Advances file k many limit (NewAt n) (newWalk n) work out p work′ out′ q
+  unfolding termSaid namedMark newWalk defineWalk
+  new-some e A =
+      advances-by (λ f x I m y.
+      let is = is-term i same-number at T _ _ (ap (termSaid (bodyAt file o)) e) f I (y .below) in
+      (record { at = y; is = is }, λ S. step-some (members f) (termAt f n) _ S (sym (is .tree)))) A
 
   module _ {c : Children} {body : Bytes} {work′ : List ℕ} {out′ : Bytes} {q : Progress} where
     pub new-set : {t : ℕ} → r ≡ entry.Set t c → body ≡ bodyAt file o → Advances file k many limit (SetAt n (childrenIn body c)) (defineWalk n) work out p work′ out′ q

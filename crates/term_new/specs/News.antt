@@ -3,11 +3,11 @@
 use Prim.Native.Nat.{ℕ, _<_}
 use mathlib.Core.Path.{_≡_}
 use mathlib.Core.Bool.{true, false}
-use mathlib.Core.List.{List}
+use mathlib.Core.List.{List, [], _∷_}
 use lib.ListN.{length}
 use Rattle.script_spec.specs.Base.{Bytes}
 use Rattle.script_spec.specs.Utf8.{isUtf8}
-use Rattle.script_spec.specs.Tree.{Op, Set, Record, enumOf, isVariable, negation}
+use Rattle.script_spec.specs.Tree.{Op, Some, Set, Record, enumOf, isVariable, negation}
 use Rattle.script_spec.specs.File.{TermFile, types, funs, members, typeAt, termAt, namedOp}
 use Rattle.script_spec.specs.Walk.{Step, Walk, _>>_, defineTerm, defineEntity, operatorStep, defineApp}
 use Rattle.index.specs.First.{OpInRange}
@@ -27,6 +27,11 @@ pub record VariableAt (n : ℕ) (f : TermFile) (x : Step) : Type 0 where
 pub record DefinedAt (n : ℕ) (f : TermFile) (x : Step) : Type 0 where
   pub at : NewAt n f x
   pub plain : isCollection (termAt f n) ≡ false
+
+-- it is new, and the option of the term with number m
+pub record SomeAt (n m : ℕ) (f : TermFile) (x : Step) : Type 0 where
+  pub at : NewAt n f x
+  pub is : TermIs f n Some (m ∷ [])
 
 -- it is new, and a set of the terms with these numbers
 pub record SetAt (n : ℕ) (rs : List ℕ) (f : TermFile) (x : Step) : Type 0 where

@@ -32,6 +32,9 @@ pub fn encode_new(
             let id = field::part_of(body, s.start, s.len);
             crate::entities::define_entity(file, work, k, many, out, limit, p, n, t, id)
         }
+        TermEntry::Some(m) => {
+            crate::collections::define_some(file, work, k, many, out, limit, p, n, m)
+        }
         TermEntry::Set(_, c) => crate::collections::define_set(
             file,
             work,
