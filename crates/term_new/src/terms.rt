@@ -59,7 +59,7 @@ pub fn encode_new(
             body,
             c,
         ),
-        TermEntry::App(_, op, _) => crate::applications::define_app(
+        TermEntry::App(_, op, c) => crate::applications::define_app(
             file,
             work,
             k,
@@ -70,6 +70,7 @@ pub fn encode_new(
             n,
             body,
             op,
+            c,
         ),
         TermEntry::Unreadable => p,
         _ => crate::define_term(file, work, k, many, out, limit, p, n),
