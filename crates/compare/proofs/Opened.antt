@@ -19,8 +19,8 @@ use Rattle.segments.specs.declared.Word.the-variants.{Value}
 use Rattle.segments.proofs.Steps.{reference-short, reference-at}
 use Rattle.compare.specs.View.{kindOf, numberOf, ofKind, numbers, larger, viewed, termAs}
 use Rattle.compare.specs.Shape.{Opens, firstCell}
-use Rattle.compare.specs.declared.Opening.{Opening}
-use Rattle.compare.specs.declared.Opening.the-variants.{TypeFirst, TermFirst}
+use Rattle.compare.specs.declared.opening.Opening.{Opening}
+use Rattle.compare.specs.declared.opening.Opening.the-variants.{TypeFirst, TermFirst}
 use Rattle.compare.specs.declared.View.the-variants.{Listed, Depth}
 use Rattle.compare.proofs.Depths.{larger-kind}
 
@@ -84,6 +84,12 @@ module _ (body : Bytes) (w : Walk) where
         q ∙ first-reference body work k termType f termRef rest first-of-none first-of-term (leb 4 (length body)) refl
         ∙ ap f (ahead-term (subst (Opens w) e h) ∙ sym p)
 
+-- the reference after a text
+pub first-named : (work : List ℕ) (k : ℕ) {t number : ℕ} {p : Bytes} {l : List Segment} → number ≡ cell work k typeFirst t → l ≡ plain p ∷ typeRef t ∷ []
+    → number ≡ getD (numbers 2 (map (viewed work k Listed) l)) 0 0
+unfolding numbers viewed kindOf numberOf ofKind
+first-named work k q e = rw (q, e)
+
 -- ---- the greatest depth
 
 module _ (work : List ℕ) (k kind : ℕ) where
@@ -125,17 +131,24 @@ module _ (work : List ℕ) (k kind : ℕ) where
       let none = greatest-none found {l = []} refl in
       omega arith
 
-  pub greatest-applied : {most number found : ℕ} (t : ℕ) (l : List Segment) → most ≡ larger 2 number kind 0 → number ≡ cell work k typeDepth t
+  pub greatest-listed : {most found : ℕ} (t : ℕ) (l : List Segment) → most ≡ larger 2 (cell work k typeDepth t) kind 0
       → found ≡ max most (greatest (numbers kind (map (viewed work k Depth) l))) → found ≡ greatest (numbers kind (map (viewed work k Depth) (typeRef t ∷ l)))
-  greatest-applied t l e q h =
+  greatest-listed t l e h =
       let type = greatest-type t 0 l in
-      h ∙ (rw (e, q) (omega arith))
+      h ∙ (rw e (omega arith))
 
-  pub greatest-shown : {t found : ℕ} (p q : Bytes) (l : List Segment) {m : List Segment} → found ≡ greatest (numbers kind (map (viewed work k Depth) (typeRef t ∷ l)))
-      → m ≡ typeRef t ∷ plain p ∷ plain q ∷ l → found ≡ greatest (numbers kind (map (viewed work k Depth) m))
-  greatest-shown {t} p q l h e =
+  pub greatest-named : {t found : ℕ} (p : Bytes) {m : List Segment} → found ≡ larger 2 (cell work k typeDepth t) kind 0 → m ≡ plain p ∷ typeRef t ∷ []
+      → found ≡ greatest (numbers kind (map (viewed work k Depth) m))
+  greatest-named {t} {found} p h e = greatest-listed t [] h (greatest-none found {l = []} refl) ∙ sym (greatest-plain p (typeRef t ∷ [])) ∙ (rw e)
+
+  pub greatest-listing : {t found : ℕ} (p : Bytes) (l : List Segment) {m : List Segment} → found ≡ greatest (numbers kind (map (viewed work k Depth) (typeRef t ∷ l)))
+      → m ≡ typeRef t ∷ plain p ∷ l → found ≡ greatest (numbers kind (map (viewed work k Depth) m))
+  greatest-listing {t} p l h e =
       let short = greatest-type t 0 l in
-      let long = greatest-type t 0 (plain p ∷ plain q ∷ l) in
-      let first = greatest-plain p (plain q ∷ l) in
-      let second = greatest-plain q l in
+      let long = greatest-type t 0 (plain p ∷ l) in
+      let bytes = greatest-plain p l in
       rw e (omega arith)
+
+  pub greatest-applied : {t found : ℕ} (p q : Bytes) (l : List Segment) {m : List Segment} → found ≡ greatest (numbers kind (map (viewed work k Depth) (typeRef t ∷ l)))
+      → m ≡ typeRef t ∷ plain p ∷ plain q ∷ l → found ≡ greatest (numbers kind (map (viewed work k Depth) m))
+  greatest-applied p q l h e = greatest-listing p (plain q ∷ l) (greatest-listing q l h refl) e

@@ -11,16 +11,17 @@ use Rattle.script_spec.specs.Base.{Bytes}
 use Rattle.script_spec.specs.Fields.{low}
 use Rattle.index.specs.Standing.{bodyAt}
 use Rattle.segments.specs.Segment.{Segment, plain, typeRef, termRef}
-use Rattle.segments.specs.Machine.{operandOf, codedThen, operator, fieldThen, itemThen, items, counted, last, start, startTerm, startList, remaining, ahead, segments}
+use Rattle.segments.specs.Machine.{operandOf, codedThen, operator, fieldThen, itemThen, items, counted, reference, named, textSize, last, start, startTerm, startList, remaining, ahead, segments}
 use Rattle.segments.specs.Step.{Reads}
 use Rattle.segments.specs.declared.Coded.the-variants.{Absent}
 use Rattle.segments.specs.declared.Item.the-variants.{Term}
+use Rattle.segments.specs.declared.Word.{Word}
 use Rattle.segments.specs.declared.Word.the-variants.{Value}
-use Rattle.segments.proofs.Steps.{cut-at, reference-short, reference-at, operator-with}
+use Rattle.segments.proofs.Steps.{cut-at, word-value, word-fits, reference-short, reference-at, operator-with}
 use Rattle.compare.specs.View.{startAt, segmentsAt}
 use Rattle.compare.specs.Shape.{Bare, Shaped, Opens}
-use Rattle.compare.specs.declared.Shape.{Shape}
-use Rattle.compare.specs.declared.Opening.{Opening}
+use Rattle.compare.specs.declared.shape.Shape.{Shape}
+use Rattle.compare.specs.declared.opening.Opening.{Opening}
 use Rattle.compare.proofs.Views.{startAt-bytes}
 
 -- ---- references to terms, one by one
@@ -68,15 +69,43 @@ pub bare-not : (b : ℕ) → Bare b false
 bare-not b h = let z : _≡_ {A = ℕ} 0 1 = cc in absurd (omega arith)
 
 module _ (body : Bytes) where
+  -- a count and references to terms, at a place
+  counted-at : (at : ℕ) {n : ℕ} → Reads (drop at body) (Value n) → counted Term (drop at body) ≡ plain (take 4 (drop at body)) ∷ items Term n (drop (at + 4) body)
+  unfolding counted
+  counted-at at h =
+      let fits = word-fits at body (h .0) in
+      cut-at 4 at body plain (items Term (low (take 4 (drop at body)))) (omega arith) ∙ (rw (← h .1))
+
   pub sole-shown : {n : ℕ} → Reads (drop 0 body) (Value n) → ahead body (start 88 49) ≡ termRef n ∷ []
   unfolding ahead remaining start startTerm fieldThen last items
   sole-shown h = reference-at 0 body termRef (λ s. []) h
 
   pub applied-shown : {t n : ℕ} → 9 ≤ length body → operandOf (getD body 4 0) ≡ Absent → Reads (drop 0 body) (Value t) → Reads (drop 5 body) (Value n)
       → ahead body (start 88 65) ≡ typeRef t ∷ plain (take 1 (drop 4 body)) ∷ plain (take 4 (drop 5 body)) ∷ items Term n (drop 9 body)
-  unfolding ahead remaining start startTerm startList fieldThen last counted codedThen
+  unfolding ahead remaining start startTerm startList fieldThen last codedThen
   applied-shown {t} {n} size bare h h′ =
       reference-at 0 body typeRef (operator (counted Term)) h
       ∙ ap (λ (l : List Segment). typeRef t ∷ l) (operator-with 4 body (counted Term) bare
       ∙ cut-at 1 4 body plain (counted Term) (omega arith)
-      ∙ ap (λ (l : List Segment). plain (take 1 (drop 4 body)) ∷ l) (cut-at 4 5 body plain (items Term (low (take 4 (drop 5 body)))) (omega arith) ∙ (rw (← h′ .1))))
+      ∙ ap (λ (l : List Segment). plain (take 1 (drop 4 body)) ∷ l) (counted-at 5 h′))
+
+  pub listing-shown : {t n : ℕ} → Reads (drop 0 body) (Value t) → Reads (drop 4 body) (Value n)
+      → (8 ≤ length body) × (ahead body (start 88 67) ≡ typeRef t ∷ plain (take 4 (drop 4 body)) ∷ items Term n (drop 8 body))
+  unfolding ahead remaining start startTerm startList fieldThen last
+  listing-shown {t} h h′ =
+      (word-fits 4 body (h′ .0), reference-at 0 body typeRef (counted Term) h ∙ ap (λ (l : List Segment). typeRef t ∷ l) (counted-at 4 h′))
+
+  pub named-shown : (v w : Word) {n t : ℕ} → Reads (drop 0 body) v → v ≡ Value n → Reads (drop (4 + n) body) w → w ≡ Value t
+      → (4 + n ≤ length body) × (ahead body (start 88 86) ≡ plain (take (4 + n) body) ∷ typeRef t ∷ [])
+  unfolding ahead remaining start startTerm fieldThen last items named textSize
+  named-shown v w {n} h e h′ e′ =
+      let count = word-value (drop 0 body) v h e in
+      let type = word-value (drop (4 + n) body) w h′ e′ in
+      let fits = word-fits (4 + n) body (type .0) in
+      let text : 4 + low (take 4 body) ≡ 4 + n = ap (λ (m : ℕ). 4 + m) (sym (count .1)) in
+      let size : 4 + n ≤ length body = omega arith in
+      let past : 0 + (4 + n) ≡ 4 + n = omega arith in (
+        size,
+        (rw text (rw past at (cut-at (4 + n) 0 body plain (reference typeRef (λ s. [])) (omega arith))))
+            ∙ ap (λ (l : List Segment). plain (take (4 + n) body) ∷ l) (reference-at (4 + n) body typeRef (λ s. []) type),
+      )

@@ -15,10 +15,10 @@ use Rattle.segments.specs.declared.Walk.{Walk}
 use Rattle.segments.specs.declared.Coded.the-variants.{Absent}
 use Rattle.segments.specs.declared.Field.the-variants as field
 use Rattle.segments.specs.declared.Item.the-variants.{Term}
-use Rattle.compare.specs.declared.Shape.{Shape}
-use Rattle.compare.specs.declared.Shape.the-variants.{Sole, Applied, Other}
-use Rattle.compare.specs.declared.Opening.{Opening}
-use Rattle.compare.specs.declared.Opening.the-variants.{TypeFirst, TermFirst, Unknown}
+use Rattle.compare.specs.declared.shape.Shape.{Shape}
+use Rattle.compare.specs.declared.shape.Shape.the-variants.{Sole, Applied, Listing, Named, Other}
+use Rattle.compare.specs.declared.opening.Opening.{Opening}
+use Rattle.compare.specs.declared.opening.Opening.the-variants.{TypeFirst, TermFirst, Unknown}
 
 -- where the test is true the operator with code b has no operand
 abbrev pub Bare : ℕ → Bool → Type 0
@@ -28,6 +28,8 @@ Bare b r = r ≡ true → operandOf b ≡ Absent
 abbrev pub Shaped : Bytes → List Segment → Shape → Type 0
 Shaped body l (Sole n) = l ≡ termRef n ∷ []
 Shaped body l (Applied t n) = (9 ≤ length body) × (l ≡ typeRef t ∷ plain (take 1 (drop 4 body)) ∷ plain (take 4 (drop 5 body)) ∷ items Term n (drop 9 body))
+Shaped body l (Listing t n) = (8 ≤ length body) × (l ≡ typeRef t ∷ plain (take 4 (drop 4 body)) ∷ items Term n (drop 8 body))
+Shaped body l (Named size t) = (size ≤ length body) × (l ≡ plain (take size body) ∷ typeRef t ∷ [])
 Shaped body l Other = Unit
 
 -- the first field of a walk from the start of a body

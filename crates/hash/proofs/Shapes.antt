@@ -42,17 +42,15 @@ module _ (work : List ℕ) (k : ℕ) where
       → x ≡ mixedSegments h (map (viewed work k First) l)
   mixed-sole h {x = x} e q p = mixed-none x {l = []} refl ∙ mixed-turn h e q p
 
-  pub mixed-applied : (h t : ℕ) (p q : Bytes) (l : List Segment) {number x y z r : ℕ} → x ≡ mixed (mixed h 2) number → number ≡ cell work k typeFirst t
-      → y ≡ mixedBytes (mixed (mixed x 1) 0) p → z ≡ mixedBytes (mixed (mixed y 1) 0) q → r ≡ mixedSegments z (map (viewed work k First) l)
-      → r ≡ mixedSegments h (map (viewed work k First) (typeRef t ∷ plain p ∷ plain q ∷ l))
-  mixed-applied h t p q l {x = x} {y = y} e e′ f g i =
-      i
-      ∙ ap (λ (n : ℕ). mixedSegments n (map (viewed work k First) l)) g
-      ∙ mixed-plain y q l
-      ∙ ap (λ (n : ℕ). mixedSegments n (map (viewed work k First) (plain q ∷ l))) f
-      ∙ mixed-plain x p (plain q ∷ l)
-      ∙ ap (λ (n : ℕ). mixedSegments n (map (viewed work k First) (plain p ∷ plain q ∷ l))) (e ∙ ap (mixed (mixed h 2)) e′)
-      ∙ mixed-type h t (plain p ∷ plain q ∷ l)
+  -- a type, and then others
+  pub type-then : (h t : ℕ) (l : List Segment) {number x r : ℕ} → x ≡ mixed (mixed h 2) number → number ≡ cell work k typeFirst t
+      → r ≡ mixedSegments x (map (viewed work k First) l) → r ≡ mixedSegments h (map (viewed work k First) (typeRef t ∷ l))
+  type-then h t l e q i = i ∙ ap (λ (n : ℕ). mixedSegments n (map (viewed work k First) l)) (e ∙ ap (mixed (mixed h 2)) q) ∙ mixed-type h t l
+
+  -- bytes, and then others
+  pub plain-then : (h : ℕ) (p : Bytes) (l : List Segment) {x r : ℕ} → x ≡ mixedBytes (mixed (mixed h 1) 0) p
+      → r ≡ mixedSegments x (map (viewed work k First) l) → r ≡ mixedSegments h (map (viewed work k First) (plain p ∷ l))
+  plain-then h p l e i = i ∙ ap (λ (n : ℕ). mixedSegments n (map (viewed work k First) l)) e ∙ mixed-plain h p l
 
   -- ---- the record at an offset
 

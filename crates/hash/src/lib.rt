@@ -12,8 +12,8 @@ ghost use Rattle.compare.specs.declared.View.the-variants.{First, Listed};
 ghost use Rattle.index.specs.Names.{mixed, mixedBytes};
 ghost use Rattle.hash.specs.Hash.{mixedSegments, recordHash, typeHash};
 use compare::Seen;
-use compare::Shape;
 use compare::View;
+use compare::shape::Shape;
 use segments::Walk;
 use segments::Word;
 
@@ -119,15 +119,36 @@ fn mix_applied(body: &[u8], t: u32, count: u32, work: &[u32], k: usize, h: u32) 
     mix_terms(body, 9, count, work, k, z)
 }
 
+// With the segments of a set: its type, the count, and its elements.
+fn mix_listing(body: &[u8], t: u32, count: u32, work: &[u32], k: usize, h: u32) -> u32
+    requires { ⌜ 8 ≤ length (now body) ⌝ }
+    ensures { λ r. ⌜ r ≡ mixedSegments h (map (viewed (now (work .entry)) k First) (typeRef t ∷ plain (take 4 (drop 4 (now (body .entry)))) ∷ items Term count (drop 8 (now (body .entry))))) ⌝ }
+{
+    let x = mix_reference(h, 2, index::get(work, k, index::TYPE_FIRST, t as usize));
+    let y = mix_plain(x, &body[4..8]);
+    mix_terms(body, 8, count, work, k, y)
+}
+
+// With the segments of a variable: its text of so many bytes with the count, and its type.
+fn mix_named(body: &[u8], size: usize, t: u32, work: &[u32], k: usize, h: u32) -> u32
+    requires { ⌜ size ≤ length (now body) ⌝ }
+    ensures { λ r. ⌜ r ≡ mixedSegments h (map (viewed (now (work .entry)) k First) (plain (take size (now (body .entry))) ∷ typeRef t ∷ [])) ⌝ }
+{
+    let x = mix_plain(h, &body[..size]);
+    mix_reference(x, 2, index::get(work, k, index::TYPE_FIRST, t as usize))
+}
+
 // The hash of the record at an offset.
 pub fn record_hash(file: &[u8], work: &[u32], k: usize, o: usize) -> u32
     ensures { λ r. ⌜ r ≡ recordHash (now (file .entry)) (now (work .entry)) k o ⌝ }
 {
     let body = compare::body_of(file, o);
     let h = mix_bytes(0, field::part_of(file, o, 2));
-    match compare::shape_of(file, o, body) {
+    match compare::shape::shape_of(file, o, body) {
         Shape::Sole(n) => mix_reference(h, 4, index::get(work, k, index::TERM_FIRST, n as usize)),
         Shape::Applied(t, m) => mix_applied(body, t, m, work, k, h),
+        Shape::Listing(t, m) => mix_listing(body, t, m, work, k, h),
+        Shape::Named(size, t) => mix_named(body, size, t, work, k, h),
         Shape::Other => mix_ahead(body, compare::walk_of(file, o), work, k, View::First, h),
     }
 }

@@ -145,6 +145,16 @@ fn skip(c: Cursor, body: &[u8], field: Field, file: &[u8], offsets: &[u32]) -> M
     }
 }
 
+// One field, of which `Nothing` is told before the others.
+fn skip_field(c: Cursor, body: &[u8], field: Field, file: &[u8], offsets: &[u32]) -> Moved
+    ensures { λ r. ⌜ Reads (fieldReader (isEntityAt (now (file .entry)) (now (offsets .entry))) field) (now (body .entry)) (c .at) (movedTold r) ⌝ }
+{
+    match field {
+        Field::Nothing => Moved::To(c),
+        _ => skip(c, body, field, file, offsets),
+    }
+}
+
 // The end of a body.
 fn end(c: Cursor, body: &[u8]) -> Verdict
     ensures { λ r. ⌜ r ≡ ended (got tt (drop (c .at) (now (body .entry)))) ⌝ }
@@ -172,11 +182,11 @@ pub fn read_body(
     let first = all.0;
     let second = all.1;
     let third = all.2;
-    match skip(Cursor { at: 0 }, body, first, file, offsets) {
+    match skip_field(Cursor { at: 0 }, body, first, file, offsets) {
         Moved::Bad(n) => Verdict::Bad(n),
-        Moved::To(c) => match skip(c, body, second, file, offsets) {
+        Moved::To(c) => match skip_field(c, body, second, file, offsets) {
             Moved::Bad(n) => Verdict::Bad(n),
-            Moved::To(d) => match skip(d, body, third, file, offsets) {
+            Moved::To(d) => match skip_field(d, body, third, file, offsets) {
                 Moved::Bad(n) => Verdict::Bad(n),
                 Moved::To(e) => end(e, body),
             },

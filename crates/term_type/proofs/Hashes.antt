@@ -28,12 +28,12 @@ use Rattle.compare.proofs.Listed.{segmentsAt-shown, named-listed}
 use Rattle.record_rules.specs.Marks.{datatypeBytes, typeBytes, markOf}
 use Rattle.hash.specs.Hash.{hashed, typeHash}
 use Rattle.slots.specs.Slots.{homeOf}
-use Rattle.term_type.specs.Sought.{typeLetter, widthAt, valueCode, partAt, Seeks}
+use Rattle.term_type.specs.Sought.{typeLetter, widthAt, valueCode, partAt, PartOf, Seeks}
 use Rattle.term_type.specs.Probed.{TypeHash, TypeHome}
 use Rattle.term_type.proofs.Letters.{over, letterOf, Sized}
 use Rattle.term_type.proofs.Numbers.{typeNumber, no-number, none, one}
 use Rattle.term_type.proofs.Read.{term-width, term-code, term-part}
-use Rattle.term_type.proofs.Same.{seeks-below, seeks-lettered, sought-letter, seeks-sized, seeks-settled, RecordTerm, record-term}
+use Rattle.term_type.proofs.Same.{seeks-below, seeks-lettered, sought-letter, seeks-sized, seeks-settled, RecordTerm, record-term, part-is}
 
 -- ---- types
 
@@ -116,11 +116,11 @@ module _ {file : Bytes} {work : List ℕ} {k o l mark : ℕ} (is : l ≡ getD (m
         by-number (λ z. omega arith) e (sym (ap (λ (x : ℕ). sole x n) m))
         (λ f t ps S h. q ∙ over (λ u rs. letterOf u ≡ 86 → widthAt file o ≡ typeNumber u (map (cell work k typeFirst) rs)) (S .by) (term-width file octets work k o (S .mark) (S .refs) (S .reads)) (h ∙ m))
 
-    pub part-hashed : {n r : ℕ} → (mark ≡ 67) ⊎ (mark ≡ 79) → n ≡ partAt file work k o → r ≡ typeHash mark (typeRef n ∷ []) → TypeHash file work k o r
+    pub part-hashed : {n r : ℕ} → (mark ≡ 67) ⊎ (mark ≡ 79) → PartOf file work k o n → r ≡ typeHash mark (typeRef n ∷ []) → TypeHash file work k o r
     unfolding sole
-    part-hashed {n} m q e =
+    part-hashed {n} m P e =
         by-number (λ z. ⊎-elim (λ h. omega arith) (λ h. omega arith) m) e (⊎-elim (λ h. sym (ap (λ (x : ℕ). sole x n) h)) (λ h. sym (ap (λ (x : ℕ). sole x n) h)) m)
-        (λ f t ps S h. q ∙ over (λ u rs. (letterOf u ≡ 67) ⊎ (letterOf u ≡ 79) → partAt file work k o ≡ typeNumber u (map (cell work k typeFirst) rs)) (S .by) (term-part file octets work k o (S .mark) (S .refs) (S .reads) (seeks-settled S)) (rw h m))
+        (λ f t ps S h. part-is is want P m ∙ over (λ u rs. (letterOf u ≡ 67) ⊎ (letterOf u ≡ 79) → partAt file work k o ≡ typeNumber u (map (cell work k typeFirst) rs)) (S .by) (term-part file octets work k o (S .mark) (S .refs) (S .reads) (seeks-settled S)) (rw h m))
 
     pub record-hashed : {r : ℕ} → mark ≡ 82 → r ≡ typeHash 82 (map (viewed work k Listed) (segmentsAt file o)) → TypeHash file work k o r
     unfolding typeBytes datatypeBytes Computes.base

@@ -31,7 +31,7 @@ use Rattle.compare.specs.declared.View.the-variants.{First, Listed}
 use Rattle.compare.proofs.Compared.{Same, decides-not}
 use Rattle.compare.proofs.Listed.{same-listed}
 use Rattle.record_rules.specs.Marks.{datatypeBytes, typeBytes}
-use Rattle.term_type.specs.Sought.{typeLetter, widthAt, codeAt, valueCode, partAt, Seeks, SameType}
+use Rattle.term_type.specs.Sought.{typeLetter, widthAt, codeAt, valueCode, partAt, PartOf, Seeks, SameType}
 use Rattle.term_type.proofs.Letters.{Over, over, letterOf, type-letter, term-letter, Lettered, lettered, Sized, SizedEntry, entry-sized}
 use Rattle.term_type.proofs.Numbers.{typeNumber, same-number, no-number}
 use Rattle.term_type.proofs.Read.{type-width, type-code, type-part, term-width, term-code, term-part}
@@ -126,6 +126,16 @@ record-term τ (App n op) rs = tt
 names-of : {a b : List Bytes} → Declared (recordOf a) ≡ Declared (recordOf b) → a ≡ b
 names-of e = cc
 
+-- ---- the part
+
+module _ {file : Bytes} {work : List ℕ} {k o l mark : ℕ} (is : l ≡ getD (markAt file o) 1 0) (want : mark ≡ typeLetter l) where
+  -- by the letter of the type's mark
+  pub part-is : {n : ℕ} → PartOf file work k o n → (mark ≡ 67) ⊎ (mark ≡ 79) → n ≡ partAt file work k o
+  part-is P m = P .go (rw (← is, ← want) m)
+
+  pub part-none : {n : ℕ} → ((mark ≡ 67) ⊎ (mark ≡ 79) → ⊥) → PartOf file work k o n
+  part-none h = record { go = λ m. absurd (h (rw (want, is) m)) }
+
 -- ---- the test
 
 pub decides-same : {P Q : Type 0} {r : Bool} → Same P Q → Decides r Q → Decides r P
@@ -176,10 +186,10 @@ module _ {file : Bytes} {work : List ℕ} {k p o l l′ mark : ℕ} (is : l ≡ 
           by-number (λ z. omega arith) test (λ u rs e h. type-width file octets work k p u rs e (h ∙ m))
           (λ f t ps S h. over (λ u rs. letterOf u ≡ 86 → widthAt file o ≡ typeNumber u (map (cell work k typeFirst) rs)) (S .by) (term-width file octets work k o (S .mark) (S .refs) (S .reads)) (h ∙ m))
 
-      pub same-parts : {r : Bool} → (mark ≡ 67) ⊎ (mark ≡ 79) → r ≡ eqb (partAt file work k p) (partAt file work k o) → SameType file work k p o r
-      same-parts m test =
+      pub same-parts : {n : ℕ} {r : Bool} → (mark ≡ 67) ⊎ (mark ≡ 79) → PartOf file work k o n → r ≡ eqb (partAt file work k p) n → SameType file work k p o r
+      same-parts m P test =
           by-number (λ z. ⊎-elim (λ h. omega arith) (λ h. omega arith) m) test (λ u rs e h. type-part file octets work k p u rs e (rw h m))
-          (λ f t ps S h. over (λ u rs. (letterOf u ≡ 67) ⊎ (letterOf u ≡ 79) → partAt file work k o ≡ typeNumber u (map (cell work k typeFirst) rs)) (S .by) (term-part file octets work k o (S .mark) (S .refs) (S .reads) (seeks-settled S)) (rw h m))
+          (λ f t ps S h. part-is is want P m ∙ over (λ u rs. (letterOf u ≡ 67) ⊎ (letterOf u ≡ 79) → partAt file work k o ≡ typeNumber u (map (cell work k typeFirst) rs)) (S .by) (term-part file octets work k o (S .mark) (S .refs) (S .reads) (seeks-settled S)) (rw h m))
 
     -- no fields
     pub same-marks : (mark ≡ 82 → ⊥) → (mark ≡ 88 → ⊥) → (mark ≡ 86 → ⊥) → ((mark ≡ 67) ⊎ (mark ≡ 79) → ⊥) → SameType file work k p o true

@@ -1,6 +1,7 @@
 -- The type of a term among the types that are listed, by the term's record and by the index.
 -- Assumes nothing.
 use mathlib.Core.Path.{_≡_}
+use mathlib.Core.Logic.{_⊎_}
 use Prim.Native.Nat.{ℕ, _-_}
 use mathlib.Core.Bool.{Bool, true, false, _||_}
 use mathlib.Core.List.{List, map}
@@ -14,7 +15,7 @@ use Rattle.script_spec.specs.File.{TermFile, types, earlier}
 use Rattle.index.specs.Cells.{cell, termType}
 use Rattle.index.specs.First.{orElse, Below, InRange}
 use Rattle.index.specs.Rules.{listed, typeBy, typeNamed}
-use Rattle.index.specs.Standing.{bodyAt, entryAt}
+use Rattle.index.specs.Standing.{markAt, bodyAt, entryAt}
 use Rattle.index.specs.Meaning.{Index}
 use Rattle.index.specs.Lists.{numberAt}
 use Rattle.compare.specs.View.{Decides, viewed, numbers, segmentsAt}
@@ -57,6 +58,10 @@ unfoldable pub partAt : Bytes → List ℕ → ℕ → ℕ → ℕ
 partAt file work k o = getD (numbers 2 (map (viewed work k Listed) (segmentsAt file o))) 0 0
 
 -- ---- what is sought
+
+-- n is that type where the term at an offset has an option or a set over it, by the second byte of its type's mark: C, O
+pub record PartOf (file : Bytes) (work : List ℕ) (k o n : ℕ) : Type 0 where
+  pub go : (typeLetter (getD (markAt file o) 1 0) ≡ 67) ⊎ (typeLetter (getD (markAt file o) 1 0) ≡ 79) → n ≡ partAt file work k o
 
 -- a term stands at an offset whose type is to be listed, by this mark and these parts
 pub record Seeks (file : Bytes) (work : List ℕ) (k o : ℕ) (f : TermFile) (t : TypeMark) (parts : List ℕ) : Type 0 where

@@ -3,7 +3,7 @@ use record_rules::record::body_at;
 use record_rules::record::letter;
 ghost use mathlib.Core.Path.{_≡_};
 ghost use lib.Dec.{eqb};
-ghost use Rattle.term_type.specs.Sought.{refers, typeLetter, widthAt, codeAt, valueCode, partAt, TypeSought, SameType};
+ghost use Rattle.term_type.specs.Sought.{refers, typeLetter, widthAt, codeAt, valueCode, partAt, PartOf, TypeSought, SameType};
 ghost use Rattle.term_type.specs.Probed.{TypeHash, TypeHome, Holds, Probes, ListedSought};
 
 // Whether a term refers to its type, by the second byte of its mark: a variable, an entity or an application.
@@ -71,15 +71,27 @@ fn same_width(file: &[u8], p: usize, o: usize) -> bool
     width_at(file, p) == width_at(file, o)
 }
 
-// Whether an option or a set type at an offset p is over the type that the term at an offset o first refers to.
-fn same_part(file: &[u8], work: &[u32], k: usize, p: usize, o: usize) -> bool
-    ensures { λ r. ⌜ r ≡ eqb (partAt (now (file .entry)) (now (work .entry)) k p) (partAt (now (file .entry)) (now (work .entry)) k o) ⌝ }
+// The type that the term at an offset first refers to, where its own type is an option or a set over it; else 0.
+fn part_of(file: &[u8], work: &[u32], k: usize, o: usize) -> u32
+    ensures { λ r. ⌜ PartOf (now (file .entry)) (now (work .entry)) k o r ⌝ }
 {
-    compare::first_reference(file, work, k, p) == compare::first_reference(file, work, k, o)
+    let mark = type_letter(letter(file, o));
+    match mark {
+        b'O' | b'C' => compare::first_reference(file, work, k, o),
+        _ => 0,
+    }
+}
+
+// Whether an option or a set type at an offset is over a type.
+fn same_part(file: &[u8], work: &[u32], k: usize, p: usize, part: u32) -> bool
+    ensures { λ r. ⌜ r ≡ eqb (partAt (now (file .entry)) (now (work .entry)) k p) part ⌝ }
+{
+    compare::first_reference(file, work, k, p) == part
 }
 
 // Whether the type at an offset p is that of the term at an offset o, which does not refer to it.
-fn same_type(file: &[u8], work: &[u32], k: usize, p: usize, o: usize) -> bool
+fn same_type(file: &[u8], work: &[u32], k: usize, p: usize, o: usize, part: u32) -> bool
+    requires { ⌜ PartOf (now file) (now work) k o part ⌝ }
     ensures { λ r. ⌜ SameType (now (file .entry)) (now (work .entry)) k p o r ⌝ }
 {
     let mark = type_letter(letter(file, o));
@@ -90,13 +102,14 @@ fn same_type(file: &[u8], work: &[u32], k: usize, p: usize, o: usize) -> bool
         b'R' => compare::same_listed_type(file, work, k, p, o),
         b'X' => same_code(file, p, o),
         b'V' => same_width(file, p, o),
-        b'O' | b'C' => same_part(file, work, k, p, o),
+        b'O' | b'C' => same_part(file, work, k, p, part),
         _ => true,
     }
 }
 
 // The hash of the type of the term at an offset, which does not refer to it.
-fn type_hash(file: &[u8], work: &[u32], k: usize, o: usize) -> u32
+fn type_hash(file: &[u8], work: &[u32], k: usize, o: usize, part: u32) -> u32
+    requires { ⌜ PartOf (now file) (now work) k o part ⌝ }
     ensures { λ r. ⌜ TypeHash (now (file .entry)) (now (work .entry)) k o r ⌝ }
 {
     let mark = type_letter(letter(file, o));
@@ -104,24 +117,26 @@ fn type_hash(file: &[u8], work: &[u32], k: usize, o: usize) -> u32
         b'R' => hash::listed_hash(file, work, k, o),
         b'X' => hash::code_hash(mark, value_code(file, o)),
         b'V' => hash::number_hash(mark, width_at(file, o)),
-        b'O' | b'C' => hash::part_hash(mark, compare::first_reference(file, work, k, o)),
+        b'O' | b'C' => hash::part_hash(mark, part),
         _ => hash::bare_hash(mark),
     }
 }
 
 // The slot from which the type of the term at an offset is looked for.
-fn home(file: &[u8], work: &[u32], k: usize, o: usize) -> usize
+fn home(file: &[u8], work: &[u32], k: usize, o: usize, part: u32) -> usize
+    requires { ⌜ PartOf (now file) (now work) k o part ⌝ }
     ensures { λ r. ⌜ TypeHome (now (file .entry)) (now (work .entry)) k o r ⌝ }
 {
     if k == 0 {
         return 0;
     }
-    let h = type_hash(file, work, k, o) as usize;
+    let h = type_hash(file, work, k, o, part) as usize;
     h % k
 }
 
 // Whether a slot that holds v has a type that is that of the term at an offset.
-fn holds(file: &[u8], work: &[u32], k: usize, types: u32, o: usize, v: u32) -> bool
+fn holds(file: &[u8], work: &[u32], k: usize, types: u32, o: usize, part: u32, v: u32) -> bool
+    requires { ⌜ PartOf (now file) (now work) k o part ⌝ }
     ensures { λ r. ⌜ Holds (now (file .entry)) (now (work .entry)) k types o v r ⌝ }
 {
     let n = slots::number_of(v);
@@ -132,11 +147,12 @@ fn holds(file: &[u8], work: &[u32], k: usize, types: u32, o: usize, v: u32) -> b
         return false;
     }
     let p = index::get(work, k, index::TYPE_OFFSET, n as usize);
-    same_type(file, work, k, p as usize, o)
+    same_type(file, work, k, p as usize, o, part)
 }
 
 // What `find` answers, from the slot b on.
-fn probe(file: &[u8], work: &[u32], k: usize, types: u32, o: usize, b: usize) -> u32
+fn probe(file: &[u8], work: &[u32], k: usize, types: u32, o: usize, part: u32, b: usize) -> u32
+    requires { ⌜ PartOf (now file) (now work) k o part ⌝ }
     ensures { λ r. ⌜ Probes (now (file .entry)) (now (work .entry)) k types o b r ⌝ }
 {
     let mut d = 0;
@@ -145,7 +161,7 @@ fn probe(file: &[u8], work: &[u32], k: usize, types: u32, o: usize, b: usize) ->
         if v == 0 {
             return types;
         }
-        if holds(file, work, k, types, o, v) {
+        if holds(file, work, k, types, o, part, v) {
             return index::get(work, k, index::TYPE_FIRST, slots::number_of(v) as usize);
         }
         d += 1;
@@ -157,8 +173,9 @@ fn probe(file: &[u8], work: &[u32], k: usize, types: u32, o: usize, b: usize) ->
 fn find(file: &[u8], work: &[u32], k: usize, types: u32, o: usize) -> u32
     ensures { λ r. ⌜ ListedSought (now (file .entry)) (now (work .entry)) k types o r ⌝ }
 {
-    let b = home(file, work, k, o);
-    probe(file, work, k, types, o, b)
+    let part = part_of(file, work, k, o);
+    let b = home(file, work, k, o, part);
+    probe(file, work, k, types, o, part, b)
 }
 
 // The number of the first type that is equal to the type of the term at an offset, of `types` that are listed, or `types`.

@@ -15,6 +15,16 @@ mix-applied-requires c κs =
     let s = c.before.before.before.before.before.before.before.before.before in
     (shape-is c.before.before.before.before.before.before.body-of.result.now (segmentsAt s.args.file.now s.args.o) c.before.before.before.shape-of.result (c.before.before.before.shape-of.ensures c.before.before.before.before.before.before.body-of.ensures) c.before.t.given.1) .0
 
+mix-listing-requires : tie.Need-mix-listing-requires
+mix-listing-requires c κs =
+    let s = c.before.before.before.before.before.before.before.before.before in
+    (shape-is c.before.before.before.before.before.before.body-of.result.now (segmentsAt s.args.file.now s.args.o) c.before.before.before.shape-of.result (c.before.before.before.shape-of.ensures c.before.before.before.before.before.before.body-of.ensures) c.before.t2.given.1) .0
+
+mix-named-requires : tie.Need-mix-named-requires
+mix-named-requires c κs =
+    let s = c.before.before.before.before.before.before.before.before.before in
+    (shape-is c.before.before.before.before.before.before.body-of.result.now (segmentsAt s.args.file.now s.args.o) c.before.before.before.shape-of.result (c.before.before.before.shape-of.ensures c.before.before.before.before.before.before.body-of.ensures) c.before.size.given.1) .0
+
 returns : tie.Need-returns
 unfolding markAt
 returns c =
@@ -34,13 +44,31 @@ returns-3 : tie.Need-returns-3
 unfolding markAt
 returns-3 c =
     let s = c.before.before.before.before.before.before.before.before.before.before in
+    let segments = shape-is c.before.before.before.before.before.before.before.body-of.result.now (segmentsAt s.args.file.now s.args.o) c.before.before.before.before.shape-of.result (c.before.before.before.before.shape-of.ensures c.before.before.before.before.before.before.before.body-of.ensures) c.before.before.t2.given.1 in
+    hash-shown s.args.work.now s.args.k s.args.file.now s.args.o (c.before.before.before.before.before.mix-bytes.ensures ∙ ap (mixedBytes 0) c.before.before.before.before.before.before.part-of.ensures) (segments .1) c.mix-listing.ensures
+
+returns-4 : tie.Need-returns-4
+unfolding markAt
+returns-4 c =
+    let s = c.before.before.before.before.before.before.before.before.before.before in
+    let segments = shape-is c.before.before.before.before.before.before.before.body-of.result.now (segmentsAt s.args.file.now s.args.o) c.before.before.before.before.shape-of.result (c.before.before.before.before.shape-of.ensures c.before.before.before.before.before.before.before.body-of.ensures) c.before.before.size.given.1 in
+    hash-shown s.args.work.now s.args.k s.args.file.now s.args.o (c.before.before.before.before.before.mix-bytes.ensures ∙ ap (mixedBytes 0) c.before.before.before.before.before.before.part-of.ensures) (segments .1) c.mix-named.ensures
+
+returns-5 : tie.Need-returns-5
+unfolding markAt
+returns-5 c =
+    let s = c.before.before.before.before.before.before.before.before.before.before in
     hash-walk s.args.work.now s.args.k s.args.file.now s.args.o (c.before.before.before.before.before.mix-bytes.ensures ∙ ap (mixedBytes 0) c.before.before.before.before.before.before.part-of.ensures) c.before.before.before.before.before.before.before.body-of.ensures c.before.walk-of.ensures c.mix-ahead.ensures
 
 pub record-hash-spec : {M : Type 1} → statement M
 record-hash-spec =
     tie.close
     (tie.spec (λ c κs. search needs) (λ c κs. search needs) (λ c κs. search needs) (λ c κs. search needs) (λ c. search needs) (λ c. search needs) (λ c κs. search needs) (λ c κs. search needs) (λ c. search needs)
-    mix-applied-requires (λ c. search needs) (λ c κs. search needs) (λ c κs. search needs)
+    mix-applied-requires (λ c. search needs)
+    mix-listing-requires (λ c. search needs)
+    mix-named-requires (λ c. search needs) (λ c κs. search needs) (λ c κs. search needs)
     returns
     returns-2
-    returns-3)
+    returns-3
+    returns-4
+    returns-5)

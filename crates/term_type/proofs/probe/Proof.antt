@@ -9,10 +9,10 @@ use Rattle.term_type.proofs.probe.Statement.{statement}
 use Rattle.term_type.proofs.probe.Tie as tie
 
 abbrev Inv-loop : tie.InvT-loop
-Inv-loop file work k types o b d₀ d = Passed file work k types o b d
+Inv-loop file work k types o part b d₀ d = Passed file work k types o b d
 
 abbrev μ-loop : tie.MeasureT-loop
-μ-loop file work k types o b d₀ d = k - d
+μ-loop file work k types o part b d₀ d = k - d
 
 loop-holds : tie.Need-loop-holds Inv-loop μ-loop
 loop-holds c = passed-none

@@ -1,5 +1,7 @@
--- The first references.
+-- The first reference.
 -- Assumes nothing.
+use mathlib.Core.Path.{ap}
+use Prim.Native.Nat.{ℕ}
 use lib.Dec.{eqb}
 use Rattle.term_type.specs.Sought.{partAt}
 use borrow.Author.Needs.{needs}
@@ -8,7 +10,7 @@ use Rattle.term_type.proofs.same_part.Tie as tie
 
 returns : tie.Need-returns
 unfolding partAt
-returns c = λ i. eqb (c.before.first-reference.ensures i) (c.first-reference2.ensures i)
+returns c = ap (λ (n : ℕ). eqb n c.before.before.before.args.part) c.first-reference.ensures
 
 pub same-part-spec : {M : Type 1} → statement M
-same-part-spec = tie.close (tie.spec (λ c κs. search needs) (λ c κs. search needs) returns)
+same-part-spec = tie.close (tie.spec (λ c κs. search needs) returns)

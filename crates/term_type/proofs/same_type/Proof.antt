@@ -19,7 +19,7 @@ returns-4 : tie.Need-returns-4
 returns-4 c = same-widths c.before.before.before.before.before.letter.ensures c.before.before.before.before.type-letter.ensures c.before.before.before.letter2.ensures c.before.before.if1.left (λ i. omega (arith, c.before.before.before.before.before.before.before.shared-slice-known.given i)) c.before.match.keys3 c.same-width.ensures
 
 returns-5 : tie.Need-returns-5
-returns-5 c = same-parts c.before.before.before.before.before.letter.ensures c.before.before.before.before.type-letter.ensures c.before.before.before.letter2.ensures c.before.before.if1.left (λ i. omega (arith, c.before.before.before.before.before.before.before.shared-slice-known.given i)) c.before.match.keys4 c.same-part.ensures
+returns-5 c = same-parts c.before.before.before.before.before.letter.ensures c.before.before.before.before.type-letter.ensures c.before.before.before.letter2.ensures c.before.before.if1.left (λ i. omega (arith, c.before.before.before.before.before.before.before.shared-slice-known.given i)) c.before.match.keys4 c.before.before.before.before.before.before.before.before.pre c.same-part.ensures
 
 returns-6 : tie.Need-returns-6
 returns-6 c = let r = c.match.rest in same-marks c.before.before.before.before.letter.ensures c.before.before.before.type-letter.ensures c.before.before.letter2.ensures c.before.if1.left (r .0 .0 .0 .1) (r .0 .0 .1) (r .0 .1) (r .1)
