@@ -11,6 +11,8 @@ use term_file::mark::Kind;
 ghost use mathlib.Core.Path.{_≡_};
 ghost use Prim.Native.Nat.{_+_, _<_};
 ghost use lib.ListN.{drop};
+ghost use mathlib.Core.Option.{some};
+ghost use Rattle.script_spec.specs.Base.{bytes};
 ghost use Rattle.term_file.specs.Marks.{mark};
 ghost use Rattle.term_entry.specs.Terms.{IsTerm, TermAt};
 ghost use Rattle.term_entry.specs.Children.{ahead, TakesChild, IsChildren, ChildrenAt};
@@ -115,6 +117,13 @@ pub fn term_at(file: &[u8], offset: u32) -> TermEntry
 {
     let kind = entry::kind_at(file, offset);
     term_of(kind, entry::body_at(file, offset))
+}
+
+// The arguments of an application, by its body.
+pub fn arguments(body: &[u8]) -> Children
+    ensures { λ r. ⌜ IsChildren (some (bytes "XA")) (now (body .entry)) r ⌝ }
+{
+    parents::arguments(body)
 }
 
 // The children of a body under a mark.
