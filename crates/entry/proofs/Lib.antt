@@ -1,6 +1,7 @@
 pub mod Inverse
 pub mod Utf8Texts
 pub mod Places
+pub mod Letters
 pub mod TypeEntries
 pub mod Rows
 pub mod TermRows

@@ -7,7 +7,7 @@ use Prim.Native.Nat.{ℕ, zero, suc, _+_, _≤_, _<_}
 use native.Mathlib.Omega.{arith}
 use lib.Dec.{leb}
 use lib.ListN.{length, take, drop, length-take, length-drop, drop-of-length-le, getD}
-use lib.Seq.{take-nil, drop-drop}
+use lib.Seq.{take-nil, drop-drop, getD-drop}
 use borrow.Author.Tests.{leb-false}
 use Rattle.script_spec.specs.Base.{Bytes, bytes, same, any, firsts}
 use Rattle.script_spec.specs.Fields.{got, bad, _>>=_, pure, low, number, part, u32}
@@ -19,6 +19,7 @@ use Rattle.term_file.specs.Marks.{Marked, MarkedAs, mark}
 use Rattle.term_file.specs.declared.mark.Kind.{Kind}
 use Rattle.term_file.specs.declared.mark.Kind.the-variants as kind
 use Rattle.term_file.proofs.Marked.{names, unmarked}
+use Rattle.record_rules.proofs.Places.{letter-short, letter-read}
 use Rattle.index.specs.Lists.{numberAt, firstText, textSize, texts}
 use Rattle.entry.specs.Places.{namedItems, IsText}
 use Rattle.entry.proofs.Inverse.{u32-inverse}
@@ -69,21 +70,30 @@ marked-short [] h = record { is = unmarked [] refl }
 marked-short (a ∷ []) h = record { is = unmarked (a ∷ []) (simp and-false) }
 marked-short (a ∷ b ∷ s) h = absurd (omega arith)
 
-pub marked-none : (file m : Bytes) (o : ℕ) {at : ℕ} → m ≡ take 2 (drop at file) → at ≡ o → length m < 2 → Marked (markAt file o) kind.Unknown
+pub marked-none : (file : Bytes) {o at : ℕ} → at ≡ o → length file < at + 2 → Marked (markAt file o) kind.Unknown
 unfolding markAt
-marked-none file m o e i h = rw (← i, ← e) (marked-short m h)
+marked-none file {o} {at} i h = rw (← i) (marked-short (take 2 (drop at file)) (simp (length-take, length-drop) (omega arith)))
 
 -- two bytes by their places
-two-bytes : (s m : Bytes) → m ≡ take 2 s → 2 ≤ length m → m ≡ getD m 0 0 ∷ getD m 1 0 ∷ []
-two-bytes s [] e h = absurd (omega arith)
-two-bytes s (a ∷ []) e h = absurd (omega arith)
-two-bytes s (a ∷ b ∷ []) e h = refl
-two-bytes s (a ∷ b ∷ c ∷ m) e h = absurd (omega (arith, ap length e, length-take 2 s))
+two-bytes : (s : Bytes) → 2 ≤ length s → getD s 0 0 ∷ getD s 1 0 ∷ [] ≡ take 2 s
+two-bytes [] h = absurd (omega arith)
+two-bytes (a ∷ []) h = absurd (omega arith)
+two-bytes (a ∷ b ∷ s) h = refl
 
-pub marked-as : (file m : Bytes) (o : ℕ) {at : ℕ} {k : Kind} → m ≡ take 2 (drop at file) → at ≡ o → 2 ≤ length m → Marked (getD m 0 0 ∷ getD m 1 0 ∷ []) k → Marked (markAt file o) k
+pub marked-as : (file : Bytes) {o at : ℕ} {k : Kind} → at ≡ o → at + 2 ≤ length file → Marked (getD file at 0 ∷ getD file (at + 1) 0 ∷ []) k → Marked (markAt file o) k
 unfolding markAt
-marked-as file m o {at} {k} e i h g =
-    subst (λ (s : Bytes). Marked s k) (sym (two-bytes (drop at file) m e h) ∙ e ∙ ap (λ (n : ℕ). take 2 (drop n file)) i) g
+marked-as file {o} {at} {k} i h g =
+    let zero-on : at + 0 ≡ at = omega arith in
+    let first : getD (drop at file) 0 0 ≡ getD file at 0 = getD-drop at file 0 0 ∙ ap (λ (n : ℕ). getD file n 0) zero-on in
+    let second = getD-drop at file 1 0 in
+    rw (← i) (subst (λ (s : Bytes). Marked s k) (two-bytes (drop at file) (rw length-drop (omega arith))) (rw (first, second) g))
+
+-- the second byte of a mark
+pub letter-none : (file : Bytes) {o at : ℕ} → at ≡ o → length file < at + 2 → 0 ≡ getD (markAt file o) 1 0
+letter-none file {o} i h = letter-short file o (omega arith)
+
+pub letter-is : (file : Bytes) {o at : ℕ} → at ≡ o → getD file (at + 1) 0 ≡ getD (markAt file o) 1 0
+letter-is file {o} i = rw i (letter-read file o)
 
 -- ---- lists
 

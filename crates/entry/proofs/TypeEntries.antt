@@ -5,12 +5,10 @@ use mathlib.Core.Bool.{Bool}
 use mathlib.Core.List.{List, [], _∷_, map}
 use mathlib.Core.Option.{Option, none, some}
 use Prim.Native.Nat.{ℕ, _≤_}
-use lib.ListN.{take, drop}
-use types.Run.{OneOf}
-use denote.Enum.Declared.{tagOf}
-use Rattle.script_spec.specs.Base.{Bytes, bytes, all, at, same, lookup, andThen, firsts, seconds}
+use lib.ListN.{take, drop, getD}
+use Rattle.script_spec.specs.Base.{Bytes, bytes, at, same, lookup, andThen, firsts, seconds}
 use Rattle.script_spec.specs.Tree as tree
-use Rattle.script_spec.specs.Tree.{Bool·, String·, Option·, Set·, BitVec·, Declared, entity, extension, recordOf}
+use Rattle.script_spec.specs.Tree.{TypeMark, Bool·, String·, Option·, Set·, BitVec·, Declared, entity, extension, recordOf}
 use Rattle.script_spec.specs.Fields.{Entry, type, got, bad, Reader, _>>=_, pure, present, byte, u32, text, list, times, ref, pair, width, coded, extType, marks}
 use Rattle.index.specs.Standing.{markAt, bodyAt, entryOf, entryAt, loose}
 use Rattle.index.proofs.Readers.{bad-not-got, got-value}
@@ -18,17 +16,14 @@ use Rattle.field.specs.Reads.{value, refusal, asRead, Reads}
 use Rattle.field.specs.Answers.{spanned}
 use Rattle.field.proofs.Skims.{bind-got, bind-bad}
 use Rattle.field.proofs.Coded.{at-past}
-use Rattle.term_file.specs.Marks.{mark, Marked}
-use Rattle.term_file.proofs.mark.Kind.{the-type}
-use Rattle.term_file.specs.declared.mark.Kind.{Kind}
-use Rattle.term_file.specs.declared.mark.Kind.the-variants as kind
+use Rattle.record_rules.specs.Marks.{datatypeBytes, typeBytes}
 use Rattle.index.specs.Lists.{numberAt, firstText}
 use Rattle.entry.specs.Places.{namedItems}
 use Rattle.entry.specs.Types.{extTypeOf, typeSaid, IsType, TypeAt}
 use Rattle.entry.specs.declared.types.ExtType.{ExtType}
 use Rattle.entry.specs.declared.types.TypeEntry.{TypeEntry}
 use Rattle.entry.specs.declared.types.TypeEntry.the-variants as entry
-use Rattle.entry.proofs.Classes.{class, classTag, kind-class, other-class, marked-entry}
+use Rattle.entry.proofs.Letters.{typeMarked, type-marked, type-letter}
 use Rattle.entry.proofs.Inverse.{entry-whole, bind-inverse, tested-inverse, text-inverse, u32-inverse, named-inverse}
 
 -- a code that a table has, and one that it has not
@@ -67,9 +62,9 @@ module _ {body : Bytes} where
         h (type t rs) (entry-whole (reader body) (type t rs) (rw (← same, found) at g));
   }
 
-  -- the same kind
-  pub under : {k k′ : Kind} {r : TypeEntry} → k ≡ k′ → IsType (mark k′) body r → IsType (mark k) body r
-  under {r = r} e x = subst (λ (k : Kind). IsType (mark k) body r) (sym e) x
+  -- the same mark
+  pub under : {l l′ : ℕ} {r : TypeEntry} → l ≡ l′ → IsType (some (typeMarked l′)) body r → IsType (some (typeMarked l)) body r
+  under {r = r} e x = subst (λ (n : ℕ). IsType (some (typeMarked n)) body r) (sym e) x
 
   -- a field and the entry of its value
   field-then : {A : Type 0} (reader : Reader A) (k : A → Entry) (a : A) {e : Entry}
@@ -77,40 +72,40 @@ module _ {body : Bytes} where
   unfolding pure
   field-then reader k a {e} is h = bind-inverse reader (λ x. pure (k x)) body h (λ b mid g q. ap k (is b mid g) ∙ got-value (k b) e mid [] q)
 
-  pub type-bool : IsType (mark kind.TB) body entry.Bool
-  unfolding mark marks lookup same bytes pure typeSaid
+  pub type-bool : IsType (some (bytes "TB")) body entry.Bool
+  unfolding marks lookup same bytes pure typeSaid
   type-bool = is-type (bytes "TB") (pure (type Bool· [])) entry.Bool refl (λ e h. ap some (got-value (type Bool· []) e body [] h))
 
-  pub type-string : IsType (mark kind.TS) body entry.String
-  unfolding mark marks lookup same bytes pure typeSaid
+  pub type-string : IsType (some (bytes "TS")) body entry.String
+  unfolding marks lookup same bytes pure typeSaid
   type-string = is-type (bytes "TS") (pure (type String· [])) entry.String refl (λ e h. ap some (got-value (type String· []) e body [] h))
 
-  pub type-bitvec : {n : ℕ} → n ≡ numberAt body 0 → IsType (mark kind.TV) body (entry.BitVec n)
-  unfolding mark marks lookup same bytes typeSaid width
+  pub type-bitvec : {n : ℕ} → n ≡ numberAt body 0 → IsType (some (bytes "TV")) body (entry.BitVec n)
+  unfolding marks lookup same bytes typeSaid width
   type-bitvec {n} i =
       is-type (bytes "TV") (_>>=_ width (λ n. pure (type (BitVec· n) []))) (entry.BitVec n) refl
       (λ e h. ap some (field-then width (λ n. type (BitVec· n) []) n (λ b rest g. tested-inverse 7 _ body g (λ v d. i ∙ v)) h))
 
-  pub type-option : {n : ℕ} → n ≡ numberAt body 0 → IsType (mark kind.TO) body (entry.Option n)
-  unfolding mark marks lookup same bytes typeSaid ref
+  pub type-option : {n : ℕ} → n ≡ numberAt body 0 → IsType (some (bytes "TO")) body (entry.Option n)
+  unfolding marks lookup same bytes typeSaid ref
   type-option {n} i =
       is-type (bytes "TO") (_>>=_ (ref (loose .types)) (λ t. pure (type Option· (t ∷ [])))) (entry.Option n) refl
       (λ e h. ap some (field-then (ref (loose .types)) (λ t. type Option· (t ∷ [])) n (λ b rest g. tested-inverse 8 _ body g (λ v d. i ∙ v)) h))
 
-  pub type-set : {n : ℕ} → n ≡ numberAt body 0 → IsType (mark kind.TC) body (entry.Set n)
-  unfolding mark marks lookup same bytes typeSaid ref
+  pub type-set : {n : ℕ} → n ≡ numberAt body 0 → IsType (some (bytes "TC")) body (entry.Set n)
+  unfolding marks lookup same bytes typeSaid ref
   type-set {n} i =
       is-type (bytes "TC") (_>>=_ (ref (loose .types)) (λ t. pure (type Set· (t ∷ [])))) (entry.Set n) refl
       (λ e h. ap some (field-then (ref (loose .types)) (λ t. type Set· (t ∷ [])) n (λ b rest g. tested-inverse 8 _ body g (λ v d. i ∙ v)) h))
 
-  pub type-entity : {n : ℕ} → n ≡ numberAt body 0 → IsType (mark kind.TE) body (entry.Entity (record { start = 4; len = n }))
-  unfolding mark marks lookup same bytes typeSaid spanned firstText
+  pub type-entity : {n : ℕ} → n ≡ numberAt body 0 → IsType (some (bytes "TE")) body (entry.Entity (record { start = 4; len = n }))
+  unfolding marks lookup same bytes typeSaid spanned firstText
   type-entity {n} i =
       is-type (bytes "TE") (_>>=_ text (λ t. pure (type (Declared (entity t)) []))) (entry.Entity (record { start = 4; len = n })) refl
       (λ e h. ap some (field-then text (λ t. type (Declared (entity t)) []) (take n (drop 4 body)) (λ b rest g. text-inverse body g (λ v d. (rw i) ∙ v)) h))
 
-  pub type-record : {n : ℕ} → n ≡ numberAt body 0 → IsType (mark kind.TR) body (entry.Record n)
-  unfolding mark marks lookup same bytes typeSaid list
+  pub type-record : {n : ℕ} → n ≡ numberAt body 0 → IsType (some (bytes "TR")) body (entry.Record n)
+  unfolding marks lookup same bytes typeSaid list
   type-record {n} i =
       is-type (bytes "TR") (_>>=_ (list (pair text (ref (loose .types)))) (λ ps. pure (type (Declared (recordOf (firsts ps))) (seconds ps)))) (entry.Record n) refl
       (λ e h. ap some (field-then (list (pair text (ref (loose .types)))) (λ ps. type (Declared (recordOf (firsts ps))) (seconds ps)) (namedItems n (drop 4 body))
@@ -140,18 +135,29 @@ module _ {body : Bytes} where
 
 -- ---- marks that have no types
 
--- the places of the other kinds
-abbrev tags : List ℕ
-tags = 8 ∷ 9 ∷ 10 ∷ 11 ∷ 12 ∷ 13 ∷ 14 ∷ 15 ∷ 16 ∷ 17 ∷ 18 ∷ 19 ∷ 20 ∷ 21 ∷ 22 ∷ []
+module _ {l : ℕ} (b : l ≡ 66 → ⊥) (s : l ≡ 83 → ⊥) (v : l ≡ 86 → ⊥) (o : l ≡ 79 → ⊥) (c : l ≡ 67 → ⊥) (e : l ≡ 69 → ⊥) (x : l ≡ 88 → ⊥) (r : l ≡ 82 → ⊥) where
+  other-letter : (t : TypeMark) → l ≡ getD (typeBytes t) 1 0 → ⊥
+  unfolding typeBytes datatypeBytes bytes
+  other-letter Bool· = b
+  other-letter String· = s
+  other-letter (BitVec· n) = v
+  other-letter Option· = o
+  other-letter Set· = c
+  other-letter (Declared (entity n)) = e
+  other-letter (Declared (extension y)) = x
+  other-letter (Declared (recordOf ns)) = r
 
-pub no-types : {body : Bytes} (k : Kind) → OneOf tags (tagOf the-type k) → IsType (mark k) body entry.Unreadable
-unfolding class classTag all
-no-types {body} k h = record { go = λ m t rs e g. absurd (other-class 0 tags (tagOf the-type k) h tt (kind-class body k m (type t rs) e g)) }
+  pub no-types : {body : Bytes} → IsType (some (typeMarked l)) body entry.Unreadable
+  no-types {body} = record {
+    go = λ m t rs h g.
+        let same : m ≡ typeMarked l = cc in
+        absurd (other-letter t (type-letter body (rw same at g)));
+  }
 
 -- ---- the record at an offset
 
-pub type-at : {file body : Bytes} {o : ℕ} {k : Kind} {r : TypeEntry} → Marked (markAt file o) k → body ≡ bodyAt file o → IsType (mark k) body r → TypeAt file o r
+pub type-at : {file body : Bytes} {o l : ℕ} {r : TypeEntry} → l ≡ getD (markAt file o) 1 0 → body ≡ bodyAt file o → IsType (some (typeMarked l)) body r → TypeAt file o r
 unfolding entryAt
-type-at {file} {body} {o} {k} {r} m e i =
-    let j : IsType (mark k) (bodyAt file o) r = subst (λ (b : Bytes). IsType (mark k) b r) e i in
-    record { go = λ t rs g. marked-entry (bodyAt file o) (markAt file o) (mark k) (m .is) g (λ m h q. j .go m t rs h q) }
+type-at {file} {body} {o} {l} {r} i e T =
+    let here : IsType (some (typeMarked l)) (bodyAt file o) r = subst (λ (b : Bytes). IsType (some (typeMarked l)) b r) e T in
+    record { go = λ t rs g. here .go (markAt file o) t rs (ap (λ (n : ℕ). some (typeMarked n)) i ∙ ap some (type-marked (markAt file o) (bodyAt file o) g)) g }

@@ -8,6 +8,7 @@ use field::ReadNumber;
 use term_file::mark::Kind;
 ghost use mathlib.Core.Path.{_≡_};
 ghost use Prim.Native.Nat.{_<_, _^_};
+ghost use lib.ListN.{getD};
 ghost use Rattle.index.specs.Standing.{markAt, bodyAt};
 ghost use Rattle.term_file.specs.Marks.{Marked};
 ghost use Rattle.index.specs.Lists.{numberAt};
@@ -33,11 +34,22 @@ pub fn number_at(s: &[u8], at: usize) -> u32
 pub fn kind_at(file: &[u8], offset: u32) -> Kind
     ensures { λ r. ⌜ Marked (markAt (now (file .entry)) offset) r ⌝ }
 {
-    let mark = field::part_of(file, wide(offset), 2);
-    if mark.len() < 2 {
+    let at = wide(offset);
+    if file.len() < at + 2 {
         return Kind::Unknown;
     }
-    term_file::mark::kind_of(mark[0], mark[1])
+    term_file::mark::kind_of(file[at], file[at + 1])
+}
+
+// The second byte of the mark of the record at an offset, 0 where there is none.
+pub fn letter_at(file: &[u8], offset: u32) -> u8
+    ensures { λ r. ⌜ r ≡ getD (markAt (now (file .entry)) offset) 1 0 ⌝ }
+{
+    let at = wide(offset);
+    if file.len() < at + 2 {
+        return 0;
+    }
+    file[at + 1]
 }
 
 // The body of the record at an offset, as the file's own bytes.

@@ -2,10 +2,9 @@
 use field::Cursor;
 use field::ReadNumber;
 use field::Span;
-use term_file::mark::Kind;
+ghost use mathlib.Core.List.{[], _∷_};
 ghost use mathlib.Core.Option.{some};
 ghost use Rattle.script_spec.specs.Base.{bytes};
-ghost use Rattle.term_file.specs.Marks.{mark};
 ghost use Rattle.entry.specs.Types.{IsType, TypeAt};
 
 // The extension types, in the order of `ExtType`.
@@ -47,22 +46,22 @@ fn ext_type(body: &[u8]) -> TypeEntry
     }
 }
 
-// The type of a body under a mark.
-fn type_of(kind: Kind, body: &[u8]) -> TypeEntry
-    ensures { λ r. ⌜ IsType (mark kind) (now (body .entry)) r ⌝ }
+// The type of a body under a mark that begins with T, by its second byte.
+fn type_of(letter: u8, body: &[u8]) -> TypeEntry
+    ensures { λ r. ⌜ IsType (some (84 ∷ letter ∷ [])) (now (body .entry)) r ⌝ }
 {
-    match kind {
-        Kind::TB => TypeEntry::Bool,
-        Kind::TS => TypeEntry::String,
-        Kind::TV => TypeEntry::BitVec(crate::number_at(body, 0)),
-        Kind::TO => TypeEntry::Option(crate::number_at(body, 0)),
-        Kind::TC => TypeEntry::Set(crate::number_at(body, 0)),
-        Kind::TE => TypeEntry::Entity(Span {
+    match letter {
+        b'B' => TypeEntry::Bool,
+        b'S' => TypeEntry::String,
+        b'V' => TypeEntry::BitVec(crate::number_at(body, 0)),
+        b'O' => TypeEntry::Option(crate::number_at(body, 0)),
+        b'C' => TypeEntry::Set(crate::number_at(body, 0)),
+        b'E' => TypeEntry::Entity(Span {
             start: 4,
             len: crate::wide(crate::number_at(body, 0)),
         }),
-        Kind::TX => ext_type(body),
-        Kind::TR => TypeEntry::Record(crate::number_at(body, 0)),
+        b'X' => ext_type(body),
+        b'R' => TypeEntry::Record(crate::number_at(body, 0)),
         _ => TypeEntry::Unreadable,
     }
 }
@@ -71,6 +70,6 @@ fn type_of(kind: Kind, body: &[u8]) -> TypeEntry
 pub fn type_at(file: &[u8], offset: u32) -> TypeEntry
     ensures { λ r. ⌜ TypeAt (now (file .entry)) offset r ⌝ }
 {
-    let kind = crate::kind_at(file, offset);
-    type_of(kind, crate::body_at(file, offset))
+    let letter = crate::letter_at(file, offset);
+    type_of(letter, crate::body_at(file, offset))
 }

@@ -1,32 +1,25 @@
 -- The children of each term are what its record has under its mark; most marks have none.
 -- Assumes nothing.
-use mathlib.Core.Path.{_≡_, refl, sym, _∙_, subst}
-use mathlib.Core.Logic.{inl, inr}
-use mathlib.Core.Bool.{Bool, true, false, _||_}
-use mathlib.Core.List.{List, [], _∷_}
+use mathlib.Core.Path.{_≡_, refl, sym, ap, _∙_, subst}
+use mathlib.Core.Bool.{true, false}
+use mathlib.Core.List.{List, []}
 use mathlib.Core.Option.{Option, some, Option·none-ne-some}
 use Prim.Native.Nat.{ℕ, _^_}
-use types.Run.{OneOf}
-use denote.Enum.Declared.{tagOf}
-use lib.Dec.{T, ltb}
-use lib.ListN.{drop}
-use Rattle.script_spec.specs.Base.{Bytes, bytes, all, same, lookup, andThen}
+use lib.Dec.{ltb}
+use lib.ListN.{drop, getD}
+use Rattle.script_spec.specs.Base.{Bytes, bytes, same, lookup, andThen}
 use Rattle.script_spec.specs.Tree as tree
 use Rattle.script_spec.specs.Fields as fields
-use Rattle.script_spec.specs.Fields.{Entry, term, Reader, _>>=_, pure, ensure, text, list, ref, pair, width, number, extType, entityRef, marks, leaf, operator}
-use Rattle.script_spec.proofs.Laws.{and-parts}
+use Rattle.script_spec.specs.Fields.{Entry, term, Reader, _>>=_, pure, ensure, text, ref, width, number, entityRef, marks, leaf, operator}
 use Rattle.index.specs.Standing.{markAt, bodyAt, entryOf, entryAt, loose}
 use Rattle.index.proofs.Readers.{Gives, gives-after, gives-pure}
 use Rattle.field.specs.Reads.{value, refusal, Reads}
 use Rattle.operator.specs.Operators.{opOf}
 use Rattle.operator.specs.declared.Op.{Op}
-use Rattle.term_file.specs.Marks.{mark, Marked}
-use Rattle.term_file.proofs.mark.Kind.{the-type}
-use Rattle.term_file.specs.declared.mark.Kind.{Kind}
-use Rattle.term_file.specs.declared.mark.Kind.the-variants as kind
+use Rattle.record_rules.specs.Marks.{termBytes}
 use Rattle.index.specs.Lists.{numberAt}
 use Rattle.entry.proofs.Inverse.{entry-whole}
-use Rattle.entry.proofs.Classes.{marked-entry}
+use Rattle.entry.proofs.Letters.{termMarked, term-marked, term-letter}
 use Rattle.term_entry.specs.Terms.{references, childrenIn, termSaid, IsTerm}
 use Rattle.term_entry.specs.Children.{IsChildren, ChildrenAt}
 use Rattle.term_entry.specs.declared.Children.{Children}
@@ -45,20 +38,6 @@ refs (fields.func id a r) = []
 refs (fields.term m rs) = rs
 refs (fields.input n) = []
 
--- the places of kinds whose records have no children
-unfoldable bare : ℕ → Bool
-bare n = ltb n 17 || ltb 20 n
-
-one-of : (p : ℕ → Bool) (ks : List ℕ) (i : ℕ) → OneOf ks i → T (all p ks) → T (p i)
-unfolding all
-one-of p [] i h q = absurd h
-one-of p (k ∷ ks) i h q = go k ks h q
-  where
-    go : (k : ℕ) (ks : List ℕ) → OneOf (k ∷ ks) i → T (all p (k ∷ ks)) → T (p i)
-    go k [] h q = subst (λ (n : ℕ). T (p n)) (sym h) (and-parts (p k) _ q .0)
-    go k (k′ ∷ ks) (inl h) q = subst (λ (n : ℕ). T (p n)) (sym h) (and-parts (p k) _ q .0)
-    go k (k′ ∷ ks) (inr h) q = go k′ ks h (and-parts (p k) _ q .1)
-
 -- a reader that makes entries without children
 abbrev Bare : Reader Entry → Type 0
 Bare r = Gives (λ e. refs e ≡ []) r r
@@ -70,48 +49,34 @@ last : (e : Entry) → refs e ≡ [] → Bare (pure e)
 last e h = gives-pure {P = λ e. refs e ≡ []} e h
 
 module _ (body : Bytes) where
-  marked : (m : Bytes) (reader : Reader Entry) → lookup m (marks loose) ≡ some reader → Bare reader
-      → (m′ : Bytes) (e : Entry) → some m ≡ some m′ → entryOf m′ body ≡ some e → refs e ≡ []
+  marked : (m : Bytes) (reader : Reader Entry) → lookup m (marks loose) ≡ some reader → Bare reader → {m′ : Bytes} {e : Entry} → m′ ≡ m → entryOf m′ body ≡ some e → refs e ≡ []
   unfolding entryOf andThen
-  marked m reader found G m′ e h g =
-      let same : m ≡ m′ = cc in
-      G .go body [] e (entry-whole (reader body) e (rw (← same, found) at g)) .0
+  marked m reader found G {m′} {e} same g = G .go body [] e (entry-whole (reader body) e (rw (same, found) at g)) .0
 
-  kind-bare : (k : Kind) → T (bare (tagOf the-type k)) → (m : Bytes) (e : Entry) → mark k ≡ some m → entryOf m body ≡ some e → refs e ≡ []
-  unfolding mark marks lookup same bytes refs bare leaf
-  kind-bare kind.TB b = marked (bytes "TB") _ refl (last _ refl)
-  kind-bare kind.TS b = marked (bytes "TS") _ refl (last _ refl)
-  kind-bare kind.TV b = marked (bytes "TV") _ refl (after width (λ n. last _ refl))
-  kind-bare kind.TO b = marked (bytes "TO") _ refl (after (ref (loose .types)) (λ t. last _ refl))
-  kind-bare kind.TC b = marked (bytes "TC") _ refl (after (ref (loose .types)) (λ t. last _ refl))
-  kind-bare kind.TE b = marked (bytes "TE") _ refl (after text (λ n. last _ refl))
-  kind-bare kind.TX b = marked (bytes "TX") _ refl (after extType (λ x. last _ refl))
-  kind-bare kind.TR b = marked (bytes "TR") _ refl (after (list (pair text (ref (loose .types)))) (λ ps. last _ refl))
-  kind-bare kind.EN b = marked (bytes "EN") _ refl (after text (λ n. after (list text) (λ ms. last _ refl)))
-  kind-bare kind.UF b = marked (bytes "UF") _ refl (after text (λ n. after (ref (loose .types)) (λ a. after (ref (loose .types)) (λ r. last _ refl))))
-  kind-bare kind.XV b = marked (bytes "XV") _ refl (after text (λ n. after (ref (loose .types)) (λ t. last _ refl)))
-  kind-bare kind.XB b = marked (bytes "XB") _ refl (after _ (λ b. last _ refl))
-  kind-bare kind.XN b = marked (bytes "XN") _ refl (after width (λ n. after (number 16) (λ v. after (ensure 7 (ltb v (2 ^ n)) v) (λ w. last _ refl))))
-  kind-bare kind.XS b = marked (bytes "XS") _ refl (after text (λ s. last _ refl))
-  kind-bare kind.XE b = marked (bytes "XE") _ refl (after (entityRef loose) (λ t. after text (λ i. last _ refl)))
-  kind-bare kind.XX b = marked (bytes "XX") _ refl (after fields.value (λ v. last _ refl))
-  kind-bare kind.X0 b = marked (bytes "X0") _ refl (after (ref (loose .types)) (λ t. last _ refl))
-  kind-bare kind.X1 b = absurd b
-  kind-bare kind.XC b = absurd b
-  kind-bare kind.XR b = absurd b
-  kind-bare kind.XA b = absurd b
-  kind-bare kind.IN b = marked (bytes "IN") _ refl (after (ref (loose .terms)) (λ t. last _ refl))
-  kind-bare kind.Unknown b = λ m e h g. absurd (Option·none-ne-some m h)
+  module _ {l : ℕ} (s : l ≡ 49 → ⊥) (c : l ≡ 67 → ⊥) (r : l ≡ 82 → ⊥) (a : l ≡ 65 → ⊥) where
+    -- a mark with another second byte
+    bare : (t : tree.TermMark ℕ ℕ) (rs : List ℕ) → entryOf (termMarked l) body ≡ some (term t rs) → l ≡ getD (termBytes t) 1 0 → refs (term t rs) ≡ []
+    unfolding marks lookup same bytes refs leaf termBytes
+    bare (tree.Var id t) rs g h = marked (bytes "XV") _ refl (after text (λ n. after (ref (loose .types)) (λ t. last _ refl))) (ap termMarked h) g
+    bare (tree.BoolLit b) rs g h = marked (bytes "XB") _ refl (after _ (λ b. last _ refl)) (ap termMarked h) g
+    bare (tree.BitVecLit n v) rs g h = marked (bytes "XN") _ refl (after width (λ n. after (number 16) (λ v. after (ensure 7 (ltb v (2 ^ n)) v) (λ w. last _ refl)))) (ap termMarked h) g
+    bare (tree.StringLit t) rs g h = marked (bytes "XS") _ refl (after text (λ s. last _ refl)) (ap termMarked h) g
+    bare (tree.Entity t id) rs g h = marked (bytes "XE") _ refl (after (entityRef loose) (λ t. after text (λ i. last _ refl))) (ap termMarked h) g
+    bare (tree.ExtLit v) rs g h = marked (bytes "XX") _ refl (after fields.value (λ v. last _ refl)) (ap termMarked h) g
+    bare (tree.None t) rs g h = marked (bytes "X0") _ refl (after (ref (loose .types)) (λ t. last _ refl)) (ap termMarked h) g
+    bare tree.Some rs g h = absurd (s h)
+    bare (tree.Set t) rs g h = absurd (c h)
+    bare (tree.Record ns) rs g h = absurd (r h)
+    bare (tree.App t o) rs g h = absurd (a h)
 
--- the places of these kinds
-abbrev tags : List ℕ
-tags = 0 ∷ 1 ∷ 2 ∷ 3 ∷ 4 ∷ 5 ∷ 6 ∷ 7 ∷ 8 ∷ 9 ∷ 10 ∷ 11 ∷ 12 ∷ 13 ∷ 14 ∷ 15 ∷ 16 ∷ 21 ∷ 22 ∷ []
-
-pub bare-children : {body : Bytes} (k : Kind) → OneOf tags (tagOf the-type k) → IsChildren (mark k) body (record { from = 0; left = 0; named = false })
-unfolding refs bare all
-bare-children {body} k h = record {
-  go = λ m t rs e g. no-children body (record { from = 0; left = 0; named = false }) refl ∙ sym (kind-bare body k (one-of bare tags (tagOf the-type k) h tt) m (term t rs) e g);
-}
+    pub bare-children : IsChildren (some (termMarked l)) body (record { from = 0; left = 0; named = false })
+    unfolding refs
+    bare-children = record {
+      go = λ m t rs e g.
+          let same : m ≡ termMarked l = cc in
+          let here = rw same at g in
+          no-children body (record { from = 0; left = 0; named = false }) refl ∙ sym (bare t rs here (term-letter body here));
+    }
 
 -- ---- marks that have children
 
@@ -143,13 +108,13 @@ module _ {body : Bytes} where
   unfolding termSaid
   no-arguments r = children-said _ (λ t rs h. absurd (Option·none-ne-some (term t rs) h)) (no-app r)
 
--- the same kind
-pub under : {body : Bytes} {k k′ : Kind} {m : Option Bytes} {r : Children} → k ≡ k′ → mark k′ ≡ m → IsChildren m body r → IsChildren (mark k) body r
-under {body} {r = r} e h x = subst (λ (k : Kind). IsChildren (mark k) body r) (sym e) (subst (λ (m : Option Bytes). IsChildren m body r) (sym h) x)
+-- the same mark
+pub under : {body : Bytes} {l l′ : ℕ} {r : Children} → l ≡ l′ → IsChildren (some (termMarked l′)) body r → IsChildren (some (termMarked l)) body r
+under {body} {r = r} e x = subst (λ (n : ℕ). IsChildren (some (termMarked n)) body r) (sym e) x
 
 -- the record at an offset
-pub children-at : {file body : Bytes} {o : ℕ} {k : Kind} {r : Children} → Marked (markAt file o) k → body ≡ bodyAt file o → IsChildren (mark k) body r → ChildrenAt file o r
+pub children-at : {file body : Bytes} {o l : ℕ} {r : Children} → l ≡ getD (markAt file o) 1 0 → body ≡ bodyAt file o → IsChildren (some (termMarked l)) body r → ChildrenAt file o r
 unfolding entryAt
-children-at {file} {body} {o} {k} {r} m e i =
-    let j : IsChildren (mark k) (bodyAt file o) r = subst (λ (b : Bytes). IsChildren (mark k) b r) e i in
-    record { go = λ t rs g. marked-entry (bodyAt file o) (markAt file o) (mark k) (m .is) g (λ m h q. j .go m t rs h q) }
+children-at {file} {body} {o} {l} {r} i e c =
+    let here : IsChildren (some (termMarked l)) (bodyAt file o) r = subst (λ (b : Bytes). IsChildren (some (termMarked l)) b r) e c in
+    record { go = λ t rs g. here .go (markAt file o) t rs (ap (λ (n : ℕ). some (termMarked n)) i ∙ ap some (term-marked (markAt file o) (bodyAt file o) g)) g }

@@ -7,13 +7,12 @@ use bitvec::halves::Halves;
 use entry::lists;
 use field::Span;
 use operator::Op;
-use term_file::mark::Kind;
 ghost use mathlib.Core.Path.{_≡_};
+ghost use mathlib.Core.List.{[], _∷_};
+ghost use mathlib.Core.Option.{some};
 ghost use Prim.Native.Nat.{_+_, _<_};
 ghost use lib.ListN.{drop};
-ghost use mathlib.Core.Option.{some};
 ghost use Rattle.script_spec.specs.Base.{bytes};
-ghost use Rattle.term_file.specs.Marks.{mark};
 ghost use Rattle.term_entry.specs.Terms.{IsTerm, TermAt};
 ghost use Rattle.term_entry.specs.Children.{ahead, TakesChild, IsChildren, ChildrenAt};
 
@@ -91,22 +90,22 @@ pub fn take_child(body: &[u8], c: Children) -> Child
     }
 }
 
-// The term of a body under a mark.
-fn term_of(kind: Kind, body: &[u8]) -> TermEntry
-    ensures { λ r. ⌜ IsTerm (mark kind) (now (body .entry)) r ⌝ }
+// The term of a body under a mark that begins with X, by its second byte.
+fn term_of(letter: u8, body: &[u8]) -> TermEntry
+    ensures { λ r. ⌜ IsTerm (some (88 ∷ letter ∷ [])) (now (body .entry)) r ⌝ }
 {
-    match kind {
-        Kind::XV => leaves::variable(body),
-        Kind::XB => leaves::bool_lit(body),
-        Kind::XN => leaves::bit_vec_lit(body),
-        Kind::XS => leaves::string_lit(body),
-        Kind::XE => leaves::entity_lit(body),
-        Kind::XX => values::ext_lit(body),
-        Kind::X0 => leaves::none_of(body),
-        Kind::X1 => parents::some_of(body),
-        Kind::XC => parents::set_of(body),
-        Kind::XR => parents::record_of(body),
-        Kind::XA => parents::app_of(body),
+    match letter {
+        b'V' => leaves::variable(body),
+        b'B' => leaves::bool_lit(body),
+        b'N' => leaves::bit_vec_lit(body),
+        b'S' => leaves::string_lit(body),
+        b'E' => leaves::entity_lit(body),
+        b'X' => values::ext_lit(body),
+        b'0' => leaves::none_of(body),
+        b'1' => parents::some_of(body),
+        b'C' => parents::set_of(body),
+        b'R' => parents::record_of(body),
+        b'A' => parents::app_of(body),
         _ => TermEntry::Unreadable,
     }
 }
@@ -115,8 +114,8 @@ fn term_of(kind: Kind, body: &[u8]) -> TermEntry
 pub fn term_at(file: &[u8], offset: u32) -> TermEntry
     ensures { λ r. ⌜ TermAt (now (file .entry)) offset r ⌝ }
 {
-    let kind = entry::kind_at(file, offset);
-    term_of(kind, entry::body_at(file, offset))
+    let letter = entry::letter_at(file, offset);
+    term_of(letter, entry::body_at(file, offset))
 }
 
 // The arguments of an application, by its body.
@@ -126,27 +125,27 @@ pub fn arguments(body: &[u8]) -> Children
     parents::arguments(body)
 }
 
-// The children of a body under a mark.
-fn children_of(kind: Kind, body: &[u8]) -> Children
-    ensures { λ r. ⌜ IsChildren (mark kind) (now (body .entry)) r ⌝ }
+// The children of a body under a mark that begins with X, by its second byte.
+fn children_of(letter: u8, body: &[u8]) -> Children
+    ensures { λ r. ⌜ IsChildren (some (88 ∷ letter ∷ [])) (now (body .entry)) r ⌝ }
 {
-    match kind {
-        Kind::X1 => Children {
+    match letter {
+        b'1' => Children {
             from: 0,
             left: 1,
             named: false,
         },
-        Kind::XC => Children {
+        b'C' => Children {
             from: 8,
             left: entry::number_at(body, 4),
             named: false,
         },
-        Kind::XR => Children {
+        b'R' => Children {
             from: 4,
             left: entry::number_at(body, 0),
             named: true,
         },
-        Kind::XA => parents::arguments(body),
+        b'A' => arguments(body),
         _ => Children {
             from: 0,
             left: 0,
@@ -159,6 +158,6 @@ fn children_of(kind: Kind, body: &[u8]) -> Children
 pub fn children_at(file: &[u8], offset: u32) -> Children
     ensures { λ r. ⌜ ChildrenAt (now (file .entry)) offset r ⌝ }
 {
-    let kind = entry::kind_at(file, offset);
-    children_of(kind, entry::body_at(file, offset))
+    let letter = entry::letter_at(file, offset);
+    children_of(letter, entry::body_at(file, offset))
 }

@@ -6,14 +6,14 @@ use Rattle.entry.proofs.kind_at.Statement.{statement}
 use Rattle.entry.proofs.kind_at.Tie as tie
 
 returns : tie.Need-returns
-returns c = marked-none _ _ _ (c.before.part-of.ensures) (c.before.before.wide.ensures .0) c.if1.taken
+returns c = marked-none _ (c.before.wide.ensures .0) c.if1.taken
 
 returns-2 : tie.Need-returns-2
-returns-2 c = marked-as _ _ _ (c.before.before.before.before.part-of.ensures) (c.before.before.before.before.before.wide.ensures .0) c.before.before.before.if1.left c.kind-of.ensures
+returns-2 c = marked-as _ (c.before.before.before.before.wide.ensures .0) c.before.before.before.if1.left c.kind-of.ensures
 
 pub kind-at-spec : {M : Type 1} → statement M
 kind-at-spec =
     tie.close
-    (tie.spec (λ c κs. search needs) (λ c κs. search needs)
-    returns (λ c. search needs) (λ c. search needs) (λ c κs. search needs)
+    (tie.spec (λ c κs. search needs) (λ c. search needs)
+    returns (λ c. search needs) (λ c. search needs) (λ c. search needs) (λ c κs. search needs)
     returns-2)

@@ -6,4 +6,4 @@ use Rattle.term_entry.proofs.children_at.Statement.{statement}
 use Rattle.term_entry.proofs.children_at.Tie as tie
 
 pub children-at-spec : {M : Type 1} → statement M
-children-at-spec = tie.close (tie.spec (λ c κs. search needs) (λ c κs. search needs) (λ c κs. search needs) (λ c. children-at c.before.before.kind-at.ensures c.before.body-at.ensures c.children-of.ensures))
+children-at-spec = tie.close (tie.spec (λ c κs. search needs) (λ c κs. search needs) (λ c κs. search needs) (λ c. children-at c.before.before.letter-at.ensures c.before.body-at.ensures c.children-of.ensures))

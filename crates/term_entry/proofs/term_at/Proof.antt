@@ -6,4 +6,4 @@ use Rattle.term_entry.proofs.term_at.Statement.{statement}
 use Rattle.term_entry.proofs.term_at.Tie as tie
 
 pub term-at-spec : {M : Type 1} → statement M
-term-at-spec = tie.close (tie.spec (λ c κs. search needs) (λ c κs. search needs) (λ c κs. search needs) (λ c. term-at c.before.before.kind-at.ensures c.before.body-at.ensures c.term-of.ensures))
+term-at-spec = tie.close (tie.spec (λ c κs. search needs) (λ c κs. search needs) (λ c κs. search needs) (λ c. term-at c.before.before.letter-at.ensures c.before.body-at.ensures c.term-of.ensures))

@@ -6,7 +6,7 @@ use Rattle.entry.proofs.types.type_at.Statement.{statement}
 use Rattle.entry.proofs.types.type_at.Tie as tie
 
 returns : tie.Need-returns
-returns c = type-at c.before.before.kind-at.ensures c.before.body-at.ensures c.type-of.ensures
+returns c = type-at c.before.before.letter-at.ensures c.before.body-at.ensures c.type-of.ensures
 
 pub type-at-spec : {M : Type 1} → statement M
 type-at-spec = tie.close (tie.spec (λ c κs. search needs) (λ c κs. search needs) (λ c κs. search needs) returns)
