@@ -3,6 +3,7 @@ pub mod Utf8Texts
 pub mod Places
 pub mod Letters
 pub mod TypeEntries
+pub mod Parts
 pub mod Rows
 pub mod TermRows
 pub mod Classes

@@ -42,3 +42,8 @@ pub record IsType (mark : Option Bytes) (body : Bytes) (r : TypeEntry) : Type 0 
 -- a record that is a type at an offset of a file is this type
 pub record TypeAt (file : Bytes) (offset : ℕ) (r : TypeEntry) : Type 0 where
   pub go : (t : TypeMark) (rs : List ℕ) → entryAt file offset ≡ some (type t rs) → typeSaid (bodyAt file offset) r ≡ some (type t rs)
+
+-- a record that is an option or a set at an offset of a file has this part
+pub record PartAt (file : Bytes) (offset : ℕ) (r : ℕ) : Type 0 where
+  pub option : (rs : List ℕ) → entryAt file offset ≡ some (type Option· rs) → rs ≡ r ∷ []
+  pub set : (rs : List ℕ) → entryAt file offset ≡ some (type Set· rs) → rs ≡ r ∷ []

@@ -5,7 +5,7 @@ use field::Span;
 ghost use mathlib.Core.List.{[], _∷_};
 ghost use mathlib.Core.Option.{some};
 ghost use Rattle.script_spec.specs.Base.{bytes};
-ghost use Rattle.entry.specs.Types.{IsType, TypeAt};
+ghost use Rattle.entry.specs.Types.{IsType, TypeAt, PartAt};
 
 // The extension types, in the order of `ExtType`.
 pub enum ExtType {
@@ -72,4 +72,11 @@ pub fn type_at(file: &[u8], offset: u32) -> TypeEntry
 {
     let letter = crate::letter_at(file, offset);
     type_of(letter, crate::body_at(file, offset))
+}
+
+// The part of the option or the set at an offset of the file: the number that its body begins with.
+pub fn part_at(file: &[u8], offset: u32) -> u32
+    ensures { λ r. ⌜ PartAt (now (file .entry)) offset r ⌝ }
+{
+    crate::number_at(file, crate::wide(offset) + 6)
 }

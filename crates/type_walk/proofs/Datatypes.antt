@@ -1,11 +1,10 @@
--- Whether a type is a datatype, and whether it has no parts either, by its mark.
+-- Whether a type is a datatype, by its mark.
 -- Assumes nothing.
 use mathlib.Core.Path.{_≡_, refl, sym, ap, _∙_, subst}
 use mathlib.Core.Bool.{Bool, true, false}
 use mathlib.Core.List.{List, [], _∷_}
-use mathlib.Core.Option.{none, some}
+use mathlib.Core.Option.{some}
 use Prim.Native.Nat.{ℕ}
-use native.Mathlib.Omega.{arith}
 use package.types.Run.{OneOf, miss}
 use denote.Enum.Declared.{tagOf}
 use Rattle.script_spec.specs.Base.{Bytes, isSome}
@@ -17,17 +16,9 @@ use Rattle.index.specs.Standing.{markAt, bodyAt, entryAt}
 use Rattle.term_file.specs.Marks.{mark, Marked}
 use Rattle.term_file.proofs.mark.Kind.{the-type}
 use Rattle.term_file.specs.declared.mark.Kind.{Kind}
-use Rattle.term_file.specs.declared.mark.Kind.the-variants as kind
-use Rattle.entry.specs.Types.{typeSaid, IsType}
 use Rattle.entry.proofs.Classes.{typeShape, shape, kind-shape, marked-entry}
 use Rattle.entry.proofs.Rows.{type-stands}
-use Rattle.entry.proofs.TypeEntries.{under, type-bool, type-string, type-bitvec, type-at}
-use Rattle.entry.specs.declared.types.TypeEntry.{TypeEntry}
-use Rattle.entry.specs.declared.types.TypeEntry.the-variants as entry
-use Rattle.type_walk.specs.Parts.{IsPlain}
 use Rattle.type_walk.specs.Types.{IsDatatype}
-
--- ---- datatypes
 
 -- the places of the kinds that are datatypes, and of the others
 abbrev declared : List ℕ
@@ -72,32 +63,3 @@ module _ {file : Bytes} {work : List ℕ} {k t o : ℕ} {kd : Kind} (place : o �
 
   pub not-declared : OneOf others (tagOf the-type kd) → IsDatatype file work k t false
   not-declared h = tells-datatype (λ m e. other-shape m (subst (OneOf others) (sym e) h))
-
--- ---- types without parts
-
-module _ {file : Bytes} {o : ℕ} {kd : Kind} (M : Marked (markAt file o) kd) where
-  -- by the type that a mark has for every body
-  plain-type : (ty : TypeEntry) (n : TypeMark) → ((body : Bytes) → typeSaid body ty ≡ some (type n [])) → datatypeMark n ≡ none → IsType (mark kd) (bodyAt file o) ty → IsPlain file o true
-  plain-type ty n said plain T = record {
-    go = λ h m rs g.
-        let x = type-at M refl T .go m rs g in
-        let y = said (bodyAt file o) in
-        let none-left : rs ≡ [] = cc in
-        let same : m ≡ n = cc in
-        (none-left, ap datatypeMark same ∙ plain);
-  }
-
-  pub plain-bool : kd ≡ kind.TB → IsPlain file o true
-  unfolding typeSaid datatypeMark
-  plain-bool e = plain-type entry.Bool tree.Bool· (λ body. refl) refl (under e type-bool)
-
-  pub plain-string : kd ≡ kind.TS → IsPlain file o true
-  unfolding typeSaid datatypeMark
-  plain-string e = plain-type entry.String tree.String· (λ body. refl) refl (under e type-string)
-
-  pub plain-bitvec : kd ≡ kind.TV → IsPlain file o true
-  unfolding typeSaid datatypeMark
-  plain-bitvec e = plain-type (entry.BitVec _) (tree.BitVec· _) (λ body. refl) refl (under e (type-bitvec refl))
-
-pub plain-any : {file : Bytes} {o : ℕ} → IsPlain file o false
-plain-any = record { go = λ h m rs g. absurd (let z : _≡_ {A = ℕ} 0 1 = cc in omega arith) }

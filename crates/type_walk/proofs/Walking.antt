@@ -2,14 +2,14 @@
 -- Assumes nothing.
 use Prim.Native.Nat.{ℕ, _<_, _≤_}
 use mathlib.Core.Path.{_≡_, refl, sym, ap, _∙_, subst}
-use mathlib.Core.Bool.{Bool, true, false, not}
+use mathlib.Core.Bool.{true, false, not}
 use mathlib.Core.List.{List, [], _∷_, map}
 use native.Mathlib.Omega.{arith}
 use lib.Dec.{eqb}
 use lib.ListN.{length}
 use borrow.Author.Tests.{eq-eqb, ne-eqb}
-use Rattle.script_spec.specs.Base.{Bytes, any, isSome}
-use Rattle.script_spec.specs.Tree.{Ty, eqTy, forest, datatype}
+use Rattle.script_spec.specs.Base.{Bytes, any}
+use Rattle.script_spec.specs.Tree.{eqTy, forest}
 use Rattle.script_spec.specs.File.{TermFile, types, members, typeAt}
 use Rattle.script_spec.specs.Walk.{State, went, encodeType, encodeTypes}
 use Rattle.index.specs.Cells.{cell, typeOffset, typeFirst}
@@ -26,17 +26,16 @@ use Rattle.progress.specs.Progress.{Holds, Advances}
 use Rattle.progress.specs.declared.Progress.{Progress}
 use Rattle.progress.proofs.Advancing.{advances-nothing, advances-then}
 use Rattle.progress.proofs.Running.{advances-went, advances-as, advances-passed}
-use Rattle.type_walk.specs.Parts.{partsIn, noParts, PartsAt, IsPlain}
+use Rattle.type_walk.specs.Parts.{partsIn, PartsAt}
 use Rattle.type_walk.specs.declared.parts.Parts.{Parts}
-use Rattle.type_walk.specs.Types.{typeReady, typeWalk, PartsReady, partsWalk, NewType, declareWalk, IsDatatype}
+use Rattle.type_walk.specs.Types.{typeReady, typeWalk, PartsReady, partsWalk, NewType, declareWalk}
 use Rattle.type_walk.proofs.Declaring.{type-left, type-new, type-still-new}
-use Rattle.type_walk.proofs.Entering.{passes-type}
 
 -- ---- a type
 
 module _ {file : Bytes} {f : TermFile} {work : List ℕ} {k : ℕ} {S : State} (I : Index file f work k) (N : Numbers f work k S) (t : ℕ) (l : t < length (types f)) where
   -- a type is in the table where it has a name
-  known-by : any (eqTy (typeAt f t)) (S .types) ≡ not (eqb (nameAt work k typeFirst typeName t) 0)
+  pub known-by : any (eqTy (typeAt f t)) (S .types) ≡ not (eqb (nameAt work k typeFirst typeName t) 0)
   known-by = table-known (N .type-table) t l ∙ ap (λ (n : ℕ). not (eqb n 0)) (sym (nameAt-type I t l))
 
   known : (nameAt work k typeFirst typeName t ≡ 0 → ⊥) → any (eqTy (typeAt f t)) (S .types) ≡ true
@@ -67,18 +66,6 @@ module _ {file : Bytes} {k many limit name : ℕ} {work : List ℕ} {out : Bytes
       let after = A .go f o (went S) I small n (record { inside = R; below = rw ps below }) W in
       let last = D .go f o (sticky w (went S)) (index-kept (A .kept) I) small n (record { inside = R; new = λ S₁ q. type-still-new (members f) m _ (typeAt f t) S S₁ tree′ new q }) after in
       subst (Holds f k limit o work₂ out₂ p₂) (type-new (members f) m _ (typeAt f t) S tree′ new) last))
-
-  -- a type that has no parts and is no datatype is left
-  pub passes-plain : {offset : ℕ} {b : Bool} → name ≡ 0 → offset ≡ cell work k typeOffset t → IsPlain file offset b → b ≡ true → Advances file k many limit (typeReady t) (typeWalk t) work out p work out p
-  unfolding partsIn noParts partsWalk encodeTypes forest datatype isSome
-  passes-plain {offset} h place P q =
-      let no-parts : PartsAt file offset noParts = record { go = λ m rs g. sym (P .go q m rs g .0) } in
-      let no-datatype : IsDatatype file work k t false = record {
-        go = λ f I l.
-            type-stands (I .type-row t l .stands) (λ m rs reads below tree.
-            ap isSome (sym (P .go q m rs (rw place reads) .1)) ∙ ap (λ (u : Ty). isSome (datatype u)) tree);
-      } in
-      encodes-type h place no-parts (advances-nothing (PartsReady t []) (partsWalk []) (λ f x R. sticky-nothing x)) (passes-type no-datatype z refl)
 
 -- ---- the parts
 

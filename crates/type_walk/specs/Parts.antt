@@ -2,7 +2,7 @@
 -- Assumes nothing.
 use Prim.Native.Nat.{ℕ, suc, _+_, _<_}
 use mathlib.Core.Path.{_≡_}
-use mathlib.Core.Bool.{Bool, true, false}
+use mathlib.Core.Bool.{true, false}
 use mathlib.Core.List.{List, [], _∷_}
 use mathlib.Core.Option.{none, some}
 use lib.ListN.{drop, replicate}
@@ -15,6 +15,8 @@ use Rattle.entry.specs.declared.types.TypeEntry.the-variants as entry
 use Rattle.spell.specs.Records.{partsOf}
 use Rattle.type_walk.specs.declared.parts.Parts.{Parts}
 use Rattle.type_walk.specs.declared.parts.Part.{Part}
+use Rattle.type_walk.specs.declared.settled.SettledBy.{SettledBy}
+use Rattle.type_walk.specs.declared.settled.SettledBy.the-variants as by
 
 -- the numbers of the parts that are left
 unfoldable pub partsIn : Bytes → Parts → List ℕ
@@ -43,9 +45,15 @@ partsSaid entry.Unreadable = noParts
 pub record PartsAt (file : Bytes) (offset : ℕ) (r : Parts) : Type 0 where
   pub go : (m : TypeMark) (rs : List ℕ) → entryAt file offset ≡ some (type m rs) → partsIn (bodyAt file offset) r ≡ rs
 
--- a type at an offset of a file that is told by its mark has no parts and is no datatype
-pub record IsPlain (file : Bytes) (offset : ℕ) (r : Bool) : Type 0 where
-  pub go : r ≡ true → (m : TypeMark) (rs : List ℕ) → entryAt file offset ≡ some (type m rs) → (rs ≡ []) × (datatypeMark m ≡ none)
+-- what a type's record has where this tells whether the type is settled
+unfoldable pub settledSaid : TypeMark → List ℕ → SettledBy → Type 0
+settledSaid m rs by.Mark = (rs ≡ []) × (datatypeMark m ≡ none)
+settledSaid m rs (by.Part n) = (rs ≡ n ∷ []) × (datatypeMark m ≡ none)
+settledSaid m rs by.Name = Unit {0}
+
+-- this tells whether a record that is a type at an offset of a file is settled
+pub record SettlesBy (file : Bytes) (offset : ℕ) (r : SettledBy) : Type 0 where
+  pub go : (m : TypeMark) (rs : List ℕ) → entryAt file offset ≡ some (type m rs) → settledSaid m rs r
 
 -- the attribute at a place of a body comes first, and so many after it
 pub record TakesNamed (body : Bytes) (at left : ℕ) (r : Part) : Type 0 where

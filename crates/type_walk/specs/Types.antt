@@ -2,7 +2,7 @@
 -- Assumes nothing.
 use Prim.Native.Nat.{ℕ, _<_}
 use mathlib.Core.Path.{_≡_}
-use mathlib.Core.Bool.{Bool, false}
+use mathlib.Core.Bool.{Bool, true, false}
 use mathlib.Core.List.{List, [], _∷_, map}
 use lib.ListN.{length}
 use Rattle.script_spec.specs.Base.{Bytes, any, isSome}
@@ -12,6 +12,7 @@ use Rattle.script_spec.specs.Command.{comment}
 use Rattle.script_spec.specs.Walk.{State, Step, went, Walk, writing, declareType, encodeType, encodeTypes, declareFunction, encodeUuf}
 use Rattle.index.specs.First.{Below}
 use Rattle.index.specs.Meaning.{Index}
+use Rattle.naming.specs.Naming.{Numbers}
 use Rattle.spell.specs.Functions.{idOf}
 
 -- ---- types
@@ -23,6 +24,10 @@ typeReady t f x = t < length (types f)
 -- it is encoded
 unfoldable pub typeWalk : ℕ → TermFile → Walk
 typeWalk t f = encodeType (members f) (typeAt f t)
+
+-- the walk over a settled type changes nothing, whatever file was accepted and whatever tables the memory has
+pub record Settled (file : Bytes) (work : List ℕ) (k t : ℕ) (r : Bool) : Type 0 where
+  pub go : r ≡ true → (f : TermFile) (S : State) → Index file f work k → Numbers f work k S → t < length (types f) → typeWalk t f S ≡ went S
 
 -- parts with these numbers belong to a type with number t, which is above them
 pub record PartsReady (t : ℕ) (ps : List ℕ) (f : TermFile) (x : Step) : Type 0 where

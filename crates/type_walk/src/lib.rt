@@ -1,6 +1,7 @@
 // The encoder's walk over types and functions, by the numbers of their records: what was not declared before is.
 pub mod declare;
 pub mod parts;
+mod settled;
 
 use parts::Parts;
 use progress::Progress;
@@ -11,7 +12,7 @@ ghost use Rattle.progress.specs.Progress.{Advances};
 ghost use Rattle.type_walk.specs.Parts.{partsIn};
 ghost use Rattle.type_walk.specs.Types.{typeReady, typeWalk, PartsReady, partsWalk, funReady, funWalk};
 
-// Encodes the type with number t: its parts, then itself. A type that has a name is left, and so is one that has no parts and is no datatype.
+// Encodes the type with number t: its parts, then itself. A type that has nothing left to declare is left, and so is one that has a name.
 pub fn encode_type(
     file: &[u8],
     work: &mut [u32],
@@ -28,14 +29,14 @@ pub fn encode_type(
     if p.refused != 0 {
         return p;
     }
+    if settled::is_settled(file, work, k, t) {
+        return p;
+    }
     let name = sorts::type_name(work, k, t);
     if name != 0 {
         return p;
     }
     let offset = index::get(work, k, index::TYPE_OFFSET, entry::wide(t));
-    if parts::is_plain(file, offset) {
-        return p;
-    }
     let c = parts::parts_at(file, offset);
     let q = encode_types(file, work, k, many, out, limit, p, t, offset, c);
     declare::declare_type(file, work, k, many, out, limit, q, t)

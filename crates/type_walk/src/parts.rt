@@ -1,10 +1,9 @@
 // The parts of a type, one after the other, by their numbers.
 use entry::lists;
 use entry::types::TypeEntry;
-use term_file::mark::Kind;
 ghost use mathlib.Core.Path.{_≡_};
 ghost use Rattle.index.specs.Standing.{bodyAt};
-ghost use Rattle.type_walk.specs.Parts.{partsSaid, PartsAt, IsPlain, TakesNamed, TakesPart};
+ghost use Rattle.type_walk.specs.Parts.{partsSaid, PartsAt, TakesNamed, TakesPart};
 
 // The parts that are left: the attributes from a place of the body on, or else a part that stands alone.
 pub struct Parts {
@@ -57,18 +56,6 @@ pub fn parts_at(file: &[u8], offset: u32) -> Parts
     ensures { λ r. ⌜ PartsAt (now (file .entry)) offset r ⌝ }
 {
     parts_of(entry::types::type_at(file, offset))
-}
-
-// Whether the mark of the type at an offset tells that it has no parts and is no datatype.
-pub fn is_plain(file: &[u8], offset: u32) -> bool
-    ensures { λ r. ⌜ IsPlain (now (file .entry)) offset r ⌝ }
-{
-    match entry::kind_at(file, offset) {
-        Kind::TB => true,
-        Kind::TS => true,
-        Kind::TV => true,
-        _ => false,
-    }
 }
 
 // The attribute at a place of the body, with so many after it.

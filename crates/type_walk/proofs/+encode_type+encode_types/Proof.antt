@@ -9,7 +9,8 @@ use Rattle.index.specs.Standing.{bodyAt}
 use Rattle.progress.proofs.Running.{advances-refused}
 use Rattle.type_walk.specs.Parts.{partsIn}
 use Rattle.type_walk.proofs.PartLaws.{no-parts}
-use Rattle.type_walk.proofs.Walking.{leaves-type, passes-plain, encodes-type, PartsLeft, parts-start, parts-on, parts-end, parts-never}
+use Rattle.type_walk.proofs.Walking.{leaves-type, encodes-type, PartsLeft, parts-start, parts-on, parts-end, parts-never}
+use Rattle.type_walk.proofs.Settling.{passes-settled}
 use borrow.Fn.Kinds.{In}
 use borrow.Fn.PlainCycle.{Measures, is, falls, and}
 use Rattle.type_walk.proofs.encode_type.Reads as encode-type
@@ -22,9 +23,9 @@ use Rattle.entry.proofs.wide.Reads as wide-reads
 use Rattle.index.proofs.get.Reads as get-reads
 use Rattle.spell.proofs.sorts.type_name.Reads as type-name-reads
 use Rattle.type_walk.proofs.declare.declare_type.Reads as declare-type-reads
-use Rattle.type_walk.proofs.parts.is_plain.Reads as is-plain-reads
 use Rattle.type_walk.proofs.parts.parts_at.Reads as parts-at-reads
 use Rattle.type_walk.proofs.parts.take_part.Reads as take-part-reads
+use Rattle.type_walk.proofs.settled.is_settled.Reads as is-settled-reads
 use Rattle.type_walk.proofs.+encode_type+encode_types.{statement}
 use Rattle.type_walk.proofs.+encode_type+encode_types.Tie.{close}
 
@@ -55,7 +56,7 @@ encode-types-below t =
     encode-types.Pre
 
 abbrev encode-type-claims : ℕ → encode-type-lts.Claims
-encode-type-claims t = (type-name-reads.Asked, type-name-reads.Learnt, wide-reads.Asked, wide-reads.Learnt, get-reads.Asked, get-reads.Learnt, is-plain-reads.Asked, is-plain-reads.Learnt, parts-at-reads.Asked, parts-at-reads.Learnt, encode-types-below t, encode-types.Post, declare-type-reads.Asked, declare-type-reads.Learnt)
+encode-type-claims t = (is-settled-reads.Asked, is-settled-reads.Learnt, type-name-reads.Asked, type-name-reads.Learnt, wide-reads.Asked, wide-reads.Learnt, get-reads.Asked, get-reads.Learnt, parts-at-reads.Asked, parts-at-reads.Learnt, encode-types-below t, encode-types.Post, declare-type-reads.Asked, declare-type-reads.Learnt)
 
 abbrev encode-types-claims : ℕ → encode-types-lts.Claims
 encode-types-claims t = (take-part-reads.Asked, take-part-reads.Learnt, encode-type-below t, encode-type.Post)
@@ -63,29 +64,29 @@ encode-types-claims t = (take-part-reads.Asked, take-part-reads.Learnt, encode-t
 encode-type-returns : (t : ℕ) → encode-type-lts.Need-returns (encode-type-claims t) (encode-type-at t) encode-type.Post
 encode-type-returns t c = advances-refused c.if1.taken
 
-encode-type-type-name-requires : (t : ℕ) → encode-type-lts.Need-type-name-requires (encode-type-claims t) (encode-type-at t) encode-type.Post
-encode-type-type-name-requires t c κs = search needs
+encode-type-is-settled-requires : (t : ℕ) → encode-type-lts.Need-is-settled-requires (encode-type-claims t) (encode-type-at t) encode-type.Post
+encode-type-is-settled-requires t c κs = search needs
 
 encode-type-same-length : (t : ℕ) → encode-type-lts.Need-same-length (encode-type-claims t) (encode-type-at t) encode-type.Post
 encode-type-same-length t c = search needs
 
 encode-type-returns-2 : (t : ℕ) → encode-type-lts.Need-returns-2 (encode-type-claims t) (encode-type-at t) encode-type.Post
-encode-type-returns-2 t c = leaves-type _ c.before.before.before.if1.left c.before.type-name.ensures c.if2.taken
+encode-type-returns-2 t c = passes-settled c.before.before.before.if1.left c.before.is-settled.ensures c.if2.taken
+
+encode-type-type-name-requires : (t : ℕ) → encode-type-lts.Need-type-name-requires (encode-type-claims t) (encode-type-at t) encode-type.Post
+encode-type-type-name-requires t c κs = search needs
+
+encode-type-same-length-2 : (t : ℕ) → encode-type-lts.Need-same-length-2 (encode-type-claims t) (encode-type-at t) encode-type.Post
+encode-type-same-length-2 t c = search needs
+
+encode-type-returns-3 : (t : ℕ) → encode-type-lts.Need-returns-3 (encode-type-claims t) (encode-type-at t) encode-type.Post
+encode-type-returns-3 t c = leaves-type _ c.before.before.before.before.before.before.if1.left c.before.type-name.ensures c.if3.taken
 
 encode-type-wide-requires : (t : ℕ) → encode-type-lts.Need-wide-requires (encode-type-claims t) (encode-type-at t) encode-type.Post
 encode-type-wide-requires t c κs = search needs
 
 encode-type-get-requires : (t : ℕ) → encode-type-lts.Need-get-requires (encode-type-claims t) (encode-type-at t) encode-type.Post
 encode-type-get-requires t c κs = search needs
-
-encode-type-is-plain-requires : (t : ℕ) → encode-type-lts.Need-is-plain-requires (encode-type-claims t) (encode-type-at t) encode-type.Post
-encode-type-is-plain-requires t c κs = search needs
-
-encode-type-same-length-2 : (t : ℕ) → encode-type-lts.Need-same-length-2 (encode-type-claims t) (encode-type-at t) encode-type.Post
-encode-type-same-length-2 t c = search needs
-
-encode-type-returns-3 : (t : ℕ) → encode-type-lts.Need-returns-3 (encode-type-claims t) (encode-type-at t) encode-type.Post
-encode-type-returns-3 t c = passes-plain _ c.before.before.before.before.before.before.before.before.if1.left c.before.before.before.before.before.before.type-name.ensures c.before.before.before.before.before.if2.left (c.before.before.get.ensures ∙ (rw (c.before.before.before.wide.ensures .0))) c.before.is-plain.ensures c.if3.taken
 
 encode-type-parts-at-requires : (t : ℕ) → encode-type-lts.Need-parts-at-requires (encode-type-claims t) (encode-type-at t) encode-type.Post
 encode-type-parts-at-requires t c κs = search needs
@@ -103,7 +104,7 @@ encode-type-same-length-4 : (t : ℕ) → encode-type-lts.Need-same-length-4 (en
 encode-type-same-length-4 t c = search needs
 
 encode-type-returns-4 : (t : ℕ) → encode-type-lts.Need-returns-4 (encode-type-claims t) (encode-type-at t) encode-type.Post
-encode-type-returns-4 t c = encodes-type _ c.before.before.before.before.before.before.before.before.before.before.before.before.before.before.before.before.before.before.before.before.before.before.before.if1.left c.before.before.before.before.before.before.before.before.before.before.before.before.before.before.before.before.before.before.before.before.before.type-name.ensures c.before.before.before.before.before.before.before.before.before.before.before.before.before.before.before.before.before.before.before.before.if2.left (c.before.before.before.before.before.before.before.before.before.before.before.before.before.before.before.before.before.get.ensures ∙ (rw (c.before.before.before.before.before.before.before.before.before.before.before.before.before.before.before.before.before.before.wide.ensures .0))) c.before.before.before.before.before.before.before.before.before.before.before.before.before.before.parts-at.ensures c.before.before.before.before.before.before.before.before.before.before.before.encode-types.ensures c.before.before.before.before.declare-type.ensures
+encode-type-returns-4 t c = encodes-type _ c.before.before.before.before.before.before.before.before.before.before.before.before.before.before.before.before.before.before.before.before.before.before.before.before.if1.left c.before.before.before.before.before.before.before.before.before.before.before.before.before.before.before.before.before.before.before.type-name.ensures c.before.before.before.before.before.before.before.before.before.before.before.before.before.before.before.before.before.before.if3.left (c.before.before.before.before.before.before.before.before.before.before.before.before.before.before.before.get.ensures ∙ (rw (c.before.before.before.before.before.before.before.before.before.before.before.before.before.before.before.before.wide.ensures .0))) c.before.before.before.before.before.before.before.before.before.before.before.before.before.before.parts-at.ensures c.before.before.before.before.before.before.before.before.before.before.before.encode-types.ensures c.before.before.before.before.declare-type.ensures
 
 abbrev encode-types-Inv-loop : encode-types-lts.InvT-loop
 encode-types-Inv-loop file work₀ k many out₀ limit t offset q₀ left₀ work out q left =
@@ -149,14 +150,14 @@ pub +encode-type+encode-types-spec : {M : Type 1} → statement M
 +encode-type+encode-types-spec = close μ-encode-type μ-encode-types (λ t. encode-type-lts.spec (encode-type-claims t) (encode-type-at t)
     encode-type.Post
     (encode-type-returns t)
-    (encode-type-type-name-requires t)
+    (encode-type-is-settled-requires t)
     (encode-type-same-length t)
     (encode-type-returns-2 t)
-    (encode-type-wide-requires t)
-    (encode-type-get-requires t)
-    (encode-type-is-plain-requires t)
+    (encode-type-type-name-requires t)
     (encode-type-same-length-2 t)
     (encode-type-returns-3 t)
+    (encode-type-wide-requires t)
+    (encode-type-get-requires t)
     (encode-type-parts-at-requires t)
     (encode-type-encode-types-requires t)
     (encode-type-declare-type-requires t)
