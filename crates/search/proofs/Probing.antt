@@ -1,7 +1,7 @@
 -- The search goes through the slots from the home of what is looked for: none that was passed is empty or has an equal entry.
 -- Assumes nothing.
 use mathlib.Core.Path.{_≡_, refl, sym, ap, _∙_, subst}
-use mathlib.Core.Logic.{_⊎_, inl, inr, ⊎-elim}
+use mathlib.Core.Logic.{inl, inr}
 use Prim.Native.Nat.{ℕ, _+_, _-_, _*_, _/_, _≤_, _<_}
 use native.Mathlib.Decide.{decLt, ℕ-discrete}
 use native.Mathlib.Omega.{arith}
@@ -15,10 +15,12 @@ use Rattle.index.specs.Cells.{cell, hash}
 use Rattle.index.specs.First.{canonical}
 use Rattle.index.specs.Names.{slot, codeOf, Reached}
 use Rattle.slots.specs.Slots.{homeOf}
-use Rattle.slots.specs.Storing.{Home, Stores}
+use Rattle.slots.specs.Storing.{Home, FirstEmpty, Stores}
 use Rattle.index.proofs.Names.{code-some}
-use Rattle.slots.proofs.Ring.{code-number, empties-some}
-use Rattle.search.specs.Found.{SameAt, Looks, Held, Holds, Probes, Enrols}
+use Rattle.slots.proofs.Ring.{code-number, empties-some, Taken, taken-none, taken-more, empty-here, empty-nowhere}
+use Rattle.search.specs.Found.{SameAt, Looks, Held, Holds, Told, Probes, Enrols}
+use Rattle.search.specs.declared.Answer.{Answer}
+use Rattle.search.specs.declared.Answer.the-variants.{Known, Absent}
 
 true-not-false : true ≡ false → ⊥
 true-not-false e = let z : _≡_ {A = ℕ} 0 1 = cc in omega arith
@@ -49,12 +51,12 @@ module _ {file : Bytes} {work : List ℕ} {k offsets kind count o v n : ℕ} (is
 
 -- no slot in the first d steps from b is empty or has an equal entry
 pub record Passed (file : Bytes) (work : List ℕ) (k offsets kind count o b d : ℕ) : Type 0 where
-  pub taken : (j : ℕ) → j < d → cell work k hash (slot k b j) ≡ 0 → ⊥
+  pub slots : Taken k (cell work k hash) b d
   pub other : (f : TermFile) (x : Entry) (ε : ℕ → Entry) → Looks file work k offsets kind count o f x ε → (j : ℕ) → j < d → Held f x ε count kind (cell work k hash (slot k b j)) → ⊥
 
 module _ {file : Bytes} {work : List ℕ} {k offsets kind count o b : ℕ} where
   pub passed-none : Passed file work k offsets kind count o b 0
-  passed-none = record { taken = λ j l e. omega arith; other = λ f x ε L j l H. omega arith }
+  passed-none = record { slots = taken-none; other = λ f x ε L j l H. omega arith }
 
   -- an entry that is equal is not beyond the slots that were passed
   not-passed : {d : ℕ} → Passed file work k offsets kind count o b d → {f : TermFile} {x : Entry} {ε : ℕ → Entry} → Looks file work k offsets kind count o f x ε → (0 < k → b ≡ homeOf k (canonical f x))
@@ -66,14 +68,20 @@ module _ {file : Bytes} {work : List ℕ} {k offsets kind count o b : ℕ} where
 
   module _ {d : ℕ} (P : Passed file work k offsets kind count o b d) where
     -- all slots were passed
-    pub found-nowhere : {firsts : ℕ} → k ≤ d → Probes file work k offsets firsts kind count o b count
+    pub found-nowhere : {firsts : ℕ} → k ≤ d → Probes file work k offsets firsts kind count o b (Absent d)
     found-nowhere h =
-        record { go = λ f x ε L home. inr (record { none = λ n l q. let R = L .reached n l in not-passed P L home n q R (omega (arith, R .near)); is = refl }) }
+        record {
+          told = record {
+            empty = empty-nowhere h (P .slots);
+            go = λ f x ε L home. record { none = λ n l q. let R = L .reached n l in not-passed P L home n q R (omega (arith, R .near)); is = refl };
+          };
+        }
 
     module _ {v : ℕ} (is : v ≡ cell work k hash (slot k b d)) where
       -- an empty slot ends the search
-      pub found-empty : {firsts : ℕ} → v ≡ 0 → Probes file work k offsets firsts kind count o b count
-      found-empty e = record { go = λ f x ε L home. inr (record { none = λ n l q. none f x ε L home n q (L .reached n l); is = refl }) }
+      pub found-empty : {firsts : ℕ} → v ≡ 0 → Probes file work k offsets firsts kind count o b (Absent d)
+      found-empty e =
+          record { told = record { empty = empty-here (P .slots) is e; go = λ f x ε L home. record { none = λ n l q. none f x ε L home n q (L .reached n l); is = refl } } }
         where
           none : (f : TermFile) (x : Entry) (ε : ℕ → Entry) → Looks file work k offsets kind count o f x ε → (0 < k → b ≡ homeOf k (canonical f x)) → (n : ℕ) → canonical f (ε n) ≡ canonical f x
               → Reached (homeOf k) k (cell work k hash) kind count (λ m. canonical f (ε m)) n → ⊥
@@ -88,36 +96,35 @@ module _ {file : Bytes} {work : List ℕ} {k offsets kind count o b : ℕ} where
               go (no l) (no g) = R .path d (omega arith) (rw (← b-is) (sym is ∙ e))
 
       module _ {r : Bool} (H : Holds file work k offsets kind count o v r) where
-        pub found-held : {firsts n w : ℕ} → r ≡ true → n ≡ (v - 1) / 4 → w ≡ cell work k firsts n → Probes file work k offsets firsts kind count o b w
+        pub found-held : {firsts n w : ℕ} → r ≡ true → n ≡ (v - 1) / 4 → w ≡ cell work k firsts n → Probes file work k offsets firsts kind count o b (Known w)
         found-held {firsts} h e q =
-            record { go = λ f x ε L home. let K = H .go f x ε L .of-true h in inl (record { number = (v - 1) / 4; below = K .below; equal = K .equal; is = q ∙ ap (cell work k firsts) e }) }
+            record { told = record { go = λ f x ε L home. let K = H .go f x ε L .of-true h in record { number = (v - 1) / 4; below = K .below; equal = K .equal; is = q ∙ ap (cell work k firsts) e } } }
 
-        pub passed-more : r ≡ false → (v ≡ 0 → ⊥) → Passed file work k offsets kind count o b (d + 1)
-        passed-more h z =
+        pub passed-more : d < k → r ≡ false → (v ≡ 0 → ⊥) → Passed file work k offsets kind count o b (d + 1)
+        passed-more near h z =
             record {
-              taken = below-more (λ j. cell work k hash (slot k b j) ≡ 0 → ⊥) d (P .taken) (λ e. z (is ∙ e));
+              slots = taken-more (P .slots) is near z;
               other = λ f x ε L. below-more (λ j. Held f x ε count kind (cell work k hash (slot k b j)) → ⊥) d (P .other f x ε L)
                   (λ K. let t = H .go f x ε L .true-of (subst (λ (w : ℕ). Held f x ε count kind w) (sym is) K) in true-not-false (sym t ∙ h));
             }
 
 -- ---- the search
 
-module _ {file : Bytes} {work : List ℕ} {k offsets firsts kind count o b r : ℕ} (H : Home file work k o b) (P : Probes file work k offsets firsts kind count o b r) where
+module _ {file : Bytes} {work : List ℕ} {k offsets firsts kind count o b : ℕ} {r : Answer} (H : Home file work k o b) (P : Probes file work k offsets firsts kind count o b r) where
   module _ {f : TermFile} {x : Entry} {ε : ℕ → Entry} (L : Looks file work k offsets kind count o f x ε) where
     home-is : 0 < k → b ≡ homeOf k (canonical f x)
     home-is = H .is f x (L .index) (L .sought .reads) (L .sought .in-range)
 
-  pub enrolled-new : {work′ : List ℕ} {v : ℕ} → (count < 1048576 → kind < 4 → v ≡ codeOf count kind) → Stores work work′ k b v → Enrols file work work′ k offsets firsts kind count o r
-  enrolled-new code S =
+  pub enrolled-new : {work′ : List ℕ} {d v : ℕ} → r ≡ Absent d → (count < 1048576 → kind < 4 → v ≡ codeOf count kind) → (FirstEmpty k (cell work k hash) b d → Stores work work′ k b v)
+      → Enrols file work work′ k offsets firsts kind count o count
+  enrolled-new e code S =
+      let A = subst (Told file work k offsets firsts kind count o b) e (P .told) in
       record {
         go = λ f x ε L few room.
-            record { found = P .go f x ε L (home-is L); kept = inr (rw (home-is L (empties-some _ k room), code few (L .kind-is)) at (S .go (H .inside) room)) };
+            record { found = inr (A .go f x ε L (home-is L)); kept = inr (rw (home-is L (empties-some _ k room), code few (L .kind-is)) at (S (A .empty) .go (H .inside) room)) };
       }
 
-  pub enrolled-old : (r ≡ count → ⊥) → Enrols file work work k offsets firsts kind count o r
-  enrolled-old h =
-      record {
-        go = λ f x ε L few room.
-            let A = P .go f x ε L (home-is L) in
-            record { found = A; kept = inl (refl, ⊎-elim (λ H. H) (λ M. absurd (h (M .is))) A) };
-      }
+  pub enrolled-old : {n : ℕ} → r ≡ Known n → Enrols file work work k offsets firsts kind count o n
+  enrolled-old e =
+      let A = subst (Told file work k offsets firsts kind count o b) e (P .told) in
+      record { go = λ f x ε L few room. let hit = A .go f x ε L (home-is L) in record { found = inl hit; kept = inl (refl, hit) } }

@@ -16,7 +16,9 @@ use Rattle.index.specs.Meaning.{Index}
 use Rattle.compare.specs.View.{Decides}
 use Rattle.index.specs.Names.{codeOf, Reached}
 use Rattle.slots.specs.Slots.{empties, homeOf}
-use Rattle.slots.specs.Storing.{Stored}
+use Rattle.slots.specs.Storing.{FirstEmpty, Stored}
+use Rattle.search.specs.declared.Answer.{Answer}
+use Rattle.search.specs.declared.Answer.the-variants.{Known, Absent}
 
 -- the entry x is read at an offset, and refers to records of f only
 pub record At (file : Bytes) (f : TermFile) (o : ℕ) (x : Entry) : Type 0 where
@@ -58,9 +60,23 @@ module _ (f : TermFile) (x : Entry) (ε : ℕ → Entry) (count : ℕ) where
 pub record Holds (file : Bytes) (work : List ℕ) (k offsets kind count o v : ℕ) (r : Bool) : Type 0 where
   pub go : (f : TermFile) (x : Entry) (ε : ℕ → Entry) → Looks file work k offsets kind count o f x ε → Decides r (Held f x ε count kind v)
 
--- what the search answers from the slot b on, if this is the home of what is looked for
-pub record Probes (file : Bytes) (work : List ℕ) (k offsets firsts kind count o b r : ℕ) : Type 0 where
-  pub go : (f : TermFile) (x : Entry) (ε : ℕ → Entry) → Looks file work k offsets kind count o f x ε → (0 < k → b ≡ homeOf k (canonical f x)) → Hit f x ε count (cell work k firsts) r ⊎ Miss f x ε count r
+-- an entry that is equal is found from the slot b on, if this is the home of what is looked for
+pub record Finds (file : Bytes) (work : List ℕ) (k offsets firsts kind count o b r : ℕ) : Type 0 where
+  pub go : (f : TermFile) (x : Entry) (ε : ℕ → Entry) → Looks file work k offsets kind count o f x ε → (0 < k → b ≡ homeOf k (canonical f x)) → Hit f x ε count (cell work k firsts) r
+
+-- none is, and the first empty slot is d steps on
+pub record Lacks (file : Bytes) (work : List ℕ) (k offsets kind count o b d : ℕ) : Type 0 where
+  pub empty : FirstEmpty k (cell work k hash) b d
+  pub go : (f : TermFile) (x : Entry) (ε : ℕ → Entry) → Looks file work k offsets kind count o f x ε → (0 < k → b ≡ homeOf k (canonical f x)) → Miss f x ε count count
+
+-- what an answer tells
+abbrev pub Told : Bytes → List ℕ → ℕ → ℕ → ℕ → ℕ → ℕ → ℕ → ℕ → Answer → Type 0
+Told file work k offsets firsts kind count o b (Known r) = Finds file work k offsets firsts kind count o b r
+Told file work k offsets firsts kind count o b (Absent d) = Lacks file work k offsets kind count o b d
+
+-- what the search answers from the slot b on
+pub record Probes (file : Bytes) (work : List ℕ) (k offsets firsts kind count o b : ℕ) (r : Answer) : Type 0 where
+  pub told : Told file work k offsets firsts kind count o b r
 
 -- the same answer; the entry that was looked for is stored in a slot with `count` for its number, or one that is equal was found
 pub record Enrolled (work work′ : List ℕ) (k firsts kind count r : ℕ) (f : TermFile) (x : Entry) (ε : ℕ → Entry) : Type 0 where

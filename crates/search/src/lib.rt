@@ -3,6 +3,13 @@ pub mod names;
 
 ghost use Rattle.search.specs.Found.{SameAt, Holds, Probes, Enrols};
 
+// What the search tells: the number of the first record that is equal; or that there is none, and how many steps after the home slot the
+// first empty slot is.
+enum Answer {
+    Known(u32),
+    Absent(usize),
+}
+
 // Whether the records at two offsets are equal: the same mark, and bodies that agree by the index.
 fn same_at(file: &[u8], work: &[u32], k: usize, o: usize, p: usize) -> bool
     ensures { λ r. ⌜ SameAt (now (file .entry)) (now (work .entry)) k o p r ⌝ }
@@ -39,7 +46,7 @@ fn holds(
     same_at(file, work, k, p as usize, o)
 }
 
-// The number of the first record of a kind that is equal to the one at an offset, or `count`, if the slot b is its home; two columns have the offsets and the first numbers.
+// The first record of a kind that is equal to the one at an offset, if the slot b is its home; two columns have the offsets and the first numbers.
 fn probe(
     file: &[u8],
     work: &[u32],
@@ -50,24 +57,24 @@ fn probe(
     count: u32,
     o: usize,
     b: usize,
-) -> u32
+) -> Answer
     ensures { λ r. ⌜ Probes (now (file .entry)) (now (work .entry)) k offsets firsts kind count o b r ⌝ }
 {
     let mut d = 0;
     while d < k {
         let v = index::get(work, k, index::HASH, slots::slot(k, b, d));
         if v == 0 {
-            return count;
+            return Answer::Absent(d);
         }
         if holds(file, work, k, offsets, kind, count, o, v) {
-            return index::get(work, k, firsts, slots::number_of(v) as usize);
+            return Answer::Known(index::get(work, k, firsts, slots::number_of(v) as usize));
         }
         d += 1;
     }
-    count
+    Answer::Absent(d)
 }
 
-// The same number; where there is none, a slot is taken for the record, with `count` for its number.
+// The number of that record; where there is none, `count`, and a slot is taken for the record with that number.
 pub fn enrol(
     file: &[u8],
     work: &mut [u32],
@@ -81,10 +88,11 @@ pub fn enrol(
     ensures { λ r. ⌜ Enrols (now (file .entry)) (now (work .entry)) (now (work .exit)) k offsets firsts kind count o r ⌝ }
 {
     let b = slots::home(file, work, k, o);
-    let first = probe(file, work, k, offsets, firsts, kind, count, o, b);
-    if first == count {
-        slots::store(work, k, b, slots::code(count, kind));
-        return first;
+    match probe(file, work, k, offsets, firsts, kind, count, o, b) {
+        Answer::Known(n) => n,
+        Answer::Absent(d) => {
+            slots::store_at(work, k, b, d, slots::code(count, kind));
+            return count;
+        }
     }
-    first
 }

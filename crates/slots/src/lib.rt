@@ -76,10 +76,17 @@ fn first_empty(work: &[u32], k: usize, b: usize) -> usize
     d
 }
 
+// Stores v in the slot d steps after slot b.
+pub fn store_at(work: &mut [u32], k: usize, b: usize, d: usize, v: u32)
+    ensures { λ _. ⌜ (FirstEmpty k (cell (now (work .entry)) k hash) b d → Stores (now (work .entry)) (now (work .exit)) k b v) ⌝ }
+{
+    index::set(work, k, index::HASH, slot(k, b, d), v);
+}
+
 // Stores v in the first empty slot from slot b on.
 pub fn store(work: &mut [u32], k: usize, b: usize, v: u32)
     ensures { λ _. ⌜ Stores (now (work .entry)) (now (work .exit)) k b v ⌝ }
 {
     let d = first_empty(work, k, b);
-    index::set(work, k, index::HASH, slot(k, b, d), v);
+    store_at(work, k, b, d, v);
 }

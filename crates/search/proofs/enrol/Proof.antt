@@ -6,14 +6,14 @@ use Rattle.search.proofs.enrol.Statement.{statement}
 use Rattle.search.proofs.enrol.Tie as tie
 
 returns : tie.Need-returns
-returns c = enrolled-new c.before.before.before.before.before.before.before.before.home.ensures c.before.before.before.before.before.before.probe.ensures c.before.before.before.code.ensures c.before.before.store.ensures
+returns c = enrolled-new c.before.before.before.before.before.before.before.before.before.before.home.ensures c.before.before.before.before.before.before.before.before.probe.ensures c.before.before.before.before.before.before.d.given.1 c.before.before.before.code.ensures c.before.before.store-at.ensures
 
 returns-2 : tie.Need-returns-2
-returns-2 c = enrolled-old c.before.before.before.home.ensures c.before.probe.ensures c.if1.left
+returns-2 c = enrolled-old c.before.before.before.before.before.home.ensures c.before.before.before.probe.ensures c.before.n.given.1
 
 pub enrol-spec : {M : Type 1} → statement M
 enrol-spec =
     tie.close
-    (tie.spec (λ c κs. search needs) (λ c κs. search needs) (λ c κs. search needs) (λ c κs. search needs) (λ c. search needs)
+    (tie.spec (λ c κs. search needs) (λ c κs. search needs) (λ c. search needs) (λ c. search needs) (λ c κs. search needs) (λ c κs. search needs) (λ c. search needs)
     returns (λ c. search needs)
     returns-2)

@@ -30,7 +30,7 @@ loop-again : tie.Need-loop-again Inv-loop μ-loop
 loop-again c =
     passed-more c.before.before.before.before.before.before.loop.inv
     (c.before.before.before.get.ensures ∙ ap (cell _ _ hash) c.before.before.before.before.slot.ensures)
-    c.before.holds.ensures c.if2.left c.before.before.if1.left
+    c.before.holds.ensures c.before.before.before.before.before.loop-test.taken c.if2.left c.before.before.if1.left
 
 returns-3 : tie.Need-returns-3 Inv-loop μ-loop
 returns-3 c = found-nowhere c.before.loop.inv c.loop-test.left
