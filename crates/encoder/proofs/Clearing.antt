@@ -1,14 +1,14 @@
 -- Columns that are cleared entry by entry: a 0 that is stored stands there, and entries that were 0 stay so.
 -- Assumes nothing.
-use mathlib.Core.Path.{_≡_, refl, sym, _∙_}
-use Prim.Native.Nat.{ℕ, _+_, _*_, _<_, _≤_}
+use mathlib.Core.Path.{_≡_, refl, sym, ap, _∙_}
+use Prim.Native.Nat.{ℕ, _+_, _-_, _*_, _<_, _≤_}
 use native.Mathlib.Omega.{arith}
 use native.Mathlib.Decide.{ℕ-discrete, decLt, decLe}
 use mathlib.Core.List.{List}
 use lib.ListN.{length, getD, set, length-set, List·getD-eq-default}
 use lib.Seq.{getD-set-same, getD-set-other, set-out}
 use Rattle.index.specs.Cells.{offset, cell, store}
-use Rattle.index.proofs.Cells.{read-past, offset-past, offset-narrow}
+use Rattle.index.proofs.Cells.{read-past, offset-past, offset-narrow, offset-start, offset-end}
 use Rattle.naming.specs.Naming.{typeName, funName, termName, isName, Kept}
 use Rattle.naming.proofs.Names.{kept-refl, kept-trans, kept-store}
 use Rattle.encoder.specs.Clearing.{ClearsNames}
@@ -48,6 +48,17 @@ cell-past work k column j h = sym (read-past work k column j (length work) (here
     here (yes f) = offset-past (length work) k column j f h
     here (no f) = offset-narrow (length work) k column j (omega arith)
 
+-- an entry that is counted from the end of a column
+cell-end : (work : List ℕ) (k column j : ℕ) → column < 12 → j < k → cell work k (column + 12) j ≡ cell work k column (k - 1 - j)
+unfolding cell
+cell-end work k column j h l = ap (λ (o : ℕ). getD work o 0) (go (decLe (12 * k) (length work)))
+  where
+    go : Dec (12 * k ≤ length work) → offset (length work) k (column + 12) j ≡ offset (length work) k column (k - 1 - j)
+    go (yes f) =
+        let e : column + 12 - 12 ≡ column = omega arith in
+        sym (offset-end (length work) k (column + 12) j f l (omega arith) (omega arith) .1) ∙ ap (λ (c : ℕ). c * k + (k - 1 - j)) e ∙ offset-start (length work) k column (k - 1 - j) f (omega arith) h .1
+    go (no f) = sym (offset-narrow (length work) k (column + 12) j (omega arith)) ∙ offset-narrow (length work) k column (k - 1 - j) (omega arith)
+
 -- the first i entries of a column are 0
 pub record ZeroTo (work : List ℕ) (k column i : ℕ) : Type 0 where
   pub is : (j : ℕ) → j < i → cell work k column j ≡ 0
@@ -64,47 +75,44 @@ zero-other {work} {k} {column} {i} column′ n Z = record { is = λ j l. cell-st
 
 -- ---- the loop
 
--- the loop has cleared the first i entries of each column
+-- the loop has cleared the first i entries of the columns of names that are counted from their starts
 pub record ClearedTo (work : List ℕ) (k i : ℕ) (work′ : List ℕ) : Type 0 where
   pub kept : Kept work work′ k
   pub type-column : ZeroTo work′ k typeName i
-  pub fun-column : ZeroTo work′ k funName i
   pub term-column : ZeroTo work′ k termName i
 
 pub cleared-none : (work : List ℕ) (k : ℕ) → ClearedTo work k 0 work
-cleared-none work k = record { kept = kept-refl work k; type-column = none; fun-column = none; term-column = none }
+cleared-none work k = record { kept = kept-refl work k; type-column = none; term-column = none }
   where
     none : {column : ℕ} → ZeroTo work k column 0
     none = record { is = λ j l. absurd (omega arith) }
 
-pub cleared-more : {work work₁ work₂ work₃ work₄ : List ℕ} {k i : ℕ} → ClearedTo work k i work₁
-    → work₂ ≡ store work₁ k typeName i 0 → work₃ ≡ store work₂ k funName i 0 → work₄ ≡ store work₃ k termName i 0 → ClearedTo work k (i + 1) work₄
+pub cleared-more : {work work₁ work₂ work₃ : List ℕ} {k i : ℕ} → ClearedTo work k i work₁
+    → work₂ ≡ store work₁ k typeName i 0 → work₃ ≡ store work₂ k termName i 0 → ClearedTo work k (i + 1) work₃
 unfolding isName
-cleared-more {work} {work₁} {work₂} {work₃} {work₄} {k} {i} C a b c =
+cleared-more {work} {work₁} {work₂} {work₃} {k} {i} C a b =
     let K₂ : Kept work₁ work₂ k = rw a (kept-store work₁ k typeName i 0 refl) in
-    let K₃ : Kept work₂ work₃ k = rw b (kept-store work₂ k funName i 0 refl) in
-    let K₄ : Kept work₃ work₄ k = rw c (kept-store work₃ k termName i 0 refl) in
+    let K₃ : Kept work₂ work₃ k = rw b (kept-store work₂ k termName i 0 refl) in
     let A₂ : ZeroTo work₂ k typeName (i + 1) = rw a (zero-same (C .type-column)) in
-    let A₃ : ZeroTo work₃ k typeName (i + 1) = rw b (zero-other funName i A₂) in
-    let B₂ : ZeroTo work₂ k funName i = rw a (zero-other typeName i (C .fun-column)) in
-    let B₃ : ZeroTo work₃ k funName (i + 1) = rw b (zero-same B₂) in
-    let D₂ : ZeroTo work₂ k termName i = rw a (zero-other typeName i (C .term-column)) in
-    let D₃ : ZeroTo work₃ k termName i = rw b (zero-other funName i D₂) in
+    let B₂ : ZeroTo work₂ k termName i = rw a (zero-other typeName i (C .term-column)) in
     record {
-      kept = kept-trans (C .kept) (kept-trans K₂ (kept-trans K₃ K₄));
-      type-column = rw c (zero-other termName i A₃);
-      fun-column = rw c (zero-other termName i B₃);
-      term-column = rw c (zero-same D₃);
+      kept = kept-trans (C .kept) (kept-trans K₂ K₃);
+      type-column = rw b (zero-other termName i A₂);
+      term-column = rw b (zero-same B₂);
     }
 
 pub cleared-all : {work work′ : List ℕ} {k i : ℕ} → ClearedTo work k i work′ → k ≤ i → ClearsNames work k work′
 cleared-all {work} {work′} {k} {i} C h = record {
   kept = C .kept;
   no-types = λ j. all typeName j (C .type-column) (decLt j i);
-  no-funs = λ j. all funName j (C .fun-column) (decLt j i);
+  no-funs = λ j. facing j (decLt j k);
   no-terms = λ j. all termName j (C .term-column) (decLt j i);
 }
   where
     all : (column j : ℕ) → ZeroTo work′ k column i → Dec (j < i) → cell work′ k column j ≡ 0
     all column j Z (yes l) = Z .is j l
     all column j Z (no l) = cell-past work′ k column j (omega arith)
+
+    facing : (j : ℕ) → Dec (j < k) → cell work′ k funName j ≡ 0
+    facing j (yes l) = cell-end work′ k typeName j (omega arith) l ∙ C .type-column .is (k - 1 - j) (omega arith)
+    facing j (no l) = cell-past work′ k funName j (omega arith)

@@ -11,7 +11,7 @@ use lib.ListN.{length}
 use Rattle.script_spec.specs.Base.{Bytes, isSome, lookup, ascending, empty}
 use Rattle.script_spec.specs.Fields.{enum}
 use Rattle.script_spec.specs.File.{TermFile, enums, members, earlier, rules, broken}
-use Rattle.index.specs.Cells.{store, enumOffset}
+use Rattle.index.specs.Cells.{store, enumOffset, enumPlace}
 use Rattle.index.specs.Standing.{entryAt}
 use Rattle.index.specs.Meaning.{Stands}
 use Rattle.index.proofs.Entered.{enum-entry}
@@ -35,13 +35,13 @@ module _ {file : Bytes} {f : TermFile} {o : ℕ} (p : Bytes × List Bytes) (s : 
   unfolding enumNamed rules members
   enum-rules e e′ e″ = rw (e, e′, e″)
 
-module _ (file : Bytes) (work : List ℕ) (k count o : ℕ) {a : Bool} (A : EnumAscends file o a) where
-  pub enum-unordered : a ≡ false → Enters enumNamed enumCount file work work k count o (Broken 9)
-  enum-unordered h = record { go = λ f I c room p s. record { rule = enum-rules p s (A .go (p .0) (p .1) (enum-reads p s)) refl refl ∙ broken-here 9 _ h; unchanged = refl } }
+module _ (file : Bytes) (work : List ℕ) (k count o place : ℕ) {a : Bool} (A : EnumAscends file o a) where
+  pub enum-unordered : a ≡ false → Enters enumNamed enumCount file work work k count o place (Broken 9)
+  enum-unordered h = record { go = λ f I c room here p s. record { rule = enum-rules p s (A .go (p .0) (p .1) (enum-reads p s)) refl refl ∙ broken-here 9 _ h; unchanged = refl } }
 
   module _ {b : Bool} (B : EnumGiven file o b) where
-    pub enum-empty : a ≡ true → b ≡ false → Enters enumNamed enumCount file work work k count o (Broken 10)
-    enum-empty h g = record { go = λ f I c room p s. record { rule = enum-rules p s (A .go (p .0) (p .1) (enum-reads p s)) (B .go (p .0) (p .1) (enum-reads p s)) refl ∙ broken-later 9 _ h ∙ broken-here 10 _ g; unchanged = refl } }
+    pub enum-empty : a ≡ true → b ≡ false → Enters enumNamed enumCount file work work k count o place (Broken 10)
+    enum-empty h g = record { go = λ f I c room here p s. record { rule = enum-rules p s (A .go (p .0) (p .1) (enum-reads p s)) (B .go (p .0) (p .1) (enum-reads p s)) refl ∙ broken-later 9 _ h ∙ broken-here 10 _ g; unchanged = refl } }
 
     module _ {work′ : List ℕ} {name : Bytes} {r : ℕ} (N : NameAt file o name) (E : EnrolsNamed file work work′ k count name r) where
       -- the name that is read is the enum's
@@ -60,11 +60,11 @@ module _ (file : Bytes) (work : List ℕ) (k count o : ℕ) {a : Bool} (A : Enum
       unfolding enumCount
       name-known l {f} I c room = ⊎-elim (λ K. K) (λ M. absurd (omega (arith, M .miss .is))) (E .go f I c room)
 
-      pub enum-taken : a ≡ true → b ≡ true → r < count → Enters enumNamed enumCount file work work′ k count o (Broken 11)
+      pub enum-taken : a ≡ true → b ≡ true → r < count → Enters enumNamed enumCount file work work′ k count o place (Broken 11)
       unfolding enumCount isSome
       enum-taken h g l =
           record {
-            go = λ f I c room p s.
+            go = λ f I c room here p s.
                 let K = name-known l I c room in
                 record {
                   rule = all-rules p s h g (sym (ap isSome (lookup-named name r (I .index) (omega (arith, K .hit .below)) (K .hit .equal)))) ∙ broken-here 11 _ refl;
@@ -77,14 +77,14 @@ module _ (file : Bytes) (work : List ℕ) (k count o : ℕ) {a : Bool} (A : Enum
       unfolding enumCount
       name-new l {f} I c room = ⊎-elim (λ K. absurd (omega (arith, K .hit .below))) (λ M. M) (E .go f I c room)
 
-      pub enum-entered : {work″ : List ℕ} → a ≡ true → b ≡ true → count ≤ r → work″ ≡ store work′ k enumOffset count o → Enters enumNamed enumCount file work work″ k count o Done
+      pub enum-entered : {work₁ work₂ : List ℕ} → a ≡ true → b ≡ true → count ≤ r → work₁ ≡ store work′ k enumOffset count o → work₂ ≡ store work₁ k enumPlace count place → Enters enumNamed enumCount file work work₂ k count o place Done
       unfolding enumCount enumNamed isSome
-      enum-entered h g l e =
+      enum-entered h g l e₁ e₂ =
           record {
-            go = λ f I c room p s.
+            go = λ f I c room here p s.
                 let M = name-new l I c room in
                 record {
                   kept = all-rules p s h g (sym (ap isSome (lookup-unnamed f name (λ n m q. M .miss .none n (omega arith) q)))) ∙ broken-later 11 _ refl ∙ none-broken;
-                  indexed = rw (e, c) (indexed-enum I room (rw (c, name-is p s) at M) s);
+                  indexed = rw (e₂, e₁, c, here) (indexed-enum I room (rw (c, name-is p s) at M) s);
                 };
           }

@@ -1,4 +1,4 @@
--- An input is entered: its body is the number of its term, which is stored.
+-- An input is entered: its body is the number of its term, which is stored with its place.
 -- Assumes nothing.
 use mathlib.Core.Path.{_≡_, refl, sym, ap, _∙_, subst}
 use Prim.Native.Nat.{ℕ, suc, _≤_, _<_}
@@ -11,7 +11,7 @@ use Rattle.script_spec.specs.Tree.{Tm}
 use Rattle.script_spec.specs.Fields.{Entry, pure, ref, marks}
 use Rattle.script_spec.specs.Fields as fields
 use Rattle.script_spec.specs.File.{TermFile, input, terms, termAt, named, earlier, rules, broken}
-use Rattle.index.specs.Cells.{store, inputTerm}
+use Rattle.index.specs.Cells.{store, inputTerm, inputPlace}
 use Rattle.index.specs.First.{InRange}
 use Rattle.index.specs.Standing.{loose, markAt, bodyAt, entryOf, entryAt}
 use Rattle.index.specs.Meaning.{Stands}
@@ -59,15 +59,15 @@ number-read file o n e =
     let mark-is : markAt file o ≡ bytes "IN" = entry-mark (markAt file o) (bodyAt file o) e in
     input-number (bodyAt file o) n (ap (λ (s : Bytes). entryOf s (bodyAt file o)) (sym mark-is) ∙ e)
 
-pub input-entered : (file : Bytes) (work : List ℕ) (k count o : ℕ) {n : ℕ} {body : Bytes} {work′ : List ℕ} → body ≡ bodyAt file o → n ≡ numberAt body 0
-    → work′ ≡ store work k inputTerm count n → Enters input inputCount file work work′ k count o Done
+pub input-entered : (file : Bytes) (work : List ℕ) (k count o place : ℕ) {n : ℕ} {body : Bytes} {work₁ work₂ : List ℕ} → body ≡ bodyAt file o → n ≡ numberAt body 0
+    → work₁ ≡ store work k inputTerm count n → work₂ ≡ store work₁ k inputPlace count place → Enters input inputCount file work work₂ k count o place Done
 unfolding inputCount rules broken
-input-entered file work k count o {n} {body} {work′} hb hn e = record { go = λ f I c room t s. record { kept = refl; indexed = stored f I c room t s } }
+input-entered file work k count o place {n} {body} {work₁} {work₂} hb hn e₁ e₂ = record { go = λ f I c room p t s. record { kept = refl; indexed = stored f I c room p t s } }
   where
-    stored : (f : TermFile) → Indexed file f work k → count ≡ inputCount f → suc (length f) ≤ k → (t : Tm) → Stands file f (earlier f) o (input t) → Indexed file (f ++ (input t ∷ [])) work′ k
-    stored f I c room t s =
+    stored : (f : TermFile) → Indexed file f work k → count ≡ inputCount f → suc (length f) ≤ k → place ≡ length f → (t : Tm) → Stands file f (earlier f) o (input t) → Indexed file (f ++ (input t ∷ [])) work₂ k
+    stored f I c room p t s =
         let B = by-number f (s .entry) t (s .names) (s .in-range) in
         let n-is : n ≡ B .number = hn ∙ ap (λ (b : Bytes). numberAt b 0) hb ∙ number-read file o (B .number) (s .reads ∙ ap some (B .is)) in
-        let J = indexed-input I room (B .below) in
-        let K : Indexed file (f ++ (input t ∷ [])) (store work k inputTerm (inputCount f) (B .number)) k = subst (λ (u : Tm). Indexed file (f ++ (input u ∷ [])) (store work k inputTerm (inputCount f) (B .number)) k) (B .names) J in
-        rw (e, c, n-is) K
+        let row = store (store work k inputTerm (inputCount f) (B .number)) k inputPlace (inputCount f) (length f) in
+        let K : Indexed file (f ++ (input t ∷ [])) row k = subst (λ (u : Tm). Indexed file (f ++ (input u ∷ [])) row k) (B .names) (indexed-input I room (B .below)) in
+        rw (e₂, e₁, c, n-is, p) K

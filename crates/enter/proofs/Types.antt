@@ -12,7 +12,7 @@ use lib.ListN.{length}
 use Rattle.script_spec.specs.Base.{Bytes, ifSome, ascending}
 use Rattle.script_spec.specs.Tree.{Ty, node, nil, attributes}
 use Rattle.script_spec.specs.File.{TermFile, type, types, rules, broken}
-use Rattle.index.specs.Cells.{store, typeOffset, typeFirst, typeDepth}
+use Rattle.index.specs.Cells.{store, typeOffset, typeFirst, typeDepth, typePlace}
 use Rattle.index.specs.Rules.{greatest, limits, rulesBy}
 use Rattle.segments.proofs.Prints.{Octets}
 use Rattle.compare.specs.View.{viewed, numbers, segmentsAt}
@@ -27,10 +27,11 @@ use Rattle.enter.proofs.Parts.{TypeParts, type-parts, deepest, rules-by
 use Rattle.enter.proofs.FirstBroken.{broken-here, broken-later, none-broken}
 use Rattle.enter.specs.declared.Entered.the-variants.{Done, Broken}
 
-pub type-row-stored : (file : Bytes) (work : List ℕ) (k count o deep : ℕ) {first : ℕ} {work₀ work₁ work₂ work₃ : List ℕ} → Enrols file work work₀ k typeOffset typeFirst 0 count o first
-    → work₁ ≡ store work₀ k typeOffset count o → work₂ ≡ store work₁ k typeFirst count first → work₃ ≡ store work₂ k typeDepth count deep → StoresType file work work₃ k count o deep
+pub type-row-stored : (file : Bytes) (work : List ℕ) (k count o deep place : ℕ) {first : ℕ} {work₀ work₁ work₂ work₃ work₄ : List ℕ} → Enrols file work work₀ k typeOffset typeFirst 0 count o first
+    → work₁ ≡ store work₀ k typeOffset count o → work₂ ≡ store work₁ k typeFirst count first → work₃ ≡ store work₂ k typeDepth count deep → work₄ ≡ store work₃ k typePlace count place
+    → StoresType file work work₄ k count o deep place
 unfolding typeCount
-type-row-stored file work k count o deep E e e′ e″ = record { go = λ f I c room t s d. rw (e″, e′, e, c) (indexed-type I room (rw c at E) s d) }
+type-row-stored file work k count o deep place E e₁ e₂ e₃ e₄ = record { go = λ f I c room t s d p. rw (e₄, e₃, e₂, e₁, c, p) (indexed-type I room (rw c at E) s d) }
 
 -- ---- the rules
 
@@ -48,34 +49,34 @@ module _ {file : Bytes} {f : TermFile} {work : List ℕ} {k o : ℕ} {t : Ty} (I
 ascends-is : {file : Bytes} {o : ℕ} {b : Bool} → TypeAscends file o b → {f : TermFile} {t : Ty} (P : TypeParts file f o t) → ifSome ascending (attributes (node (P .m) nil)) ≡ b
 ascends-is A P = sym (A .go (P .m) (P .rs) (P .reads))
 
-module _ (file : Bytes) (work : List ℕ) (k count o : ℕ) {b : Bool} (A : TypeAscends file o b) where
-  pub type-unordered : b ≡ false → Enters type typeCount file work work k count o (Broken 9)
-  type-unordered h = record { go = λ f I c room t s. let P = type-parts s in record { rule = ap broken (type-rules I P) ∙ broken-here 9 _ (ascends-is A P ∙ h); unchanged = refl } }
+module _ (file : Bytes) (work : List ℕ) (k count o place : ℕ) {b : Bool} (A : TypeAscends file o b) where
+  pub type-unordered : b ≡ false → Enters type typeCount file work work k count o place (Broken 9)
+  type-unordered h = record { go = λ f I c room p t s. let P = type-parts s in record { rule = ap broken (type-rules I P) ∙ broken-here 9 _ (ascends-is A P ∙ h); unchanged = refl } }
 
-  pub type-many : b ≡ true → 60000 ≤ count → Enters type typeCount file work work k count o (Broken 13)
+  pub type-many : b ≡ true → 60000 ≤ count → Enters type typeCount file work work k count o place (Broken 13)
   unfolding typeCount
-  type-many h g = record { go = λ f I c room t s. let P = type-parts s in record { rule = ap broken (type-rules I P) ∙ broken-later 9 _ (ascends-is A P ∙ h) ∙ broken-here 13 _ (rw (← c, le-ltb count 60000 g)); unchanged = refl } }
+  type-many h g = record { go = λ f I c room p t s. let P = type-parts s in record { rule = ap broken (type-rules I P) ∙ broken-later 9 _ (ascends-is A P ∙ h) ∙ broken-here 13 _ (rw (← c, le-ltb count 60000 g)); unchanged = refl } }
 
   module _ {n : ℕ} (octets : Octets file) (is : n ≡ greatest (numbers 2 (map (viewed work k Depth) (segmentsAt file o)))) where
-    pub type-deep : b ≡ true → count < 60000 → 255 < n → Enters type typeCount file work work k count o (Broken 13)
+    pub type-deep : b ≡ true → count < 60000 → 255 < n → Enters type typeCount file work work k count o place (Broken 13)
     unfolding typeCount
     type-deep h g d =
         record {
-          go = λ f I c room t s.
+          go = λ f I c room p t s.
               let P = type-parts s in
               let q : n ≡ deepest work k typeDepth P = is ∙ deepest-is I P octets in
               record { rule = ap broken (type-rules I P) ∙ broken-later 9 _ (ascends-is A P ∙ h) ∙ broken-here 13 _ (rw (← c, lt-ltb count 60000 g, ← q, lt-leb (suc n) 256 (omega arith))); unchanged = refl };
         }
 
-    pub type-entered : {work′ : List ℕ} → b ≡ true → count < 60000 → n ≤ 255 → StoresType file work work′ k count o (n + 1) → Enters type typeCount file work work′ k count o Done
+    pub type-entered : {work′ : List ℕ} → b ≡ true → count < 60000 → n ≤ 255 → StoresType file work work′ k count o (n + 1) place → Enters type typeCount file work work′ k count o place Done
     unfolding typeCount
     type-entered h g d S =
         record {
-          go = λ f I c room t s.
+          go = λ f I c room p t s.
               let P = type-parts s in
               let q : n ≡ deepest work k typeDepth P = is ∙ deepest-is I P octets in
               record {
                 kept = ap broken (type-rules I P) ∙ broken-later 9 _ (ascends-is A P ∙ h) ∙ broken-later 13 _ (rw (← c, lt-ltb count 60000 g, ← q, le-leb (suc n) 256 (omega arith))) ∙ none-broken;
-                indexed = S .go f I c room t s (add-one n ∙ ap suc q ∙ type-depth I P);
+                indexed = S .go f I c room t s (add-one n ∙ ap suc q ∙ type-depth I P) p;
               };
         }

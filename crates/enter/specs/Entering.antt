@@ -35,10 +35,10 @@ abbrev pub Outcome : Bytes → TermFile → List ℕ → List ℕ → ℕ → Na
 Outcome file f work work′ k x Done = Keeps file f work′ k x
 Outcome file f work work′ k x (Broken n) = Breaks f work work′ x n
 
--- a record of one kind at an offset is entered after the records f, of which `count` are of that kind
-pub record Enters {A : Type 0} (wrap : A → Named) (counted : TermFile → ℕ) (file : Bytes) (work work′ : List ℕ) (k count o : ℕ) (r : Entered) : Type 0 where
-  pub go : (f : TermFile) → Indexed file f work k → count ≡ counted f → suc (length f) ≤ k → (a : A) → Stands file f (earlier f) o (wrap a) → Outcome file f work work′ k (wrap a) r
+-- a record of one kind at an offset is entered after the records f, of which there are `place`, among them `count` of that kind
+pub record Enters {A : Type 0} (wrap : A → Named) (counted : TermFile → ℕ) (file : Bytes) (work work′ : List ℕ) (k count o place : ℕ) (r : Entered) : Type 0 where
+  pub go : (f : TermFile) → Indexed file f work k → count ≡ counted f → suc (length f) ≤ k → place ≡ length f → (a : A) → Stands file f (earlier f) o (wrap a) → Outcome file f work work′ k (wrap a) r
 
--- the row of a type of this depth is stored
-pub record StoresType (file : Bytes) (work work′ : List ℕ) (k count o deep : ℕ) : Type 0 where
-  pub go : (f : TermFile) → Indexed file f work k → count ≡ typeCount f → suc (length f) ≤ k → (t : Ty) → Stands file f (earlier f) o (type t) → deep ≡ depth t → Indexed file (f ++ (type t ∷ [])) work′ k
+-- the row of a type of this depth and place is stored
+pub record StoresType (file : Bytes) (work work′ : List ℕ) (k count o deep place : ℕ) : Type 0 where
+  pub go : (f : TermFile) → Indexed file f work k → count ≡ typeCount f → suc (length f) ≤ k → (t : Ty) → Stands file f (earlier f) o (type t) → deep ≡ depth t → place ≡ length f → Indexed file (f ++ (type t ∷ [])) work′ k

@@ -4,9 +4,16 @@ use record_rules::members;
 ghost use Rattle.enter.specs.Entering.{Enters};
 ghost use Rattle.enter.specs.Enums.{enumNamed, enumCount};
 
-// Enters an enum, of which there are `count` before it.
-pub fn enter_enum(file: &[u8], work: &mut [u32], k: usize, count: u32, o: u32) -> Entered
-    ensures { λ r. ⌜ Enters enumNamed enumCount (now (file .entry)) (now (work .entry)) (now (work .exit)) k count o r ⌝ }
+// Enters the enum at an offset and a place, of which there are `count` before it.
+pub fn enter_enum(
+    file: &[u8],
+    work: &mut [u32],
+    k: usize,
+    count: u32,
+    o: u32,
+    place: u32,
+) -> Entered
+    ensures { λ r. ⌜ Enters enumNamed enumCount (now (file .entry)) (now (work .entry)) (now (work .exit)) k count o place r ⌝ }
 {
     if members::members_ascend(file, o as usize) {
         if members::members_given(file, o as usize) {
@@ -16,6 +23,7 @@ pub fn enter_enum(file: &[u8], work: &mut [u32], k: usize, count: u32, o: u32) -
                 return Entered::Broken(11);
             }
             index::set(work, k, index::ENUM_OFFSET, count as usize, o);
+            index::set(work, k, index::ENUM_PLACE, count as usize, place);
             return Entered::Done;
         }
         return Entered::Broken(10);

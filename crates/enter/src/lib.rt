@@ -12,9 +12,9 @@ pub enum Entered {
     Broken(u32),
 }
 
-// Enters a function, of which there are `count` before it.
-pub fn enter_fun(file: &[u8], work: &mut [u32], k: usize, count: u32, o: u32) -> Entered
-    ensures { λ r. ⌜ Enters func funCount (now (file .entry)) (now (work .entry)) (now (work .exit)) k count o r ⌝ }
+// Enters the function at an offset and a place, of which there are `count` before it.
+pub fn enter_fun(file: &[u8], work: &mut [u32], k: usize, count: u32, o: u32, place: u32) -> Entered
+    ensures { λ r. ⌜ Enters func funCount (now (file .entry)) (now (work .entry)) (now (work .exit)) k count o place r ⌝ }
 {
     let first = search::enrol(
         file,
@@ -28,12 +28,13 @@ pub fn enter_fun(file: &[u8], work: &mut [u32], k: usize, count: u32, o: u32) ->
     );
     index::set(work, k, index::FUN_OFFSET, count as usize, o);
     index::set(work, k, index::FUN_FIRST, count as usize, first);
+    index::set(work, k, index::FUN_PLACE, count as usize, place);
     Entered::Done
 }
 
-// Stores the row of a type.
-fn store_type(file: &[u8], work: &mut [u32], k: usize, count: u32, o: u32, depth: u32)
-    ensures { λ _. ⌜ StoresType (now (file .entry)) (now (work .entry)) (now (work .exit)) k count o depth ⌝ }
+// Stores the row of a type, with its depth and its place.
+fn store_type(file: &[u8], work: &mut [u32], k: usize, count: u32, o: u32, depth: u32, place: u32)
+    ensures { λ _. ⌜ StoresType (now (file .entry)) (now (work .entry)) (now (work .exit)) k count o depth place ⌝ }
 {
     let first = search::enrol(
         file,
@@ -48,11 +49,19 @@ fn store_type(file: &[u8], work: &mut [u32], k: usize, count: u32, o: u32, depth
     index::set(work, k, index::TYPE_OFFSET, count as usize, o);
     index::set(work, k, index::TYPE_FIRST, count as usize, first);
     index::set(work, k, index::TYPE_DEPTH, count as usize, depth);
+    index::set(work, k, index::TYPE_PLACE, count as usize, place);
 }
 
-// Enters a type, of which there are `count` before it.
-pub fn enter_type(file: &[u8], work: &mut [u32], k: usize, count: u32, o: u32) -> Entered
-    ensures { λ r. ⌜ Enters type typeCount (now (file .entry)) (now (work .entry)) (now (work .exit)) k count o r ⌝ }
+// Enters the type at an offset and a place, of which there are `count` before it.
+pub fn enter_type(
+    file: &[u8],
+    work: &mut [u32],
+    k: usize,
+    count: u32,
+    o: u32,
+    place: u32,
+) -> Entered
+    ensures { λ r. ⌜ Enters type typeCount (now (file .entry)) (now (work .entry)) (now (work .exit)) k count o place r ⌝ }
 {
     if record_rules::record::attributes_ascend(file, o as usize) {
         if 60000 <= count {
@@ -62,7 +71,7 @@ pub fn enter_type(file: &[u8], work: &mut [u32], k: usize, count: u32, o: u32) -
         if 255 < deepest {
             return Entered::Broken(13);
         }
-        store_type(file, work, k, count, o, deepest + 1);
+        store_type(file, work, k, count, o, deepest + 1, place);
         return Entered::Done;
     }
     Entered::Broken(9)

@@ -22,7 +22,7 @@ use Rattle.index.proofs.Growth.{lists-type, lists-func, lists-term, lis
 use Rattle.index.proofs.Later.{more-append, in-range-more, named-kept}
 use Rattle.index.proofs.Stores.{TypeStored, FunStored, TermStored, EnumStored, InputStored}
 use Rattle.index.proofs.Names.{Stays, names-none, names-same}
-use Rattle.index.proofs.Places.{place-last}
+use Rattle.index.proofs.Places.{place-type, place-func, place-term, place-enum, place-input}
 use Rattle.index.proofs.Rows.{listed-none, index-grown, depths-grown}
 
 -- a memory without lists is the index of no records
@@ -103,7 +103,7 @@ blank-counts : {ty fn ty′ fn′ : ℕ} {work : List ℕ} {k : ℕ} → ty′ �
 blank-counts p q B = rw (p, q) B
 
 module _ {file : Bytes} {f : TermFile} {work work′ : List ℕ} {k : ℕ} (I : Indexed file f work k) (room : suc (length f) ≤ k) where
-  pub indexed-type : {o m d : ℕ} {t : Ty} → TypeStored f k o m d work work′ → Stays (cell work k hash) (cell work′ k hash) → Stands file f (earlier f) o (type t) → m ≡ orElse (length (types f)) (place (eqTy t) (types f)) → d ≡ depth t
+  pub indexed-type : {o m d : ℕ} {t : Ty} → TypeStored f k o m d (length f) work work′ → Stays (cell work k hash) (cell work′ k hash) → Stands file f (earlier f) o (type t) → m ≡ orElse (length (types f)) (place (eqTy t) (types f)) → d ≡ depth t
       → Indexed file (f ++ (type t ∷ [])) work′ k
   unfolding OnlyTypes
   indexed-type {t} S stays s first-is depth-is =
@@ -113,7 +113,11 @@ module _ {file : Bytes} {f : TermFile} {work work′ : List ℕ} {k : ℕ} (I : 
       record {
         index =
             index-grown file f (type t) k (S .untouched) (I .index) room
-            (λ l. record { stands = rw (S .offset-is, A .name-added) (stands-types s _ (le-refl _) tt); first = S .first-is ∙ first-is ∙ sym (A .first-added) })
+            (λ l. record {
+              stands = rw (S .offset-is, A .name-added) (stands-types s _ (le-refl _) tt);
+              first = S .first-is ∙ first-is ∙ sym (A .first-added);
+              place-is = S .place-is ∙ sym (place-type f t);
+            })
             (λ l. absurd (omega (arith, ap length (L .funs-are))))
             (λ l. absurd (omega (arith, ap length (L .terms-are))))
             (λ l. absurd (omega (arith, ap length (L .enums-are))))
@@ -126,7 +130,7 @@ module _ {file : Bytes} {f : TermFile} {work work′ : List ℕ} {k : ℕ} (I : 
             B;
       }
 
-  pub indexed-func : {o m : ℕ} {g : Fun} → FunStored f k o m work work′ → Stays (cell work k hash) (cell work′ k hash) → Stands file f (earlier f) o (func g) → m ≡ orElse (length (funs f)) (place (eqFun g) (funs f))
+  pub indexed-func : {o m : ℕ} {g : Fun} → FunStored f k o m (length f) work work′ → Stays (cell work k hash) (cell work′ k hash) → Stands file f (earlier f) o (func g) → m ≡ orElse (length (funs f)) (place (eqFun g) (funs f))
       → Indexed file (f ++ (func g ∷ [])) work′ k
   unfolding OnlyTypes earlier
   indexed-func {g} S stays s first-is =
@@ -137,7 +141,11 @@ module _ {file : Bytes} {f : TermFile} {work work′ : List ℕ} {k : ℕ} (I : 
         index =
             index-grown file f (func g) k (S .untouched) (I .index) room
             (λ l. absurd (omega (arith, ap length (L .types-are))))
-            (λ l. record { stands = rw (S .offset-is, A .name-added) (stands-types s _ (more-append f (func g) .types-more) tt); first = S .first-is ∙ first-is ∙ sym (A .first-added) })
+            (λ l. record {
+              stands = rw (S .offset-is, A .name-added) (stands-types s _ (more-append f (func g) .types-more) tt);
+              first = S .first-is ∙ first-is ∙ sym (A .first-added);
+              place-is = S .place-is ∙ sym (place-func f g);
+            })
             (λ l. absurd (omega (arith, ap length (L .terms-are))))
             (λ l. absurd (omega (arith, ap length (L .enums-are))))
             (λ l. absurd (omega (arith, ap length (L .inputs-are))))
@@ -168,7 +176,7 @@ module _ {file : Bytes} {f : TermFile} {work work′ : List ℕ} {k : ℕ} (I : 
               type-below = rw (S .type-is) (omega (arith, more-append f (term t) .types-more));
               type-is = rw (S .type-is, A .name-added) (K .name-kept τ below ∙ type-is);
               type-first = rw (S .type-is) (K .first-kept τ below ∙ type-first);
-              place-is = S .place-is ∙ sym (place-last f t);
+              place-is = S .place-is ∙ sym (place-term f t);
             })
             (λ l. absurd (omega (arith, ap length (L .enums-are))))
             (λ l. absurd (omega (arith, ap length (L .inputs-are))))
@@ -180,7 +188,7 @@ module _ {file : Bytes} {f : TermFile} {work work′ : List ℕ} {k : ℕ} (I : 
             B;
       }
 
-  pub indexed-enum : {o : ℕ} {name : Bytes} {members : List Bytes} → EnumStored f k o work work′ → Names (f ++ (enum name members ∷ [])) work′ k → Stands file f (earlier f) o (enum name members) → Indexed file (f ++ (enum name members ∷ [])) work′ k
+  pub indexed-enum : {o : ℕ} {name : Bytes} {members : List Bytes} → EnumStored f k o (length f) work work′ → Names (f ++ (enum name members ∷ [])) work′ k → Stands file f (earlier f) o (enum name members) → Indexed file (f ++ (enum name members ∷ [])) work′ k
   indexed-enum {name} {members} S names s =
       let L = lists-enum f name members in
       let last : getD (enums (f ++ (enum name members ∷ []))) (length (enums f)) ([], []) ≡ (name, members) = rw (L .enums-are) (getD-append-seam (enums f) (name, members) [] ([], [])) in
@@ -191,7 +199,10 @@ module _ {file : Bytes} {f : TermFile} {work work′ : List ℕ} {k : ℕ} (I : 
             (λ l. absurd (omega (arith, ap length (L .types-are))))
             (λ l. absurd (omega (arith, ap length (L .funs-are))))
             (λ l. absurd (omega (arith, ap length (L .terms-are))))
-            (λ l. rw last record { stands = rw (S .offset-is) (s .reads ∙ ap some (enum-entry f (s .entry) name members (s .names))) })
+            (λ l. rw last record {
+              stands = rw (S .offset-is) (s .reads ∙ ap some (enum-entry f (s .entry) name members (s .names)));
+              place-is = S .place-is ∙ sym (place-enum f name members);
+            })
             (λ l. absurd (omega (arith, ap length (L .inputs-are))))
             names B;
         depths =
@@ -201,7 +212,7 @@ module _ {file : Bytes} {f : TermFile} {work work′ : List ℕ} {k : ℕ} (I : 
             B;
       }
 
-  pub indexed-input : {n : ℕ} → InputStored f k n work work′ → Stays (cell work k hash) (cell work′ k hash) → n < length (terms f) → Indexed file (f ++ (input (termAt f n) ∷ [])) work′ k
+  pub indexed-input : {n : ℕ} → InputStored f k n (length f) work work′ → Stays (cell work k hash) (cell work′ k hash) → n < length (terms f) → Indexed file (f ++ (input (termAt f n) ∷ [])) work′ k
   unfolding earlier inputAt
   indexed-input {n} S stays below =
       let t = termAt f n in
@@ -217,6 +228,7 @@ module _ {file : Bytes} {f : TermFile} {work work′ : List ℕ} {k : ℕ} (I : 
             (λ l. record {
               below = rw (S .term-is) (omega (arith, more-append f (input t) .terms-more));
               is = rw (S .term-is) (terms-kept f (input t) .name-kept n below ∙ sym (rw (L .inputs-are) (getD-append-seam (inputs f) t [] _)));
+              place-is = S .place-is ∙ sym (place-input f t);
             })
             (names-same stays (I .index .names) (L .enums-are)) B;
         depths =

@@ -141,7 +141,7 @@ module _ (f : TermFile) where
 -- ---- all numbers
 
 -- a record is at most one of each kind
-one-each : (r : Named)
+pub one-each : (r : Named)
     → (length (types (r ∷ [])) ≤ 1) × (length (funs (r ∷ [])) ≤ 1) × (length (terms (r ∷ [])) ≤ 1) × (length (enums (r ∷ [])) ≤ 1) × (length (inputs (r ∷ [])) ≤ 1)
 unfolding types funs terms enums inputs collect
 one-each (type t) = (omega arith, omega arith, omega arith, omega arith, omega arith)

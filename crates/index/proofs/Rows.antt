@@ -11,13 +11,13 @@ use Rattle.script_spec.specs.Base.{Bytes}
 use Rattle.script_spec.specs.Tree.{typeOf, depth}
 use Rattle.script_spec.specs.Fields.{Earlier}
 use Rattle.script_spec.specs.File.{TermFile, Named, types, funs, terms, inputs, enums, typeAt, termAt, earlier}
-use Rattle.index.specs.Cells.{cell, typeOffset, typeFirst, typeDepth, funOffset, funFirst, termOffset, termFirst, termType, termDepth, enumOffset, termPlace, inputTerm, listRow}
+use Rattle.index.specs.Cells.{cell, typeOffset, typeFirst, typeDepth, funOffset, funFirst, termOffset, termFirst, termType, termDepth, enumOffset, termPlace, typePlace, funPlace, enumPlace, inputPlace, inputTerm, listRow}
 use Rattle.index.specs.Names.{Names}
 use Rattle.index.specs.Lists.{Listed, Blank}
 use Rattle.index.specs.Meaning.{Stands, counted, inputAt, TypeRow, FunRow, TermRow, EnumRow, InputRow, Listings, Index, Depths}
 use Rattle.index.proofs.Growth.{counts-together, lists-append, types-kept, funs-kept, terms-kept, Grown, types-grown, funs-grown, terms-grown, enums-grown, inputs-grown, counts-fewer}
 use Rattle.index.proofs.Later.{More, more-append, in-range-more, named-kept}
-use Rattle.index.proofs.Places.{place-kept}
+use Rattle.index.proofs.Places.{types-kind, funs-kind, terms-kind, enums-kind, inputs-kind, place-kept}
 use Rattle.index.proofs.Stores.{used, Untouched}
 
 -- what holds of the old numbers, and of the new one where there is one, holds of all
@@ -61,6 +61,7 @@ module _ (file : Bytes) (f : TermFile) (r : Named) (k : ℕ) {work work′ : Lis
             rw (U .same typeOffset n l, types-kept f r .name-kept n l)
             (stands-kept (record { types-more = omega arith; funs-more = omega arith; terms-more = omega arith }) (record { types-more = le-refl _; funs-more = le-refl _; terms-more = le-refl _ }) (R .stands));
         first = U .same typeFirst n l ∙ R .first ∙ sym (types-kept f r .first-kept n l);
+        place-is = U .same typePlace n l ∙ R .place-is ∙ sym (place-kept types-kind f r n l);
       }
 
   fun-kept : (n : ℕ) → n < length (funs f) → FunRow file f work k n → FunRow file (f ++ (r ∷ [])) work′ k n
@@ -71,6 +72,7 @@ module _ (file : Bytes) (f : TermFile) (r : Named) (k : ℕ) {work work′ : Lis
             rw (U .same funOffset n l, funs-kept f r .name-kept n l)
             (stands-kept (record { types-more = le-refl _; funs-more = omega arith; terms-more = omega arith }) (record { types-more = more-append f r .types-more; funs-more = le-refl _; terms-more = le-refl _ }) (R .stands));
         first = U .same funFirst n l ∙ R .first ∙ sym (funs-kept f r .first-kept n l);
+        place-is = U .same funPlace n l ∙ R .place-is ∙ sym (place-kept funs-kind f r n l);
       }
 
   term-kept : (n : ℕ) → n < length (terms f) → TermRow file f work k n → TermRow file (f ++ (r ∷ [])) work′ k n
@@ -85,12 +87,12 @@ module _ (file : Bytes) (f : TermFile) (r : Named) (k : ℕ) {work work′ : Lis
         type-below = rw same (omega (arith, R .type-below, more-append f r .types-more));
         type-is = rw same (types-kept f r .name-kept _ (R .type-below) ∙ R .type-is ∙ ap typeOf (sym (terms-kept f r .name-kept n l)));
         type-first = rw same (types-kept f r .first-kept _ (R .type-below) ∙ R .type-first);
-        place-is = U .same termPlace n l ∙ R .place-is ∙ sym (place-kept f r n l);
+        place-is = U .same termPlace n l ∙ R .place-is ∙ sym (place-kept terms-kind f r n l);
       }
 
   enum-kept : (n : ℕ) → n < length (enums f) → (p q : Bytes × List Bytes) → q ≡ p → EnumRow file f work k n (p .0) (p .1) → EnumRow file (f ++ (r ∷ [])) work′ k n (q .0) (q .1)
   unfolding used
-  enum-kept n l p q e R = rw e record { stands = rw (U .same enumOffset n l) (R .stands) }
+  enum-kept n l p q e R = rw e record { stands = rw (U .same enumOffset n l) (R .stands); place-is = U .same enumPlace n l ∙ R .place-is ∙ sym (place-kept enums-kind f r n l) }
 
   input-kept : (n : ℕ) → n < length (inputs f) → InputRow file f work k n → InputRow file (f ++ (r ∷ [])) work′ k n
   unfolding used inputAt earlier
@@ -99,6 +101,7 @@ module _ (file : Bytes) (f : TermFile) (r : Named) (k : ℕ) {work work′ : Lis
       record {
         below = rw same (omega (arith, R .below, more-append f r .terms-more));
         is = rw same (terms-kept f r .name-kept _ (R .below) ∙ R .is ∙ sym (rw (lists-append f r .inputs-are) (List·getD-append (inputs f) (inputs (r ∷ [])) _ n l)));
+        place-is = U .same inputPlace n l ∙ R .place-is ∙ sym (place-kept inputs-kind f r n l);
       }
 
   -- ---- all rows

@@ -6,7 +6,7 @@ use native.Mathlib.Omega.{arith}
 use mathlib.Core.List.{List}
 use lib.ListN.{length}
 use Rattle.script_spec.specs.File.{TermFile, types, funs, terms, inputs, enums}
-use Rattle.index.specs.Cells.{placed, cell, store, typeOffset, typeFirst, typeDepth, funOffset, funFirst, termOffset, termFirst, termType, termDepth, enumOffset, hash, termPlace, inputTerm, enumList, typeList}
+use Rattle.index.specs.Cells.{placed, cell, store, typeOffset, typeFirst, typeDepth, funOffset, funFirst, termOffset, termFirst, termType, termDepth, enumOffset, hash, termPlace, typePlace, funPlace, enumPlace, inputPlace, inputTerm, enumList, typeList}
 use Rattle.index.specs.Lists.{Blank}
 unfoldable pub use Rattle.index.specs.Meaning.{used}
 use Rattle.index.proofs.Cells.{shared, Apart, length-store, cell-store-same, cell-store-apart}
@@ -82,19 +82,21 @@ blank-fun {fn = fn} {work} {k} B v =
 
 module _ (f : TermFile) (k : ℕ) where
   -- the row of a type is stored
-  pub record TypeStored (offset first depth : ℕ) (work work′ : List ℕ) : Type 0 where
+  pub record TypeStored (offset first depth place : ℕ) (work work′ : List ℕ) : Type 0 where
     pub untouched : Untouched f k work work′
     pub unlisted : Blank (length (types f)) (length (funs f)) work k → Blank (suc (length (types f))) (length (funs f)) work′ k
     pub offset-is : cell work′ k typeOffset (length (types f)) ≡ offset
     pub first-is : cell work′ k typeFirst (length (types f)) ≡ first
     pub depth-is : cell work′ k typeDepth (length (types f)) ≡ depth
+    pub place-is : cell work′ k typePlace (length (types f)) ≡ place
 
   -- the row of a function
-  pub record FunStored (offset first : ℕ) (work work′ : List ℕ) : Type 0 where
+  pub record FunStored (offset first place : ℕ) (work work′ : List ℕ) : Type 0 where
     pub untouched : Untouched f k work work′
     pub unlisted : Blank (length (types f)) (length (funs f)) work k → Blank (length (types f)) (suc (length (funs f))) work′ k
     pub offset-is : cell work′ k funOffset (length (funs f)) ≡ offset
     pub first-is : cell work′ k funFirst (length (funs f)) ≡ first
+    pub place-is : cell work′ k funPlace (length (funs f)) ≡ place
 
   -- the row of a term
   pub record TermStored (offset first type depth place : ℕ) (work work′ : List ℕ) : Type 0 where
@@ -107,16 +109,18 @@ module _ (f : TermFile) (k : ℕ) where
     pub place-is : cell work′ k termPlace (length (terms f)) ≡ place
 
   -- the row of an enum
-  pub record EnumStored (offset : ℕ) (work work′ : List ℕ) : Type 0 where
+  pub record EnumStored (offset place : ℕ) (work work′ : List ℕ) : Type 0 where
     pub untouched : Untouched f k work work′
     pub unlisted : Blank (length (types f)) (length (funs f)) work k → Blank (length (types f)) (length (funs f)) work′ k
     pub offset-is : cell work′ k enumOffset (length (enums f)) ≡ offset
+    pub place-is : cell work′ k enumPlace (length (enums f)) ≡ place
 
   -- the row of an input
-  pub record InputStored (term : ℕ) (work work′ : List ℕ) : Type 0 where
+  pub record InputStored (term place : ℕ) (work work′ : List ℕ) : Type 0 where
     pub untouched : Untouched f k work work′
     pub unlisted : Blank (length (types f)) (length (funs f)) work k → Blank (length (types f)) (length (funs f)) work′ k
     pub term-is : cell work′ k inputTerm (length (inputs f)) ≡ term
+    pub place-is : cell work′ k inputPlace (length (inputs f)) ≡ place
 
 module _ (f : TermFile) (k : ℕ) (work : List ℕ) (fits : 12 * k ≤ length work) (room : suc (length f) ≤ k) where
   -- what was stored stays under a store in another column of the row
@@ -127,35 +131,51 @@ module _ (f : TermFile) (k : ℕ) (work : List ℕ) (fits : 12 * k ≤ length wo
   stored : {work′ : List ℕ} → Untouched f k work work′ → (column n v : ℕ) → column < 24 → n < k → cell (store work′ k column n v) k column n ≡ v
   stored {work′} U column n v h l = cell-store-same work′ k column n v (record { fits = omega (arith, U .same-size); column-is = h; index-is = l })
 
-  pub type-stored : (offset first depth : ℕ) → TypeStored f k offset first depth work
-      (store (store (store work k typeOffset (length (types f)) offset) k typeFirst (length (types f)) first) k typeDepth (length (types f)) depth)
+  pub type-stored : (offset first depth place : ℕ) → TypeStored f k offset first depth place work
+      (store (store (store (store work k typeOffset (length (types f)) offset) k typeFirst (length (types f)) first) k typeDepth (length (types f)) depth) k typePlace (length (types f)) place)
   unfolding used shared placed
-  type-stored offset first depth =
+  type-stored offset first depth place =
       let few = counts-together f in
       let n = length (types f) in
       let a = untouched-store (untouched-refl f k work) typeOffset n offset (record { after = omega arith; before = omega arith }) in
       let b = untouched-store a typeFirst n first (record { after = omega arith; before = omega arith }) in
+      let c = untouched-store b typeDepth n depth (record { after = omega arith; before = omega arith }) in
       record {
-        untouched = untouched-store b typeDepth n depth (record { after = omega arith; before = omega arith });
-        unlisted = λ B. blank-store (blank-type (blank-store B typeOffset n offset (λ e. omega arith) (λ e. omega arith) (λ e. omega arith) (λ e. omega arith)) first) typeDepth n depth (λ e. omega arith) (λ e. omega arith) (λ e. omega arith) (λ e. omega arith);
+        untouched = untouched-store c typePlace n place (record { after = omega arith; before = omega arith });
+        unlisted = λ B.
+            let b1 = blank-store B typeOffset n offset (λ e. omega arith) (λ e. omega arith) (λ e. omega arith) (λ e. omega arith) in
+            let b2 = blank-type b1 first in
+            let b3 = blank-store b2 typeDepth n depth (λ e. omega arith) (λ e. omega arith) (λ e. omega arith) (λ e. omega arith) in
+            blank-store b3 typePlace n place (λ e. omega arith) (λ e. omega arith) (λ e. omega arith) (λ e. omega arith);
         offset-is =
-            under _ n typeDepth typeOffset depth (λ e. omega arith) (λ e. omega arith) ∙ under _ n typeFirst typeOffset first (λ e. omega arith) (λ e. omega arith)
-            ∙ stored (untouched-refl f k work) typeOffset n offset (omega arith) (omega arith);
-        first-is = under _ n typeDepth typeFirst depth (λ e. omega arith) (λ e. omega arith) ∙ stored a typeFirst n first (omega arith) (omega arith);
-        depth-is = stored b typeDepth n depth (omega arith) (omega arith);
+            under _ n typePlace typeOffset place (λ e. omega arith) (λ e. omega arith) ∙ under _ n typeDepth typeOffset depth (λ e. omega arith) (λ e. omega arith)
+            ∙ under _ n typeFirst typeOffset first (λ e. omega arith) (λ e. omega arith) ∙ stored (untouched-refl f k work) typeOffset n offset (omega arith) (omega arith);
+        first-is =
+            under _ n typePlace typeFirst place (λ e. omega arith) (λ e. omega arith) ∙ under _ n typeDepth typeFirst depth (λ e. omega arith) (λ e. omega arith)
+            ∙ stored a typeFirst n first (omega arith) (omega arith);
+        depth-is = under _ n typePlace typeDepth place (λ e. omega arith) (λ e. omega arith) ∙ stored b typeDepth n depth (omega arith) (omega arith);
+        place-is = stored c typePlace n place (omega arith) (omega arith);
       }
 
-  pub fun-stored : (offset first : ℕ) → FunStored f k offset first work (store (store work k funOffset (length (funs f)) offset) k funFirst (length (funs f)) first)
+  pub fun-stored : (offset first place : ℕ) → FunStored f k offset first place work
+      (store (store (store work k funOffset (length (funs f)) offset) k funFirst (length (funs f)) first) k funPlace (length (funs f)) place)
   unfolding used shared placed
-  fun-stored offset first =
+  fun-stored offset first place =
       let few = counts-together f in
       let n = length (funs f) in
       let a = untouched-store (untouched-refl f k work) funOffset n offset (record { after = omega arith; before = omega arith }) in
+      let b = untouched-store a funFirst n first (record { after = omega arith; before = omega arith }) in
       record {
-        untouched = untouched-store a funFirst n first (record { after = omega arith; before = omega arith });
-        unlisted = λ B. blank-fun (blank-store B funOffset n offset (λ e. omega arith) (λ e. omega arith) (λ e. omega arith) (λ e. omega arith)) first;
-        offset-is = under _ n funFirst funOffset first (λ e. omega arith) (λ e. omega arith) ∙ stored (untouched-refl f k work) funOffset n offset (omega arith) (omega arith);
-        first-is = stored a funFirst n first (omega arith) (omega arith);
+        untouched = untouched-store b funPlace n place (record { after = omega arith; before = omega arith });
+        unlisted = λ B.
+            let b1 = blank-store B funOffset n offset (λ e. omega arith) (λ e. omega arith) (λ e. omega arith) (λ e. omega arith) in
+            let b2 = blank-fun b1 first in
+            blank-store b2 funPlace n place (λ e. omega arith) (λ e. omega arith) (λ e. omega arith) (λ e. omega arith);
+        offset-is =
+            under _ n funPlace funOffset place (λ e. omega arith) (λ e. omega arith) ∙ under _ n funFirst funOffset first (λ e. omega arith) (λ e. omega arith)
+            ∙ stored (untouched-refl f k work) funOffset n offset (omega arith) (omega arith);
+        first-is = under _ n funPlace funFirst place (λ e. omega arith) (λ e. omega arith) ∙ stored a funFirst n first (omega arith) (omega arith);
+        place-is = stored b funPlace n place (omega arith) (omega arith);
       }
 
   pub term-stored : (offset first type depth place : ℕ) → TermStored f k offset first type depth place work
@@ -191,24 +211,34 @@ module _ (f : TermFile) (k : ℕ) (work : List ℕ) (fits : 12 * k ≤ length wo
         place-is = stored d termPlace n place (omega arith) (omega arith);
       }
 
-  pub enum-stored : (offset : ℕ) → EnumStored f k offset work (store work k enumOffset (length (enums f)) offset)
+  pub enum-stored : (offset place : ℕ) → EnumStored f k offset place work
+      (store (store work k enumOffset (length (enums f)) offset) k enumPlace (length (enums f)) place)
   unfolding used shared placed
-  enum-stored offset =
+  enum-stored offset place =
       let few = counts-together f in
       let n = length (enums f) in
+      let a = untouched-store (untouched-refl f k work) enumOffset n offset (record { after = omega arith; before = omega arith }) in
       record {
-        untouched = untouched-store (untouched-refl f k work) enumOffset n offset (record { after = omega arith; before = omega arith });
-        unlisted = λ B. blank-store B enumOffset n offset (λ e. omega arith) (λ e. omega arith) (λ e. omega arith) (λ e. omega arith);
-        offset-is = stored (untouched-refl f k work) enumOffset n offset (omega arith) (omega arith);
+        untouched = untouched-store a enumPlace n place (record { after = omega arith; before = omega arith });
+        unlisted = λ B.
+            let b1 = blank-store B enumOffset n offset (λ e. omega arith) (λ e. omega arith) (λ e. omega arith) (λ e. omega arith) in
+            blank-store b1 enumPlace n place (λ e. omega arith) (λ e. omega arith) (λ e. omega arith) (λ e. omega arith);
+        offset-is = under _ n enumPlace enumOffset place (λ e. omega arith) (λ e. omega arith) ∙ stored (untouched-refl f k work) enumOffset n offset (omega arith) (omega arith);
+        place-is = stored a enumPlace n place (omega arith) (omega arith);
       }
 
-  pub input-stored : (term : ℕ) → InputStored f k term work (store work k inputTerm (length (inputs f)) term)
+  pub input-stored : (term place : ℕ) → InputStored f k term place work
+      (store (store work k inputTerm (length (inputs f)) term) k inputPlace (length (inputs f)) place)
   unfolding used shared placed
-  input-stored term =
+  input-stored term place =
       let few = counts-together f in
       let n = length (inputs f) in
+      let a = untouched-store (untouched-refl f k work) inputTerm n term (record { after = omega arith; before = omega arith }) in
       record {
-        untouched = untouched-store (untouched-refl f k work) inputTerm n term (record { after = omega arith; before = omega arith });
-        unlisted = λ B. blank-store B inputTerm n term (λ e. omega arith) (λ e. omega arith) (λ e. omega arith) (λ e. omega arith);
-        term-is = stored (untouched-refl f k work) inputTerm n term (omega arith) (omega arith);
+        untouched = untouched-store a inputPlace n place (record { after = omega arith; before = omega arith });
+        unlisted = λ B.
+            let b1 = blank-store B inputTerm n term (λ e. omega arith) (λ e. omega arith) (λ e. omega arith) (λ e. omega arith) in
+            blank-store b1 inputPlace n place (λ e. omega arith) (λ e. omega arith) (λ e. omega arith) (λ e. omega arith);
+        term-is = under _ n inputPlace inputTerm place (λ e. omega arith) (λ e. omega arith) ∙ stored (untouched-refl f k work) inputTerm n term (omega arith) (omega arith);
+        place-is = stored a inputPlace n place (omega arith) (omega arith);
       }

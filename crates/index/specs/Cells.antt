@@ -54,8 +54,8 @@ funOffset = 3
 abbrev pub funFirst : ℕ
 funFirst = 4
 
-abbrev pub funName : ℕ
-funName = 5
+abbrev pub funPlace : ℕ
+funPlace = 5
 
 abbrev pub termOffset : ℕ
 termOffset = 6
@@ -78,6 +78,22 @@ hash = 11
 -- at the end of the offsets of types
 abbrev pub termPlace : ℕ
 termPlace = 12
+
+-- at the end of the offsets of functions
+abbrev pub typePlace : ℕ
+typePlace = 15
+
+-- at the end of the places of functions
+abbrev pub enumPlace : ℕ
+enumPlace = 17
+
+-- at the end of the offsets of terms
+abbrev pub inputPlace : ℕ
+inputPlace = 18
+
+-- at the end of the depths of types
+abbrev pub funName : ℕ
+funName = 14
 
 -- at the end of the offsets of enums
 abbrev pub inputTerm : ℕ

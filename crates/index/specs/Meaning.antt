@@ -3,16 +3,16 @@
 -- Assumes nothing.
 use mathlib.Core.Path.{_≡_}
 use Prim.Native.Nat.{ℕ, zero, suc, _<_, _≤_, _*_}
-use mathlib.Core.Bool.{true}
+use mathlib.Core.Bool.{Bool, true, false}
 use mathlib.Core.List.{List, [], _∷_}
 use mathlib.Core.Option.{some}
 use lib.ListN.{length, getD}
-use Rattle.script_spec.specs.Base.{Bytes}
+use Rattle.script_spec.specs.Base.{Bytes, empty}
 use Rattle.script_spec.specs.Tree.{Tm, typeOf, depth, node, nil, Some, attributes}
 use Rattle.script_spec.specs.Fields.{Entry, Earlier}
 use Rattle.script_spec.specs.Fields as fields
-use Rattle.script_spec.specs.File.{TermFile, Named, type, enum, func, term, input, types, funs, terms, inputs, enums, typeAt, funAt, termAt, named}
-use Rattle.index.specs.Cells.{cell, typeOffset, typeFirst, typeDepth, funOffset, funFirst, termOffset, termFirst, termType, termDepth, enumOffset, termPlace, inputTerm, enumList, typeList}
+use Rattle.script_spec.specs.File.{TermFile, Named, type, func, term, types, funs, terms, inputs, enums, typeAt, funAt, termAt, named}
+use Rattle.index.specs.Cells.{cell, typeOffset, typeFirst, typeDepth, funOffset, funFirst, termOffset, termFirst, termType, termDepth, enumOffset, termPlace, typePlace, funPlace, enumPlace, inputPlace, inputTerm, enumList, typeList}
 use Rattle.index.specs.First.{firstType, firstFun, firstTerm, InRange}
 use Rattle.index.specs.Standing.{entryAt}
 use Rattle.index.specs.Names.{Names}
@@ -24,7 +24,9 @@ used f column =
     let ty = length (types f) in
     let fn = length (funs f) in
     let tm = length (terms f) in
-    getD (ty ∷ ty ∷ ty ∷ fn ∷ fn ∷ fn ∷ tm ∷ tm ∷ tm ∷ tm ∷ length (enums f) ∷ 0 ∷ tm ∷ 0 ∷ 0 ∷ 0 ∷ 0 ∷ 0 ∷ 0 ∷ 0 ∷ 0 ∷ 0 ∷ length (inputs f) ∷ []) column 0
+    let en = length (enums f) in
+    let ip = length (inputs f) in
+    getD (ty ∷ ty ∷ ty ∷ fn ∷ fn ∷ fn ∷ tm ∷ tm ∷ tm ∷ tm ∷ en ∷ 0 ∷ tm ∷ 0 ∷ 0 ∷ ty ∷ 0 ∷ en ∷ ip ∷ 0 ∷ 0 ∷ 0 ∷ ip ∷ []) column 0
 
 -- the record at an offset of the file names r among the records f, and refers only to records that e counts
 pub record Stands (file : Bytes) (f : TermFile) (e : Earlier) (offset : ℕ) (r : Named) : Type 0 where
@@ -37,19 +39,16 @@ pub record Stands (file : Bytes) (f : TermFile) (e : Earlier) (offset : ℕ) (r 
 unfoldable pub counted : ℕ → ℕ → ℕ → Earlier
 counted ty fn tm = record { types = ty; funs = fn; terms = tm; isEntity = λ n. true }
 
--- the place of the term with number n, where a record comes before the others
-unfoldable pub placeAfter : Named → (ℕ → ℕ) → ℕ → ℕ
-placeAfter (type t) rest n = suc (rest n)
-placeAfter (enum name members) rest n = suc (rest n)
-placeAfter (func g) rest n = suc (rest n)
-placeAfter (term t) rest zero = zero
-placeAfter (term t) rest (suc n) = suc (rest n)
-placeAfter (input t) rest n = suc (rest n)
+-- the place of the record with number n of a kind, where one record comes before the others: one of another kind, or else of this one
+unfoldable pub placeAfter : Bool → (ℕ → ℕ) → ℕ → ℕ
+placeAfter true rest n = suc (rest n)
+placeAfter false rest zero = zero
+placeAfter false rest (suc n) = suc (rest n)
 
--- the place of the term with number n among the records of a file
-unfoldable pub termPlaceOf : TermFile → ℕ → ℕ
-termPlaceOf [] n = zero
-termPlaceOf (r ∷ f) n = placeAfter r (λ m. termPlaceOf f m) n
+-- the place of the record with number n of a kind, of `types`, `funs`, `terms`, `enums` or `inputs`, among the records of a file
+unfoldable pub recordPlace : {A : Type 0} → (TermFile → List A) → TermFile → ℕ → ℕ
+recordPlace kind [] n = zero
+recordPlace kind (r ∷ f) n = placeAfter (empty (kind (r ∷ []))) (λ m. recordPlace kind f m) n
 
 -- the term of the input with number n; the default is for numbers that no input has
 unfoldable pub inputAt : TermFile → ℕ → Tm
@@ -67,11 +66,13 @@ module _ (file : Bytes) (f : TermFile) (work : List ℕ) (k : ℕ) where
   pub record TypeRow (n : ℕ) : Type 0 where
     pub stands : Stands file f (counted n 0 0) (cell work k typeOffset n) (type (typeAt f n))
     pub first : cell work k typeFirst n ≡ firstType f n
+    pub place-is : cell work k typePlace n ≡ recordPlace types f n
 
   -- the row of a function, which refers to types
   pub record FunRow (n : ℕ) : Type 0 where
     pub stands : Stands file f (counted (length (types f)) 0 0) (cell work k funOffset n) (func (funAt f n))
     pub first : cell work k funFirst n ≡ firstFun f n
+    pub place-is : cell work k funPlace n ≡ recordPlace funs f n
 
   -- the row of a term, which refers to types, functions and terms of lower numbers; its type by the first equal record
   pub record TermRow (n : ℕ) : Type 0 where
@@ -80,16 +81,18 @@ module _ (file : Bytes) (f : TermFile) (work : List ℕ) (k : ℕ) where
     pub type-below : cell work k termType n < length (types f)
     pub type-is : typeAt f (cell work k termType n) ≡ typeOf (termAt f n)
     pub type-first : firstType f (cell work k termType n) ≡ cell work k termType n
-    pub place-is : cell work k termPlace n ≡ termPlaceOf f n
+    pub place-is : cell work k termPlace n ≡ recordPlace terms f n
 
   -- the row of an enum
   pub record EnumRow (n : ℕ) (name : Bytes) (members : List Bytes) : Type 0 where
     pub stands : entryAt file (cell work k enumOffset n) ≡ some (fields.enum name members)
+    pub place-is : cell work k enumPlace n ≡ recordPlace enums f n
 
   -- the row of an input, which has the number of its term
   pub record InputRow (n : ℕ) : Type 0 where
     pub below : cell work k inputTerm n < length (terms f)
     pub is : termAt f (cell work k inputTerm n) ≡ inputAt f n
+    pub place-is : cell work k inputPlace n ≡ recordPlace inputs f n
 
   -- the lists of the attributes of record types, and of the members of enums, where they are made
   pub record Listings : Type 0 where

@@ -18,7 +18,7 @@ pub const FUN_OFFSET: usize = 3;
 
 pub const FUN_FIRST: usize = 4;
 
-pub const FUN_NAME: usize = 5;
+pub const FUN_PLACE: usize = 5;
 
 pub const TERM_OFFSET: usize = 6;
 
@@ -32,8 +32,20 @@ pub const ENUM_OFFSET: usize = 10;
 
 pub const HASH: usize = 11;
 
-// The places of the terms, counted in records, at the end of the offsets of the types.
+// The places of the records, counted in records: of the terms at the end of the offsets of the types, of the types at the end of the
+// offsets of the functions, of the enums at the end of the places of the functions, and of the inputs at the end of the offsets of the
+// terms.
 pub const TERM_PLACE: usize = 12;
+
+pub const TYPE_PLACE: usize = 15;
+
+pub const ENUM_PLACE: usize = 17;
+
+pub const INPUT_PLACE: usize = 18;
+
+// The names of the functions, at the end of the depths of the types, which give way to the names of the types: a column of names is
+// cleared whole, and has nothing else at its end.
+pub const FUN_NAME: usize = 14;
 
 // The terms of the inputs, at the end of the offsets of the enums.
 pub const INPUT_TERM: usize = 22;

@@ -2,13 +2,13 @@
 -- other tables and the index.
 -- Assumes nothing.
 use mathlib.Core.Path.{_≡_, refl, sym, ap, _∙_}
-use mathlib.Core.Bool.{Bool, true, false, _||_}
+use mathlib.Core.Bool.{Bool, true, false}
 use mathlib.Core.List.{List, [], _∷_, _++_}
 use Prim.Native.Nat.{ℕ, zero, suc, _+_, _-_, _*_, _≤_, _<_}
 use native.Mathlib.Numerals.{add-one}
-use native.Mathlib.Decide.{decLt}
+use native.Mathlib.Decide.{ℕ-discrete}
 use native.Mathlib.Omega.{arith}
-use borrow.Author.Tests.{ne-eqb, lt-ltb}
+use borrow.Author.Tests.{ne-eqb}
 use lib.ListN.{length}
 use Rattle.script_spec.specs.Base.{Bytes, bytes, place}
 use Rattle.script_spec.specs.Tree.{eqTy}
@@ -21,7 +21,8 @@ use Rattle.index.specs.First.{firstType, firstFun, firstTerm}
 use Rattle.index.specs.Standing.{bodyAt}
 use Rattle.index.specs.Meaning.{Index}
 use Rattle.index.proofs.Names.{names-same}
-use Rattle.index.proofs.Cells.{shared, length-store, cell-store-same, cell-store-apart, cell-store-other}
+use Rattle.index.proofs.Cells.{shared, Apart, length-store, cell-store-same, cell-store-apart}
+use Rattle.index.proofs.Growth.{counts-together}
 use Rattle.index.proofs.Rows.{listed-same, types-fit, funs-fit, terms-fit}
 use Rattle.index.proofs.Firsts.{FirstEqual, Equality, first-below, first-types, first-funs, first-terms, equal-types, equal-funs, equal-terms}
 use Rattle.naming.specs.Naming.{typeName, funName, termName, isName, hasNames, nameAt, placeOf, Table, Numbers, Kept}
@@ -39,32 +40,26 @@ kept-trans p q = record { size = q .size ∙ p .size; others = λ column i h. q 
 not-both : (b : Bool) → b ≡ true → b ≡ false → ⊥
 not-both b p q = let z : _≡_ {A = Bool} true false = sym p ∙ q in absurd (let o : _≡_ {A = ℕ} 0 1 = cc in omega arith)
 
--- the columns of names are counted from their starts
-name-start : (column : ℕ) → isName column ≡ true → column < 12
-unfolding isName
-name-start column h = go (decLt column 12)
+-- a column of names has names, and so has the one that it shares with
+names-both : (column : ℕ) → isName column ≡ true → (hasNames column ≡ true) × (hasNames (shared column) ≡ true)
+unfolding isName hasNames shared placed
+names-both column h = go (ℕ-discrete column typeName) (ℕ-discrete column funName) (ℕ-discrete column termName)
   where
-    go : Dec (column < 12) → column < 12
-    go (yes l) = l
-    go (no n) = absurd (not-both (isName column) h (rw (ne-eqb column typeName (omega arith), ne-eqb column funName (omega arith), ne-eqb column termName (omega arith))))
-
--- where a column has no names, neither it nor the one 12 below is a column of names
-no-names : (a b : Bool) → (a || b) ≡ false → (a ≡ false) × (b ≡ false)
-no-names true b h = absurd (not-both true refl h)
-no-names false b h = (refl, h)
+    go : Dec (column ≡ typeName) → Dec (column ≡ funName) → Dec (column ≡ termName) → (hasNames column ≡ true) × (hasNames (shared column) ≡ true)
+    go (yes e) b c = rw e (refl, refl)
+    go (no a) (yes e) c = rw e (refl, refl)
+    go (no a) (no b) (yes e) = rw e (refl, refl)
+    go (no a) (no b) (no c) = absurd (not-both (isName column) h (rw (ne-eqb column typeName a, ne-eqb column funName b, ne-eqb column termName c)))
 
 pub kept-store : (work : List ℕ) (k column i v : ℕ) → isName column ≡ true → Kept work (store work k column i v) k
-unfolding hasNames shared placed
 kept-store work k column i v h =
+    let both = names-both column h in
     record {
       size = length-store work k column i v;
       others = λ column′ i′ n.
-          let N = no-names (isName column′) (isName (column′ - 12)) n in
-          cell-store-apart work k column i v column′ i′ (record { other = λ e _. not-both (isName column) h (ap isName e ∙ N .0); facing = λ e _. not-both (isName column) h (ap isName (above column′ e) ∙ N .1) });
+          cell-store-apart work k column i v column′ i′
+          (record { other = λ e _. not-both (hasNames column′) (ap hasNames (sym e) ∙ both .0) n; facing = λ e _. not-both (hasNames column′) (ap hasNames (sym e) ∙ both .1) n });
     }
-  where
-    above : (column′ : ℕ) → shared column ≡ column′ → column ≡ column′ - 12
-    above column′ e = let l = name-start column h in let s : shared column ≡ column + 12 = rw (lt-ltb column 12 l) in omega arith
 
 module _ {file : Bytes} {f : TermFile} {work work′ : List ℕ} {k : ℕ} (K : Kept work work′ k) where
   -- the index speaks of no name
@@ -73,8 +68,8 @@ module _ {file : Bytes} {f : TermFile} {work work′ : List ℕ} {k : ℕ} (K : 
   index-kept I =
       record {
         fits = rw (K .size) (I .fits);
-        type-row = λ n l. let r = I .type-row n l in record { stands = rw (K .others 0 n refl) (r .stands); first = K .others 1 n refl ∙ r .first };
-        fun-row = λ n l. let r = I .fun-row n l in record { stands = rw (K .others 3 n refl) (r .stands); first = K .others 4 n refl ∙ r .first };
+        type-row = λ n l. let r = I .type-row n l in record { stands = rw (K .others 0 n refl) (r .stands); first = K .others 1 n refl ∙ r .first; place-is = K .others 15 n refl ∙ r .place-is };
+        fun-row = λ n l. let r = I .fun-row n l in record { stands = rw (K .others 3 n refl) (r .stands); first = K .others 4 n refl ∙ r .first; place-is = K .others 5 n refl ∙ r .place-is };
         term-row = λ n l. let r = I .term-row n l in
             record {
               stands = rw (K .others 6 n refl) (r .stands);
@@ -84,8 +79,8 @@ module _ {file : Bytes} {f : TermFile} {work work′ : List ℕ} {k : ℕ} (K : 
               type-first = rw (K .others 8 n refl) (r .type-first);
               place-is = K .others 12 n refl ∙ r .place-is;
             };
-        enum-row = λ n l. record { stands = rw (K .others 10 n refl) (I .enum-row n l .stands) };
-        input-row = λ n l. record { below = rw (K .others 22 n refl) (I .input-row n l .below); is = rw (K .others 22 n refl) (I .input-row n l .is) };
+        enum-row = λ n l. let r = I .enum-row n l in record { stands = rw (K .others 10 n refl) (r .stands); place-is = K .others 17 n refl ∙ r .place-is };
+        input-row = λ n l. let r = I .input-row n l in record { below = rw (K .others 22 n refl) (r .below); is = rw (K .others 22 n refl) (r .is); place-is = K .others 18 n refl ∙ r .place-is };
         fit = I .fit;
         names = names-same (record { same = λ i h. K .others 11 i refl }) (I .names) refl;
         listed =
@@ -101,22 +96,20 @@ module _ {file : Bytes} {f : TermFile} {work work′ : List ℕ} {k : ℕ} (K : 
 
 -- ---- a store
 
-module _ {A : Type 0} {eq : A → A → Bool} {count : ℕ} {name : ℕ → A} {first : ℕ → ℕ} (E : Equality eq) (F : FirstEqual count name first) where
+module _ {A : Type 0} {eq : A → A → Bool} {count : ℕ} {name : ℕ → A} {first : ℕ → ℕ} (F : FirstEqual count name first) where
   -- the record n is entered, and one more than the table's length is stored at the number of its first equal record
-  table-stored : (work : List ℕ) (k column : ℕ) {table : List A} → 12 * k ≤ length work → column < 12 → count ≤ k → (n v : ℕ) → n < count
-      → Table eq count name first k (cell work k column) table → cell work k column (first n) ≡ 0 → v ≡ length table + 1
-      → Table eq count name first k (cell (store work k column (first n) v) k column) (table ++ (name n ∷ []))
-  table-stored work k column {table} fits c le n v l t z e =
-      let inside : first n < k = omega (arith, first-below F n l) in
-      table-enter E F (cell (store work k column (first n) v) k column) n l inside t z
-      (cell-store-same work k column (first n) v (record { fits = fits; column-is = omega arith; index-is = inside }) ∙ e ∙ add-one (length table))
-      (λ j h. cell-store-other work k column (first n) v column j c c (λ _ q. h (sym q)))
+  table-stored : (E : Equality eq) (work : List ℕ) (k column : ℕ) {table : List A} → 12 * k ≤ length work → column < 24 → (shared column ≡ column → ⊥) → count ≤ k → (n v : ℕ) → n < count
+      → Table eq count name first (cell work k column) table → cell work k column (first n) ≡ 0 → v ≡ length table + 1
+      → Table eq count name first (cell (store work k column (first n) v) k column) (table ++ (name n ∷ []))
+  table-stored E work k column {table} fits c own le n v l t z e =
+      table-enter E F (cell (store work k column (first n) v) k column) n l t z
+      (cell-store-same work k column (first n) v (record { fits = fits; column-is = c; index-is = omega (arith, first-below F n l) }) ∙ e ∙ add-one (length table))
+      (λ j h. cell-store-apart work k column (first n) v column j (record { other = λ _ q. h (sym q); facing = λ q _. own q }))
 
--- a store in another column
-table-beside : {A : Type 0} {eq : A → A → Bool} {count : ℕ} {name : ℕ → A} {first : ℕ → ℕ} (work : List ℕ) (k column column′ i v : ℕ) {table : List A} → column < 12 → column′ < 12 → (column′ ≡ column → ⊥)
-    → Table eq count name first k (cell work k column) table → Table eq count name first k (cell (store work k column′ i v) k column) table
-table-beside work k column column′ i v c c′ h t =
-    table-same (cell (store work k column′ i v) k column) (λ j. cell-store-other work k column′ i v column j c′ c (λ e _. h e)) t
+  -- a store of what is no entry of the table
+  table-beside : (work : List ℕ) (k column column′ i v : ℕ) {table : List A} → ((j : ℕ) → j < count → Apart k column′ i column j)
+      → Table eq count name first (cell work k column) table → Table eq count name first (cell (store work k column′ i v) k column) table
+  table-beside work k column column′ i v apart t = table-same F (cell (store work k column′ i v) k column) (λ j l. cell-store-apart work k column′ i v column j (apart j l)) t
 
 -- ---- the tables of a state
 
@@ -124,7 +117,7 @@ table-beside work k column column′ i v c c′ h t =
 pub numbers-start : (f : TermFile) (work : List ℕ) (k : ℕ)
     → ((i : ℕ) → cell work k typeName i ≡ 0) → ((i : ℕ) → cell work k funName i ≡ 0) → ((i : ℕ) → cell work k termName i ≡ 0) → Numbers f work k start
 unfolding start
-numbers-start f work k ty fn tm = record { type-table = table-start k _ ty; fun-table = table-start k _ fn; term-table = table-start k _ tm }
+numbers-start f work k ty fn tm = record { type-table = table-start _ ty; fun-table = table-start _ fn; term-table = table-start _ tm }
 
 -- commands are in no table
 pub numbers-write : {f : TermFile} {work : List ℕ} {k : ℕ} {S : State} (cs : List Command) → Numbers f work k S → Numbers f work k (write cs S)
@@ -134,32 +127,38 @@ numbers-write cs N = record { type-table = N .type-table; fun-table = N .fun-tab
 module _ {file : Bytes} {f : TermFile} {work : List ℕ} {k : ℕ} {S : State} (I : Index file f work k) (N : Numbers f work k S) (n v : ℕ) where
   pub numbers-type : n < length (types f) → cell work k typeName (firstType f n) ≡ 0 → v ≡ length (S .types) + 1
       → Numbers f (store work k typeName (firstType f n) v) k (enterType (typeAt f n) S)
-  unfolding enterType
+  unfolding enterType shared placed
   numbers-type l z e =
+      let few = counts-together f in
+      let fit = I .fit in
+      let below = first-below (first-types f) n l in
       record {
-        type-table = table-stored equal-types (first-types f) work k typeName (I .fits) (omega arith) (types-fit I) n v l (N .type-table) z e;
-        fun-table = table-beside work k funName typeName (firstType f n) v (omega arith) (omega arith) (omega arith) (N .fun-table);
-        term-table = table-beside work k termName typeName (firstType f n) v (omega arith) (omega arith) (omega arith) (N .term-table);
+        type-table = table-stored (first-types f) equal-types work k typeName (I .fits) (omega arith) (λ q. omega arith) (types-fit I) n v l (N .type-table) z e;
+        fun-table = table-beside (first-funs f) work k funName typeName (firstType f n) v (λ j h. record { other = λ e q. omega arith; facing = λ e q. omega arith }) (N .fun-table);
+        term-table = table-beside (first-terms f) work k termName typeName (firstType f n) v (λ j h. record { other = λ e q. omega arith; facing = λ e q. omega arith }) (N .term-table);
       }
 
   pub numbers-fun : n < length (funs f) → cell work k funName (firstFun f n) ≡ 0 → v ≡ length (S .funs) + 1
       → Numbers f (store work k funName (firstFun f n) v) k (enterFun (funAt f n) S)
-  unfolding enterFun
+  unfolding enterFun shared placed
   numbers-fun l z e =
+      let few = counts-together f in
+      let fit = I .fit in
+      let below = first-below (first-funs f) n l in
       record {
-        type-table = table-beside work k typeName funName (firstFun f n) v (omega arith) (omega arith) (omega arith) (N .type-table);
-        fun-table = table-stored equal-funs (first-funs f) work k funName (I .fits) (omega arith) (funs-fit I) n v l (N .fun-table) z e;
-        term-table = table-beside work k termName funName (firstFun f n) v (omega arith) (omega arith) (omega arith) (N .term-table);
+        type-table = table-beside (first-types f) work k typeName funName (firstFun f n) v (λ j h. record { other = λ e q. omega arith; facing = λ e q. omega arith }) (N .type-table);
+        fun-table = table-stored (first-funs f) equal-funs work k funName (I .fits) (omega arith) (λ q. omega arith) (funs-fit I) n v l (N .fun-table) z e;
+        term-table = table-beside (first-terms f) work k termName funName (firstFun f n) v (λ j h. record { other = λ e q. omega arith; facing = λ e q. omega arith }) (N .term-table);
       }
 
   pub numbers-term : n < length (terms f) → cell work k termName (firstTerm f n) ≡ 0 → v ≡ length (S .terms) + 1
       → Numbers f (store work k termName (firstTerm f n) v) k (enterTerm (termAt f n) S)
-  unfolding enterTerm
+  unfolding enterTerm shared placed
   numbers-term l z e =
       record {
-        type-table = table-beside work k typeName termName (firstTerm f n) v (omega arith) (omega arith) (omega arith) (N .type-table);
-        fun-table = table-beside work k funName termName (firstTerm f n) v (omega arith) (omega arith) (omega arith) (N .fun-table);
-        term-table = table-stored equal-terms (first-terms f) work k termName (I .fits) (omega arith) (terms-fit I) n v l (N .term-table) z e;
+        type-table = table-beside (first-types f) work k typeName termName (firstTerm f n) v (λ j h. record { other = λ e q. omega arith; facing = λ e q. omega arith }) (N .type-table);
+        fun-table = table-beside (first-funs f) work k funName termName (firstTerm f n) v (λ j h. record { other = λ e q. omega arith; facing = λ e q. omega arith }) (N .fun-table);
+        term-table = table-stored (first-terms f) equal-terms work k termName (I .fits) (omega arith) (λ q. omega arith) (terms-fit I) n v l (N .term-table) z e;
       }
 
 -- ---- names by numbers of records

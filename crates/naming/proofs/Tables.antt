@@ -14,7 +14,7 @@ use borrow.Author.Tests.{ne-eqb}
 use lib.ListN.{length, length-append}
 use Rattle.script_spec.specs.Base.{place, placeFrom, any, isSome}
 use Rattle.script_spec.proofs.Laws.{is-true}
-use Rattle.index.proofs.Firsts.{FirstEqual, Equality, any-place, first-injective}
+use Rattle.index.proofs.Firsts.{FirstEqual, Equality, any-place, first-below, first-injective}
 use Rattle.naming.specs.Naming.{num, placeOf, oneIfFree, free, Table}
 
 -- ---- places
@@ -80,22 +80,22 @@ free-taken column column′ i v (suc k) l z s h = go (ℕ-discrete k i) (λ m. f
 
 module _ {A : Type 0} {eq : A → A → Bool} {count : ℕ} {name : ℕ → A} {first : ℕ → ℕ} where
   -- the empty table
-  pub table-start : (k : ℕ) (column : ℕ → ℕ) → ((i : ℕ) → column i ≡ 0) → Table eq count name first k column []
+  pub table-start : (column : ℕ → ℕ) → ((i : ℕ) → column i ≡ 0) → Table eq count name first column []
   unfolding place num
-  table-start k column h = record { place-is = λ n l. h (first n); taken = omega (arith, free-all column k h) }
+  table-start column h = record { place-is = λ n l. h (first n); taken = omega (arith, free-all column count h) }
 
-  -- a column that has the same entries
-  pub table-same : {k : ℕ} {column : ℕ → ℕ} {table : List A} (column′ : ℕ → ℕ) → ((i : ℕ) → column′ i ≡ column i)
-      → Table eq count name first k column table → Table eq count name first k column′ table
-  table-same {k} {column} {table} column′ h t = record { place-is = λ n l. h (first n) ∙ t .place-is n l; taken = rw (free-same column column′ k (λ i l. h i)) (t .taken) }
+  -- a column that has the same entries for the records
+  pub table-same : FirstEqual count name first → {column : ℕ → ℕ} {table : List A} (column′ : ℕ → ℕ) → ((i : ℕ) → i < count → column′ i ≡ column i)
+      → Table eq count name first column table → Table eq count name first column′ table
+  table-same F {column} column′ h t = record { place-is = λ n l. h (first n) (first-below F n l) ∙ t .place-is n l; taken = rw (free-same column column′ count h) (t .taken) }
 
   -- a record is in the table where its entry is not 0
-  pub table-known : {k : ℕ} {column : ℕ → ℕ} {table : List A} → Table eq count name first k column table
+  pub table-known : {column : ℕ → ℕ} {table : List A} → Table eq count name first column table
       → (n : ℕ) → n < count → any (eq (name n)) table ≡ not (eqb (column (first n)) 0)
   table-known {table = table} t n l = any-place (eq (name n)) table ∙ num-isSome (place (eq (name n)) table) ∙ ap (λ (m : ℕ). not (eqb m 0)) (sym (t .place-is n l))
 
   -- the place of a record from its entry
-  pub table-place : {k : ℕ} {column : ℕ → ℕ} {table : List A} → Table eq count name first k column table
+  pub table-place : {column : ℕ → ℕ} {table : List A} → Table eq count name first column table
       → (n : ℕ) → n < count → place (eq (name n)) table ≡ placeOf (column (first n))
   table-place {table = table} t n l = sym (placeOf-num (place (eq (name n)) table)) ∙ ap placeOf (sym (t .place-is n l))
 
@@ -108,14 +108,14 @@ module _ {A : Type 0} {eq : A → A → Bool} {count : ℕ} {name : ℕ → A} {
         go true k = absurd (h (k tt))
         go false k = refl
 
-    pub table-enter : {k : ℕ} {column : ℕ → ℕ} {table : List A} (column′ : ℕ → ℕ) (n : ℕ) → n < count → first n < k
-        → Table eq count name first k column table → column (first n) ≡ 0 → column′ (first n) ≡ suc (length table)
-        → ((j : ℕ) → (j ≡ first n → ⊥) → column′ j ≡ column j) → Table eq count name first k column′ (table ++ (name n ∷ []))
+    pub table-enter : {column : ℕ → ℕ} {table : List A} (column′ : ℕ → ℕ) (n : ℕ) → n < count
+        → Table eq count name first column table → column (first n) ≡ 0 → column′ (first n) ≡ suc (length table)
+        → ((j : ℕ) → (j ≡ first n → ⊥) → column′ j ≡ column j) → Table eq count name first column′ (table ++ (name n ∷ []))
     unfolding num
-    table-enter {k} {column} {table} column′ n l inside t z s h = record {
+    table-enter {column} {table} column′ n l t z s h = record {
       place-is = λ m q. entry m q (ℕ-discrete (first m) (first n));
       taken =
-          let less : suc (free column′ k) ≡ free column k = free-taken column column′ (first n) (length table) k inside z s h in
+          let less : suc (free column′ count) ≡ free column count = free-taken column column′ (first n) (length table) count (first-below F n l) z s h in
           simp length-append (omega (arith, t .taken));
     }
       where

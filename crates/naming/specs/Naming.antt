@@ -17,7 +17,7 @@ use Rattle.index.specs.First.{firstType, firstFun, firstTerm}
 
 -- ---- columns
 
--- the columns of the names: of types and terms in place of the depths, which only check needs, and of functions
+-- the columns of the names: of types and terms in place of the depths, which only check needs, and of functions at the end of those of types
 abbrev pub typeName : ℕ
 typeName = typeDepth
 
@@ -60,17 +60,17 @@ unfoldable pub free : (ℕ → ℕ) → ℕ → ℕ
 free column zero = zero
 free column (suc n) = oneIfFree (column n) + free column n
 
--- A column of k entries holds a table: for each record its place, at the number of the first equal record. Each entry of the table
--- has taken one of the column.
-pub record Table {A : Type 0} (eq : A → A → Bool) (count : ℕ) (name : ℕ → A) (first : ℕ → ℕ) (k : ℕ) (column : ℕ → ℕ) (table : List A) : Type 0 where
+-- The first entries of a column, one for each record of a kind, hold a table: for each record its place, at the number of the first
+-- equal record. Each entry of the table has taken one of the column.
+pub record Table {A : Type 0} (eq : A → A → Bool) (count : ℕ) (name : ℕ → A) (first : ℕ → ℕ) (column : ℕ → ℕ) (table : List A) : Type 0 where
   pub place-is : (n : ℕ) → n < count → column (first n) ≡ num (place (eq (name n)) table)
-  pub taken : length table + free column k ≡ k
+  pub taken : length table + free column count ≡ count
 
 -- the memory holds the tables of a state of the walk over the records f
 pub record Numbers (f : TermFile) (work : List ℕ) (k : ℕ) (S : State) : Type 0 where
-  pub type-table : Table eqTy (length (types f)) (typeAt f) (firstType f) k (cell work k typeName) (S .types)
-  pub fun-table : Table eqFun (length (funs f)) (funAt f) (firstFun f) k (cell work k funName) (S .funs)
-  pub term-table : Table eqTm (length (terms f)) (termAt f) (firstTerm f) k (cell work k termName) (S .terms)
+  pub type-table : Table eqTy (length (types f)) (typeAt f) (firstType f) (cell work k typeName) (S .types)
+  pub fun-table : Table eqFun (length (funs f)) (funAt f) (firstFun f) (cell work k funName) (S .funs)
+  pub term-table : Table eqTm (length (terms f)) (termAt f) (firstTerm f) (cell work k termName) (S .terms)
 
 -- two memories that differ in names alone
 pub record Kept (work work′ : List ℕ) (k : ℕ) : Type 0 where

@@ -236,8 +236,8 @@ module _ {file : Bytes} {f : TermFile} {k terms : ℕ} {work₀ : List ℕ} (K :
       let I = K .index in
       record {
         fits = rw (L .same-size) (I .fits);
-        type-row = λ n l. let r = I .type-row n l in record { stands = rw (L .same 0 n l) (r .stands); first = L .same 1 n l ∙ r .first };
-        fun-row = λ n l. let r = I .fun-row n l in record { stands = rw (L .same 3 n l) (r .stands); first = L .same 4 n l ∙ r .first };
+        type-row = λ n l. let r = I .type-row n l in record { stands = rw (L .same 0 n l) (r .stands); first = L .same 1 n l ∙ r .first; place-is = L .same 15 n l ∙ r .place-is };
+        fun-row = λ n l. let r = I .fun-row n l in record { stands = rw (L .same 3 n l) (r .stands); first = L .same 4 n l ∙ r .first; place-is = L .same 5 n l ∙ r .place-is };
         term-row = λ n l. let r = I .term-row n l in
             record {
               stands = rw (L .same 6 n l) (r .stands);
@@ -247,8 +247,8 @@ module _ {file : Bytes} {f : TermFile} {k terms : ℕ} {work₀ : List ℕ} (K :
               type-first = rw (L .same 8 n l) (r .type-first);
               place-is = L .same 12 n l ∙ r .place-is;
             };
-        enum-row = λ n l. record { stands = rw (L .same 10 n l) (I .enum-row n l .stands) };
-        input-row = λ n l. record { below = rw (L .same 22 n l) (I .input-row n l .below); is = rw (L .same 22 n l) (I .input-row n l .is) };
+        enum-row = λ n l. let r = I .enum-row n l in record { stands = rw (L .same 10 n l) (r .stands); place-is = L .same 17 n l ∙ r .place-is };
+        input-row = λ n l. let r = I .input-row n l in record { below = rw (L .same 22 n l) (r .below); is = rw (L .same 22 n l) (r .is); place-is = L .same 18 n l ∙ r .place-is };
         fit = I .fit;
         names = names-same (record { same = λ i h. L .slots i }) (I .names) refl;
         listed = record { of-types = L .of-types .lists; of-enums = L .of-enums .lists };

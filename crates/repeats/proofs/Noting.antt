@@ -11,8 +11,8 @@ use mathlib.Core.List.{List, [], _∷_}
 use borrow.Author.Count.{below-more}
 use lib.ListN.{length, getD, set, length-set}
 use Rattle.script_spec.specs.Base.{Bytes}
-use Rattle.index.specs.Cells.{offset, cell, store, termFirst, funName}
-use Rattle.index.proofs.Cells.{length-store, cell-store-same, cell-store-other}
+use Rattle.index.specs.Cells.{placed, offset, cell, store, termFirst, funName}
+use Rattle.index.proofs.Cells.{shared, length-store, cell-store-same, cell-store-apart}
 use Rattle.repeats.specs.Repeats.{refAt, firstAt, noted, Noted, Notes, Clears, Repeated, Different, Earlier, Tells}
 use Rattle.repeats.specs.declared.Answer.the-variants.{Never, Once, Unknown}
 
@@ -43,15 +43,15 @@ module _ (work : List ℕ) (k : ℕ) (φ : ℕ → ℕ) where
   noted-length (suc n) = length-store (noted work k φ n) k funName (φ n) (suc n) ∙ noted-length n
 
   -- other columns are as they were
-  noted-other : (n column j : ℕ) → column < 12 → (funName ≡ column → ⊥) → cell (noted work k φ n) k column j ≡ cell work k column j
+  noted-other : (n column j : ℕ) → (funName ≡ column → ⊥) → (shared funName ≡ column → ⊥) → cell (noted work k φ n) k column j ≡ cell work k column j
   unfolding noted
-  noted-other zero column j l h = refl
-  noted-other (suc n) column j l h = cell-store-other (noted work k φ n) k funName (φ n) (suc n) column j (omega arith) l (λ e q. h e) ∙ noted-other n column j l h
+  noted-other zero column j h g = refl
+  noted-other (suc n) column j h g = cell-store-apart (noted work k φ n) k funName (φ n) (suc n) column j (record { other = λ e q. h e; facing = λ e q. g e }) ∙ noted-other n column j h g
 
   -- a number that was noted has a note
   module _ (fits : 12 * k ≤ length work) where
     has-note : (i n : ℕ) → i < n → ((j : ℕ) → j < n → φ j < k) → cell (noted work k φ n) k funName (φ i) ≡ 0 → ⊥
-    unfolding noted
+    unfolding noted shared placed
     has-note i zero l below e = absurd (omega arith)
     has-note i (suc n) l below e = go (ℕ-discrete (φ n) (φ i)) (λ m. has-note i n m (λ j p. below j (omega arith)))
       where
@@ -62,7 +62,7 @@ module _ (work : List ℕ) (k : ℕ) (φ : ℕ → ℕ) where
         go (yes q) less = let z : suc n ≡ 0 = sym here ∙ rw (← q) at e in omega arith
         go (no q) less =
             less (lower i n l (λ p. q (ap φ (sym p))))
-            (sym (cell-store-other (noted work k φ n) k funName (φ n) (suc n) funName (φ i) (omega arith) (omega arith) (λ a b. q b)) ∙ e)
+            (sym (cell-store-apart (noted work k φ n) k funName (φ n) (suc n) funName (φ i) (record { other = λ a b. q b; facing = λ a b. omega arith })) ∙ e)
 
 -- no two numbers that were noted are equal
 pub noted-different : {work work′ : List ℕ} {k : ℕ} {φ : ℕ → ℕ} {n : ℕ} → Noted work work′ k φ n → Different φ n
@@ -75,8 +75,8 @@ noted-different {work} {k = k} {φ} {n} N =
 
 -- what is read of the references is as it was
 first-noted : (body : Bytes) (work : List ℕ) (k from : ℕ) (φ : ℕ → ℕ) (n i : ℕ) → firstAt body (noted work k φ n) k from i ≡ firstAt body work k from i
-unfolding firstAt
-first-noted body work k from φ n i = noted-other work k φ n termFirst (refAt body from i) (omega arith) (λ e. omega arith)
+unfolding firstAt shared placed
+first-noted body work k from φ n i = noted-other work k φ n termFirst (refAt body from i) (λ e. omega arith) (λ e. omega arith)
 
 -- ---- noting
 

@@ -9,7 +9,7 @@ use lib.ListN.{length, length-append, replicate}
 use Rattle.script_spec.specs.Base.{Bytes, collect}
 use Rattle.script_spec.specs.Tree.{Ty, Fun, Tm, typeOf, depth}
 use Rattle.script_spec.specs.File.{TermFile, Named, type, enum, func, term, input, types, funs, terms, inputs, enums, typeAt, termAt, earlier}
-use Rattle.index.specs.Cells.{placed, cell, store, typeOffset, typeFirst, typeDepth, funOffset, funFirst, termOffset, termFirst, termType, termDepth, enumOffset, hash, termPlace, inputTerm, enumList, typeList}
+use Rattle.index.specs.Cells.{placed, cell, store, typeOffset, typeFirst, typeDepth, funOffset, funFirst, termOffset, termFirst, termType, termDepth, enumOffset, hash, termPlace, typePlace, funPlace, enumPlace, inputPlace, inputTerm, enumList, typeList}
 use Rattle.index.specs.First.{canonical, firstType}
 use Rattle.index.specs.Standing.{entryAt}
 use Rattle.index.specs.Meaning.{Stands}
@@ -73,19 +73,20 @@ module _ {file : Bytes} {f : TermFile} {work : List ℕ} {k : ℕ} (I : Indexed 
   without = record { index = I .index; depths = I .depths }
 
   pub indexed-type : {work₀ : List ℕ} {o m d : ℕ} {t : Ty} → Enrols file work work₀ k typeOffset typeFirst 0 (length (types f)) o m → Stands file f (earlier f) o (type t) → d ≡ depth t
-      → Indexed file (f ++ (type t ∷ [])) (store (store (store work₀ k typeOffset (length (types f)) o) k typeFirst (length (types f)) m) k typeDepth (length (types f)) d) k
+      → Indexed file (f ++ (type t ∷ [])) (store (store (store (store work₀ k typeOffset (length (types f)) o) k typeFirst (length (types f)) m) k typeDepth (length (types f)) d) k typePlace (length (types f)) (length f)) k
   unfolding shared placed
   indexed-type {work₀} {o} {m} {d} {t} E s deep =
       let n = length (types f) in
-      let work′ = store (store (store work₀ k typeOffset n o) k typeFirst n m) k typeDepth n d in
+      let work′ = store (store (store (store work₀ k typeOffset n o) k typeFirst n m) k typeDepth n d) k typePlace n (length f) in
       let A = E .go f (s .entry) (entries file work k typeOffset) (type-looks (I .index) (I .searchable .type-slots) s) (omega (arith, few, counts-fewer f .types-fewer)) empty-left in
       let C = enrolled-untouched A f in
       let fits = I .index .fits in
-      let S = type-stored f k work₀ (rw (C .same-size) fits) room o m d in
+      let S = type-stored f k work₀ (rw (C .same-size) fits) room o m d (length f) in
       let U = untouched-then C (S .untouched) in
       let same : (i : ℕ) → cell work′ k hash i ≡ cell work₀ k hash i
-      = λ i. slots-beside _ k typeDepth n d (λ e. omega arith) (λ e. omega arith) i ∙ slots-beside _ k typeFirst n m (λ e. omega arith) (λ e. omega arith) i ∙ slots-beside _ k typeOffset n o (λ e. omega arith) (λ e. omega arith) i in
-      let J = rows.indexed-type without room (record { untouched = U; unlisted = λ B. S .unlisted (enrolled-unlisted A B); offset-is = S .offset-is; first-is = S .first-is; depth-is = S .depth-is }) (enrolled-stays A fits work′ same) s (type-found (I .index) s (A .found)) deep in
+      = λ i. slots-beside _ k typePlace n (length f) (λ e. omega arith) (λ e. omega arith) i ∙ slots-beside _ k typeDepth n d (λ e. omega arith) (λ e. omega arith) i ∙ slots-beside _ k typeFirst n m (λ e. omega arith) (λ e. omega arith) i
+      ∙ slots-beside _ k typeOffset n o (λ e. omega arith) (λ e. omega arith) i in
+      let J = rows.indexed-type without room (record { untouched = U; unlisted = λ B. S .unlisted (enrolled-unlisted A B); offset-is = S .offset-is; first-is = S .first-is; depth-is = S .depth-is; place-is = S .place-is }) (enrolled-stays A fits work′ same) s (type-found (I .index) s (A .found)) deep in
       let L = lists-type f t in
       record {
         index = J .index;
@@ -99,19 +100,19 @@ module _ {file : Bytes} {f : TermFile} {work : List ℕ} {k : ℕ} (I : Indexed 
       }
 
   pub indexed-func : {work₀ : List ℕ} {o m : ℕ} {g : Fun} → Enrols file work work₀ k funOffset funFirst 1 (length (funs f)) o m → Stands file f (earlier f) o (func g)
-      → Indexed file (f ++ (func g ∷ [])) (store (store work₀ k funOffset (length (funs f)) o) k funFirst (length (funs f)) m) k
+      → Indexed file (f ++ (func g ∷ [])) (store (store (store work₀ k funOffset (length (funs f)) o) k funFirst (length (funs f)) m) k funPlace (length (funs f)) (length f)) k
   unfolding shared placed
   indexed-func {work₀} {o} {m} {g} E s =
       let n = length (funs f) in
-      let work′ = store (store work₀ k funOffset n o) k funFirst n m in
+      let work′ = store (store (store work₀ k funOffset n o) k funFirst n m) k funPlace n (length f) in
       let A = E .go f (s .entry) (entries file work k funOffset) (fun-looks (I .index) (I .searchable .fun-slots) s) (omega (arith, few, counts-fewer f .funs-fewer)) empty-left in
       let C = enrolled-untouched A f in
       let fits = I .index .fits in
-      let S = fun-stored f k work₀ (rw (C .same-size) fits) room o m in
+      let S = fun-stored f k work₀ (rw (C .same-size) fits) room o m (length f) in
       let U = untouched-then C (S .untouched) in
       let same : (i : ℕ) → cell work′ k hash i ≡ cell work₀ k hash i
-      = λ i. slots-beside _ k funFirst n m (λ e. omega arith) (λ e. omega arith) i ∙ slots-beside _ k funOffset n o (λ e. omega arith) (λ e. omega arith) i in
-      let J = rows.indexed-func without room (record { untouched = U; unlisted = λ B. S .unlisted (enrolled-unlisted A B); offset-is = S .offset-is; first-is = S .first-is }) (enrolled-stays A fits work′ same) s (fun-found (I .index) s (A .found)) in
+      = λ i. slots-beside _ k funPlace n (length f) (λ e. omega arith) (λ e. omega arith) i ∙ slots-beside _ k funFirst n m (λ e. omega arith) (λ e. omega arith) i ∙ slots-beside _ k funOffset n o (λ e. omega arith) (λ e. omega arith) i in
+      let J = rows.indexed-func without room (record { untouched = U; unlisted = λ B. S .unlisted (enrolled-unlisted A B); offset-is = S .offset-is; first-is = S .first-is; place-is = S .place-is }) (enrolled-stays A fits work′ same) s (fun-found (I .index) s (A .found)) in
       let L = lists-func f g in
       record {
         index = J .index;
@@ -154,17 +155,18 @@ module _ {file : Bytes} {f : TermFile} {work : List ℕ} {k : ℕ} (I : Indexed 
       }
 
   pub indexed-enum : {work₀ : List ℕ} {o r : ℕ} {name : Bytes} {members : List Bytes} → NewName work work₀ k f (length (enums f)) name r → Stands file f (earlier f) o (enum name members)
-      → Indexed file (f ++ (enum name members ∷ [])) (store work₀ k enumOffset (length (enums f)) o) k
+      → Indexed file (f ++ (enum name members ∷ [])) (store (store work₀ k enumOffset (length (enums f)) o) k enumPlace (length (enums f)) (length f)) k
   unfolding shared placed
   indexed-enum {work₀} {o} {r} {name} {members} N s =
       let n = length (enums f) in
       let T = N .stored in
-      let work′ = store work₀ k enumOffset n o in
+      let work′ = store (store work₀ k enumOffset n o) k enumPlace n (length f) in
       let C = stored-untouched T f in
       let fits = I .index .fits in
-      let S = enum-stored f k work₀ (rw (C .same-size) fits) room o in
+      let S = enum-stored f k work₀ (rw (C .same-size) fits) room o (length f) in
       let U = untouched-then C (S .untouched) in
-      let same : (i : ℕ) → cell work′ k hash i ≡ cell work₀ k hash i = λ i. slots-beside work₀ k enumOffset n o (λ e. omega arith) (λ e. omega arith) i in
+      let same : (i : ℕ) → cell work′ k hash i ≡ cell work₀ k hash i
+      = λ i. slots-beside _ k enumPlace n (length f) (λ e. omega arith) (λ e. omega arith) i ∙ slots-beside work₀ k enumOffset n o (λ e. omega arith) (λ e. omega arith) i in
       let stays : Stays (cell work k hash) (cell work′ k hash) = record { same = λ i g. same i ∙ stored-stays fits T .same i g } in
       let L = lists-enum f name members in
       let new : Reached (nameHome k) k (cell work′ k hash) 3 (suc n) (enumName (f ++ (enum name members ∷ []))) n
@@ -172,7 +174,7 @@ module _ {file : Bytes} {f : TermFile} {work : List ℕ} {k : ℕ} (I : Indexed 
       let M =
       names-added f (f ++ (enum name members ∷ [])) name members (L .enums-are) stays (I .index .names)
       (subst (λ (count : ℕ). Reached (nameHome k) k (cell work′ k hash) 3 count (enumName (f ++ (enum name members ∷ []))) n) (one-more (enums f) (name, members) (L .enums-are)) new) (N .miss .none) in
-      let J = rows.indexed-enum without room (record { untouched = U; unlisted = λ B. S .unlisted (stored-unlisted T B); offset-is = S .offset-is }) M s in
+      let J = rows.indexed-enum without room (record { untouched = U; unlisted = λ B. S .unlisted (stored-unlisted T B); offset-is = S .offset-is; place-is = S .place-is }) M s in
       record {
         index = J .index;
         depths = J .depths;
@@ -184,13 +186,14 @@ module _ {file : Bytes} {f : TermFile} {work : List ℕ} {k : ℕ} (I : Indexed 
             (λ l. absurd (omega (arith, ap length (L .terms-are))));
       }
 
-  pub indexed-input : {n : ℕ} → n < length (terms f) → Indexed file (f ++ (input (termAt f n) ∷ [])) (store work k inputTerm (length (inputs f)) n) k
+  pub indexed-input : {n : ℕ} → n < length (terms f) → Indexed file (f ++ (input (termAt f n) ∷ [])) (store (store work k inputTerm (length (inputs f)) n) k inputPlace (length (inputs f)) (length f)) k
   unfolding shared placed
   indexed-input {n} below =
       let t = termAt f n in
-      let work′ = store work k inputTerm (length (inputs f)) n in
-      let S = input-stored f k work (I .index .fits) room n in
-      let same : (i : ℕ) → cell work′ k hash i ≡ cell work k hash i = slots-beside work k inputTerm (length (inputs f)) n (λ e. omega arith) (λ e. omega arith) in
+      let i = length (inputs f) in
+      let work′ = store (store work k inputTerm i n) k inputPlace i (length f) in
+      let S = input-stored f k work (I .index .fits) room n (length f) in
+      let same : (i : ℕ) → cell work′ k hash i ≡ cell work k hash i = λ j. slots-beside _ k inputPlace i (length f) (λ e. omega arith) (λ e. omega arith) j ∙ slots-beside work k inputTerm i n (λ e. omega arith) (λ e. omega arith) j in
       let stays : Stays (cell work k hash) (cell work′ k hash) = record { same = λ i g. same i } in
       let J = rows.indexed-input without room S stays below in
       let L = lists-input f t in

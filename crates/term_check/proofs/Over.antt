@@ -108,8 +108,8 @@ placed-at f {c} q few place =
 
 -- ---- each kind
 
-module _ (file : Bytes) {work work′ : List ℕ} {at : ℕ} (to : ℕ) (c : Counts) {k o m : ℕ} {r : Entered} (wide : k ≡ length file / 6) (low : at < 4294967296 → o ≡ at) where
-  pub type-row : (c .types < 4294967295 → m ≡ suc (c .types)) → Enters type typeCount file work work′ k (c .types) o r
+module _ (file : Bytes) {work work′ : List ℕ} {at : ℕ} (to : ℕ) (c : Counts) {k o m place : ℕ} {r : Entered} (wide : k ≡ length file / 6) (low : at < 4294967296 → o ≡ at) (counted : together c < 4294967296 → place ≡ together c) where
+  pub type-row : (c .types < 4294967295 → m ≡ suc (c .types)) → Enters type typeCount file work work′ k (c .types) o place r
       → Row 84 file work work′ at to c r (record { types = m; funs = c .funs; terms = c .terms; enums = c .enums; inputs = c .inputs })
   unfolding named countsOf typeCount
   type-row more E =
@@ -123,12 +123,12 @@ module _ (file : Bytes) {work work′ : List ℕ} {at : ℕ} (to : ℕ) (c : Cou
             record {
               names = type t;
               is = e;
-              outcome = rw (sym wide) (E .go f (rw wide (B .indexed)) u (rw wide (next-room B R)) t (rw (low (at-low B R)) (stands-as B R e)));
+              outcome = rw (sym wide) (E .go f (rw wide (B .indexed)) u (rw wide (next-room B R)) (placed-at f q (omega (arith, few B R)) counted) t (rw (low (at-low B R)) (stands-as B R e)));
               counts = rw (more (omega (arith, few B R, counts-fewer f .types-fewer)), q) (sym (counts-type f t));
             };
       }
 
-  pub enum-row : (c .enums < 4294967295 → m ≡ suc (c .enums)) → Enters enumNamed enumCount file work work′ k (c .enums) o r
+  pub enum-row : (c .enums < 4294967295 → m ≡ suc (c .enums)) → Enters enumNamed enumCount file work work′ k (c .enums) o place r
       → Row 69 file work work′ at to c r (record { types = c .types; funs = c .funs; terms = c .terms; enums = m; inputs = c .inputs })
   unfolding named countsOf enumNamed enumCount
   enum-row more E =
@@ -141,12 +141,12 @@ module _ (file : Bytes) {work work′ : List ℕ} {at : ℕ} (to : ℕ) (c : Cou
             record {
               names = enum (K .0) (K .1);
               is = e;
-              outcome = rw (sym wide) (E .go f (rw wide (B .indexed)) u (rw wide (next-room B R)) (K .0, K .1) (rw (low (at-low B R)) (stands-as B R e)));
+              outcome = rw (sym wide) (E .go f (rw wide (B .indexed)) u (rw wide (next-room B R)) (placed-at f q (omega (arith, few B R)) counted) (K .0, K .1) (rw (low (at-low B R)) (stands-as B R e)));
               counts = rw (more (omega (arith, few B R, counts-fewer f .enums-fewer)), q) (sym (counts-enum f (K .0) (K .1)));
             };
       }
 
-  pub fun-row : (c .funs < 4294967295 → m ≡ suc (c .funs)) → Enters func funCount file work work′ k (c .funs) o r
+  pub fun-row : (c .funs < 4294967295 → m ≡ suc (c .funs)) → Enters func funCount file work work′ k (c .funs) o place r
       → Row 85 file work work′ at to c r (record { types = c .types; funs = m; terms = c .terms; enums = c .enums; inputs = c .inputs })
   unfolding named countsOf funCount
   fun-row more E =
@@ -160,15 +160,15 @@ module _ (file : Bytes) {work work′ : List ℕ} {at : ℕ} (to : ℕ) (c : Cou
             record {
               names = func g;
               is = e;
-              outcome = rw (sym wide) (E .go f (rw wide (B .indexed)) u (rw wide (next-room B R)) g (rw (low (at-low B R)) (stands-as B R e)));
+              outcome = rw (sym wide) (E .go f (rw wide (B .indexed)) u (rw wide (next-room B R)) (placed-at f q (omega (arith, few B R)) counted) g (rw (low (at-low B R)) (stands-as B R e)));
               counts = rw (more (omega (arith, few B R, counts-fewer f .funs-fewer)), q) (sym (counts-func f g));
             };
       }
 
-  pub term-row : {place : ℕ} → (c .terms < 4294967295 → m ≡ suc (c .terms)) → (together c < 4294967296 → place ≡ together c) → EntersTerm file work work′ k (c .types) (c .terms) o place r
+  pub term-row : (c .terms < 4294967295 → m ≡ suc (c .terms)) → EntersTerm file work work′ k (c .types) (c .terms) o place r
       → Row 88 file work work′ at to c r (record { types = c .types; funs = c .funs; terms = m; enums = c .enums; inputs = c .inputs })
   unfolding named countsOf typeCount termCount
-  term-row more place E =
+  term-row more E =
       record {
         go = λ f B x R b.
             let K = kind-of x .a-term b in
@@ -180,12 +180,12 @@ module _ (file : Bytes) {work work′ : List ℕ} {at : ℕ} (to : ℕ) (c : Cou
             record {
               names = term t;
               is = e;
-              outcome = rw (sym wide) (E .go f (rw wide (B .indexed)) v u (rw wide (next-room B R)) (placed-at f q (omega (arith, few B R)) place) t (rw (low (at-low B R)) (stands-as B R e)));
+              outcome = rw (sym wide) (E .go f (rw wide (B .indexed)) v u (rw wide (next-room B R)) (placed-at f q (omega (arith, few B R)) counted) t (rw (low (at-low B R)) (stands-as B R e)));
               counts = rw (more (omega (arith, few B R, counts-fewer f .terms-fewer)), q) (sym (counts-term f t));
             };
       }
 
-  pub input-row : (c .inputs < 4294967295 → m ≡ suc (c .inputs)) → Enters input inputCount file work work′ k (c .inputs) o r
+  pub input-row : (c .inputs < 4294967295 → m ≡ suc (c .inputs)) → Enters input inputCount file work work′ k (c .inputs) o place r
       → Row 73 file work work′ at to c r (record { types = c .types; funs = c .funs; terms = c .terms; enums = c .enums; inputs = m })
   unfolding named countsOf inputCount
   input-row more E =
@@ -199,7 +199,7 @@ module _ (file : Bytes) {work work′ : List ℕ} {at : ℕ} (to : ℕ) (c : Cou
             record {
               names = input t;
               is = e;
-              outcome = rw (sym wide) (E .go f (rw wide (B .indexed)) u (rw wide (next-room B R)) t (rw (low (at-low B R)) (stands-as B R e)));
+              outcome = rw (sym wide) (E .go f (rw wide (B .indexed)) u (rw wide (next-room B R)) (placed-at f q (omega (arith, few B R)) counted) t (rw (low (at-low B R)) (stands-as B R e)));
               counts = rw (more (omega (arith, few B R, counts-together f)), q) (sym (counts-input f t));
             };
       }

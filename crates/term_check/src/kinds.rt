@@ -50,7 +50,8 @@ pub fn next_type(file: &[u8], work: &mut [u32], at: usize, to: usize, c: Counts)
 {
     let k = index::capacity(file.len());
     let types = more(c.types);
-    match enter::enter_type(file, work, k, c.types, narrow(at)) {
+    let place = next_place(c);
+    match enter::enter_type(file, work, k, c.types, narrow(at), place) {
         Entered::Broken(n) => Step::Bad(n),
         Entered::Done => Step::To(
             to,
@@ -71,7 +72,8 @@ pub fn next_enum(file: &[u8], work: &mut [u32], at: usize, to: usize, c: Counts)
 {
     let k = index::capacity(file.len());
     let enums = more(c.enums);
-    match enter::enums::enter_enum(file, work, k, c.enums, narrow(at)) {
+    let place = next_place(c);
+    match enter::enums::enter_enum(file, work, k, c.enums, narrow(at), place) {
         Entered::Broken(n) => Step::Bad(n),
         Entered::Done => Step::To(
             to,
@@ -92,7 +94,8 @@ pub fn next_fun(file: &[u8], work: &mut [u32], at: usize, to: usize, c: Counts) 
 {
     let k = index::capacity(file.len());
     let funs = more(c.funs);
-    match enter::enter_fun(file, work, k, c.funs, narrow(at)) {
+    let place = next_place(c);
+    match enter::enter_fun(file, work, k, c.funs, narrow(at), place) {
         Entered::Broken(n) => Step::Bad(n),
         Entered::Done => Step::To(
             to,
@@ -135,7 +138,8 @@ pub fn next_input(file: &[u8], work: &mut [u32], at: usize, to: usize, c: Counts
 {
     let k = index::capacity(file.len());
     let inputs = more(c.inputs);
-    match enter::inputs::enter_input(file, work, k, c.inputs, narrow(at)) {
+    let place = next_place(c);
+    match enter::inputs::enter_input(file, work, k, c.inputs, narrow(at), place) {
         Entered::Broken(n) => Step::Bad(n),
         Entered::Done => Step::To(
             to,

@@ -16,6 +16,7 @@ use Rattle.script_spec.proofs.Laws.{any-place}
 use Rattle.index.specs.Cells.{cell, store, termFirst}
 use Rattle.index.specs.First.{firstTerm}
 use Rattle.index.specs.Meaning.{Index}
+use Rattle.index.proofs.Rows.{terms-fit}
 use Rattle.naming.specs.Naming.{termName, num, isName, Numbers, Kept}
 use Rattle.naming.proofs.Names.{kept-store, numbers-term}
 use Rattle.progress.specs.Progress.{Sums, Went}
@@ -40,8 +41,8 @@ module _ {f : TermFile} {k : ℕ} {work : List ℕ} {S : State} (N : Numbers f w
       N .term-table .place-is n l ∙ none-is (place (eqTm (termAt f n)) (S .terms)) (sym (any-place (eqTm (termAt f n)) (S .terms)) ∙ new)
 
   -- the next number of the table of terms
-  next-term : (count v : ℕ) → k + 1 < 2 ^ 32 → count ≡ length (S .terms) → Sums count v → v ≡ length (S .terms) + 1
-  next-term count v small e sum = let t = N .term-table .taken in sum .one-more (omega arith) ∙ ap (λ (m : ℕ). m + 1) e
+  next-term : (count v : ℕ) → length (terms f) ≤ k → k + 1 < 2 ^ 32 → count ≡ length (S .terms) → Sums count v → v ≡ length (S .terms) + 1
+  next-term count v fit small e sum = let t = N .term-table .taken in sum .one-more (omega arith) ∙ ap (λ (m : ℕ). m + 1) e
 
 module _ {file : Bytes} {f : TermFile} {k limit : ℕ} {o out : Bytes} {work : List ℕ} {p : Progress} {S : State} where
   -- a term is entered by a store
@@ -49,7 +50,7 @@ module _ {file : Bytes} {f : TermFile} {k limit : ℕ} {o out : Bytes} {work : L
       → Went f k limit o work out p S → Went f k limit o (store work k termName (firstTerm f n) v) out (countedTo p v) (enterTerm (termAt f n) S)
   unfolding enterTerm
   went-enter n v I small l new sum W =
-      let e : v ≡ length (S .terms) + 1 = next-term (W .numbers) (p .terms) v small (W .terms-are) sum in
+      let e : v ≡ length (S .terms) + 1 = next-term (W .numbers) (p .terms) v (terms-fit I) small (W .terms-are) sum in
       record {
         numbers = numbers-term I (W .numbers) n v l (free-entry (W .numbers) n l new) e;
         types-are = W .types-are;

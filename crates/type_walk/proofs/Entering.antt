@@ -18,6 +18,7 @@ use Rattle.writer.proofs.Laws.{says}
 use Rattle.index.specs.Cells.{cell, store, typeFirst, funFirst}
 use Rattle.index.specs.First.{firstType, firstFun}
 use Rattle.index.specs.Meaning.{Index}
+use Rattle.index.proofs.Rows.{types-fit, funs-fit}
 use Rattle.naming.specs.Naming.{typeName, funName, num, isName, Kept}
 use Rattle.naming.proofs.Names.{kept-refl, kept-store, index-kept, numbers-type, numbers-fun}
 use Rattle.progress.specs.Progress.{Sums, Went, Advances}
@@ -53,7 +54,8 @@ module _ {file : Bytes} {f : TermFile} {k limit : ℕ} {o out : Bytes} {work : L
   unfolding enterType
   went-type I small l new sum W =
       let N = W .numbers in
-      let room = N .type-table .taken in
+      let taken = N .type-table .taken in
+      let fit = types-fit I in
       let same = W .types-are in
       let z : cell work k typeName (firstType f t) ≡ 0 = N .type-table .place-is t l ∙ none-is (place (eqTy (typeAt f t)) (S .types)) (sym (any-place (eqTy (typeAt f t)) (S .types)) ∙ new) in
       let e : v ≡ length (S .types) + 1 = sum .one-more (omega arith) ∙ ap (λ (m : ℕ). m + 1) same in
@@ -96,7 +98,8 @@ module _ {file : Bytes} {f : TermFile} {k limit : ℕ} {o out : Bytes} {work : L
   unfolding enterFun
   went-fun I small l new sum W =
       let N = W .numbers in
-      let room = N .fun-table .taken in
+      let taken = N .fun-table .taken in
+      let fit = funs-fit I in
       let same = W .funs-are in
       let z : cell work k funName (firstFun f g) ≡ 0 = N .fun-table .place-is g l ∙ none-is (place (eqFun (funAt f g)) (S .funs)) (sym (any-place (eqFun (funAt f g)) (S .funs)) ∙ new) in
       let e : v ≡ length (S .funs) + 1 = sum .one-more (omega arith) ∙ ap (λ (m : ℕ). m + 1) same in

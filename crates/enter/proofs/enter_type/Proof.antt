@@ -7,16 +7,16 @@ use Rattle.enter.proofs.enter_type.Statement.{statement}
 use Rattle.enter.proofs.enter_type.Tie as tie
 
 returns : tie.Need-returns
-returns c = type-many c.before.before.before.before.before.args.file.now _ _ _ _ c.before.before.attributes-ascend.ensures c.before.if1.taken c.if2.taken
+returns c = type-many c.before.before.before.before.before.args.file.now _ _ _ _ _ c.before.before.attributes-ascend.ensures c.before.if1.taken c.if2.taken
 
 returns-2 : tie.Need-returns-2
-returns-2 c = type-deep c.before.before.before.before.before.before.before.before.args.file.now _ _ _ _ c.before.before.before.before.before.attributes-ascend.ensures (λ i. omega (arith, c.before.before.before.before.before.before.before.shared-slice-known.given i)) c.before.greatest.ensures c.before.before.before.before.if1.taken c.before.before.before.if2.left c.if3.taken
+returns-2 c = type-deep c.before.before.before.before.before.before.before.before.args.file.now _ _ _ _ _ c.before.before.before.before.before.attributes-ascend.ensures (λ i. omega (arith, c.before.before.before.before.before.before.before.shared-slice-known.given i)) c.before.greatest.ensures c.before.before.before.before.if1.taken c.before.before.before.if2.left c.if3.taken
 
 returns-3 : tie.Need-returns-3
-returns-3 c = type-entered c.before.before.before.before.before.before.before.before.before.before.before.before.args.file.now _ _ _ _ c.before.before.before.before.before.before.before.before.before.attributes-ascend.ensures (λ i. omega (arith, c.before.before.before.before.before.before.before.before.before.before.before.shared-slice-known.given i)) c.before.before.before.before.before.greatest.ensures c.before.before.before.before.before.before.before.before.if1.taken c.before.before.before.before.before.before.before.if2.left c.before.before.before.before.if3.left c.before.before.store-type.ensures
+returns-3 c = type-entered c.before.before.before.before.before.before.before.before.before.before.before.before.args.file.now _ _ _ _ _ c.before.before.before.before.before.before.before.before.before.attributes-ascend.ensures (λ i. omega (arith, c.before.before.before.before.before.before.before.before.before.before.before.shared-slice-known.given i)) c.before.before.before.before.before.greatest.ensures c.before.before.before.before.before.before.before.before.if1.taken c.before.before.before.before.before.before.before.if2.left c.before.before.before.before.if3.left c.before.before.store-type.ensures
 
 returns-4 : tie.Need-returns-4
-returns-4 c = type-unordered c.before.before.before.before.args.file.now _ _ _ _ c.before.attributes-ascend.ensures c.if1.left
+returns-4 c = type-unordered c.before.before.before.before.args.file.now _ _ _ _ _ c.before.attributes-ascend.ensures c.if1.left
 
 pub enter-type-spec : {M : Type 1} → statement M
 enter-type-spec =

@@ -1,4 +1,4 @@
--- `encoder::names::clear_names` meets its contract: the loop has cleared the first entries of each column.
+-- `encoder::names::clear_names` meets its contract: the loop has cleared the first entries of the columns.
 -- Assumes nothing.
 use Prim.Native.Nat.{_-_}
 use Rattle.encoder.proofs.Clearing.{ClearedTo, cleared-none, cleared-more, cleared-all}
@@ -16,7 +16,7 @@ loop-holds : tie.Need-loop-holds Inv-loop μ-loop
 loop-holds c = cleared-none _ _
 
 loop-again : tie.Need-loop-again Inv-loop μ-loop
-loop-again c = cleared-more c.before.before.before.before.before.before.before.before.before.before.before.before.before.loop.inv c.before.before.before.before.before.before.before.before.before.before.set.ensures c.before.before.before.before.before.before.set2.ensures c.before.before.set3.ensures
+loop-again c = cleared-more c.before.before.before.before.before.before.before.before.before.loop.inv c.before.before.before.before.before.before.set.ensures c.before.before.set2.ensures
 
 same-length : tie.Need-same-length Inv-loop μ-loop
 same-length c = c.before.loop.inv.kept.size
@@ -30,7 +30,7 @@ clear-names-spec =
     (tie.spec
     Inv-loop
     μ-loop
-    loop-holds (λ c κs. search needs) (λ c κs. search needs) (λ c κs. search needs) (λ c. search needs) (λ c. search needs)
+    loop-holds (λ c κs. search needs) (λ c κs. search needs) (λ c. search needs) (λ c. search needs)
     loop-again
     same-length
     returns)
