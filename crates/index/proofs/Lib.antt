@@ -1,4 +1,5 @@
 pub mod Cells
+pub mod Columns
 pub mod Places
 pub mod Stores
 pub mod Names

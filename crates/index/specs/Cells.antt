@@ -3,9 +3,9 @@
 use Prim.Native.Nat.{ℕ, suc, _+_, _-_, _*_}
 use mathlib.Core.Path.{_≡_}
 use mathlib.Core.Bool.{Bool, true, false, _&&_}
-use mathlib.Core.List.{List}
+use mathlib.Core.List.{List, _++_}
 use lib.Dec.{leb, ltb}
-use lib.ListN.{length, getD, set}
+use lib.ListN.{length, take, drop, getD, set, replicate}
 
 -- the place if the memory has it, else its size
 unfoldable pub placed : Bool → ℕ → ℕ → ℕ
@@ -27,6 +27,14 @@ cell work k column i = getD work (offset (length work) k column i) 0
 -- the memory with v at the entry i of a column, unchanged where there is none
 unfoldable pub store : List ℕ → ℕ → ℕ → ℕ → ℕ → List ℕ
 store work k column i v = set work (offset (length work) k column i) v
+
+-- a list with zeros for n entries from a place on
+unfoldable pub zeroed : List ℕ → ℕ → ℕ → List ℕ
+zeroed l at n = take at l ++ (replicate n 0 ++ drop n (drop at l))
+
+-- the memory with zeros in a column that is counted from its start, unchanged where there is none
+unfoldable pub emptied : List ℕ → ℕ → ℕ → List ℕ
+emptied work k column = elim (leb (12 * k) (length work) && ltb column 12) [ true ↦ zeroed work (column * k) k | false ↦ work ]
 
 -- the column with which a column shares
 unfoldable pub shared : ℕ → ℕ

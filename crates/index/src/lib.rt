@@ -1,7 +1,7 @@
 // The working memory as a table: columns of equal length, one entry a record. Nothing outside this crate knows an offset.
 ghost use mathlib.Core.Path.{_≡_};
 ghost use Prim.Native.Nat.{_/_};
-ghost use Rattle.index.specs.Cells.{offset, cell, store};
+ghost use Rattle.index.specs.Cells.{offset, cell, store, emptied};
 
 // The columns. A record has at least 6 bytes and `work` two entries a byte, so that twelve columns fit. Each has an entry for every
 // record of whatever kind, so that two kinds can share one: the entries of the first kind are counted from its start, and those of the
@@ -104,4 +104,19 @@ pub fn set(work: &mut [u32], k: usize, column: usize, i: usize, v: u32)
     if at < work.len() {
         work[at] = v;
     }
+}
+
+// Zeroes a column that is counted from its start, and with it the one that is counted from its end; nothing where there is none.
+pub fn clear_column(work: &mut [u32], k: usize, column: usize)
+    ensures { λ _. ⌜ now (work .exit) ≡ emptied (now (work .entry)) k column ⌝ }
+{
+    if work.len() / COLUMNS < k {
+        return;
+    }
+    if COLUMNS <= column {
+        return;
+    }
+    let from = column * k;
+    let to = from + k;
+    writer::clear_words(&mut work[from..to])
 }

@@ -5,16 +5,17 @@ use Prim.Native.Nat.{ℕ, suc, _+_, _*_, _≤_, _<_}
 use native.Mathlib.Nat.{not-suc-le-zero}
 use native.Mathlib.Omega.{arith}
 use mathlib.Core.List.{List, [], _∷_, _++_}
-use lib.ListN.{length, length-append, replicate}
+use lib.ListN.{length, length-append}
 use Rattle.script_spec.specs.Base.{Bytes, collect}
 use Rattle.script_spec.specs.Tree.{Ty, Fun, Tm, typeOf, depth}
 use Rattle.script_spec.specs.File.{TermFile, Named, type, enum, func, term, input, types, funs, terms, inputs, enums, typeAt, termAt, earlier}
-use Rattle.index.specs.Cells.{placed, cell, store, typeOffset, typeFirst, typeDepth, funOffset, funFirst, termOffset, termFirst, termType, termDepth, enumOffset, hash, termPlace, typePlace, funPlace, enumPlace, inputPlace, inputTerm, enumList, typeList}
+use Rattle.index.specs.Cells.{placed, cell, store, typeOffset, typeFirst, typeDepth, funOffset, funFirst, termOffset, termFirst, termType, termDepth, enumOffset, hash, termPlace, typePlace, funPlace, enumPlace, inputPlace, inputTerm}
 use Rattle.index.specs.First.{canonical, firstType}
 use Rattle.index.specs.Standing.{entryAt}
+use Rattle.index.specs.Lists.{Blank}
 use Rattle.index.specs.Meaning.{Stands}
 use Rattle.index.specs.Meaning as meaning
-use Rattle.index.proofs.Cells.{shared, cell-store-apart, cell-zeros}
+use Rattle.index.proofs.Cells.{shared, cell-store-apart}
 use Rattle.index.proofs.Growth.{counts-fewer, lists-type, lists-func, lists-term, lists-enum, lists-input}
 use Rattle.index.proofs.Later.{canonical-kept}
 use Rattle.index.proofs.Stores.{untouched-then, type-stored, fun-stored, term-stored, enum-stored, input-stored}
@@ -30,11 +31,11 @@ use Rattle.search.specs.Named.{NewName}
 use Rattle.search.proofs.Numbers.{entries-read, type-looks, fun-looks, term-looks, type-found, fun-found, term-found}
 use Rattle.search.proofs.Growth.{stored-untouched, stored-unlisted, enrolled-untouched, enrolled-unlisted, enrolled-stays, enrolled-fewer, enrolled-reached, types-kept, funs-kept, terms-kept, slots-grown}
 
--- a memory of zeros is the index of no records
-pub indexed-none : (file : Bytes) (work : List ℕ) (k size : ℕ) → 12 * k ≤ length work → k ≤ 1048576 → work ≡ replicate size 0 → Indexed file [] work k
+-- a memory without lists and with empty slots is the index of no records
+pub indexed-none : (file : Bytes) (work : List ℕ) (k : ℕ) → 12 * k ≤ length work → k ≤ 1048576 → Blank 0 0 work k → ((i : ℕ) → cell work k hash i ≡ 0) → Indexed file [] work k
 unfolding types funs terms collect
-indexed-none file work k size fits small zeros =
-    let I = rows.indexed-none file work k fits (record { no-type-list = λ i l. rw zeros (cell-zeros size k typeList i); no-enum-list = λ i l. rw zeros (cell-zeros size k enumList i) }) in
+indexed-none file work k fits small blank empty =
+    let I = rows.indexed-none file work k fits blank in
     record {
       index = I .index;
       depths = I .depths;
@@ -44,7 +45,7 @@ indexed-none file work k size fits small zeros =
             type-slots = λ n l. absurd (not-suc-le-zero l);
             fun-slots = λ n l. absurd (not-suc-le-zero l);
             term-slots = λ n l. absurd (not-suc-le-zero l);
-            taken = omega (arith, empties-all (cell work k hash) k (λ i. rw zeros (cell-zeros size k hash i)));
+            taken = omega (arith, empties-all (cell work k hash) k empty);
           };
     }
 

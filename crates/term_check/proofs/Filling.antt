@@ -1,14 +1,14 @@
 -- Filling the index: the loop's invariant, and each way out of it.
 -- Assumes nothing.
 use mathlib.Core.Path.{_≡_, refl, sym, ap, _∙_, subst}
-use Prim.Native.Nat.{ℕ, _*_, _≤_, _<_}
+use Prim.Native.Nat.{ℕ, _*_, _/_, _≤_, _<_}
 use native.Mathlib.Omega.{arith}
 use mathlib.Core.List.{List, [], _∷_, _++_}
 use lib.ListN.{length, replicate}
 use Rattle.script_spec.specs.Base.{Bytes, collect}
 use Rattle.script_spec.specs.File.{TermFile, types, funs, terms, enums, inputs}
 use Rattle.term_check.specs.Promise.{countsOf, together, Fills}
-use Rattle.term_check.specs.Clearing.{Refusing}
+use Rattle.term_check.specs.Clearing.{Refusing, Prepared}
 use Rattle.term_check.specs.Stepping.{Stepped, Stepping, Steps}
 use Rattle.term_check.specs.declared.Counts.{Counts}
 use Rattle.term_check.specs.declared.Filled.{Filled}
@@ -38,9 +38,9 @@ pub record Going (file : Bytes) (size : ℕ) (work : List ℕ) (at : ℕ) (c : C
   pub reached : Reached file size records work at c
   pub same-size : length work ≡ size
 
-pub going-start : (file : Bytes) (work : List ℕ) (size : ℕ) → length file ≤ 1048576 → 2 * length file ≤ length work → work ≡ replicate size 0 → Going file (length work) work 0 (record { types = 0; funs = 0; terms = 0; enums = 0; inputs = 0 })
+pub going-start : (file : Bytes) (work : List ℕ) → length file ≤ 1048576 → 2 * length file ≤ length work → Prepared work (length file / 6) → Going file (length work) work 0 (record { types = 0; funs = 0; terms = 0; enums = 0; inputs = 0 })
 unfolding countsOf types funs terms enums inputs collect
-going-start file work size g h zeros = record { records = []; reached = reached-start file work size _ g h zeros refl; same-size = refl }
+going-start file work g h P = record { records = []; reached = reached-start file work _ g h P refl; same-size = refl }
 
 module _ {file : Bytes} {size : ℕ} {work : List ℕ} {at : ℕ} {c : Counts} (G : Going file size work at c) where
   pub going-end : (work₀ : List ℕ) → length work₀ ≡ size → length file ≤ at → Fills file work₀ work (fill.Done c)

@@ -7,5 +7,6 @@ pub mod FirstByte
 pub mod Following
 pub mod Over
 pub mod Stepping
+pub mod Preparing
 pub mod Filling
 pub mod Checking

@@ -11,6 +11,7 @@ use Rattle.script_spec.specs.File.{TermFile, nextRecord}
 use Rattle.index.proofs.Cells.{capacity-fits}
 use Rattle.search.proofs.Entered.{indexed-none}
 use Rattle.term_check.specs.Promise.{countsOf, Accepts, Refuses}
+use Rattle.term_check.specs.Clearing.{Prepared}
 use Rattle.term_check.specs.Stepping.{Before, Stepped}
 use Rattle.term_check.specs.declared.Counts.{Counts}
 use Rattle.term_check.proofs.Records.{Rest, rest-start, rest-end, rest-bad, rest-got, checked-long, checked-narrow, checked-records}
@@ -22,10 +23,16 @@ pub record Reached (file : Bytes) (size : ℕ) (f : TermFile) (work : List ℕ) 
   pub rest : Rest file f at
   pub within : at ≤ length file
 
-pub reached-start : (file : Bytes) (work : List ℕ) (size : ℕ) (c : Counts) → length file ≤ 1048576 → 2 * length file ≤ length work → work ≡ replicate size 0 → c ≡ countsOf [] → Reached file (length work) [] work 0 c
-reached-start file work size c short room zeros e =
+pub reached-start : (file : Bytes) (work : List ℕ) (c : Counts) → length file ≤ 1048576 → 2 * length file ≤ length work → Prepared work (length file / 6) → c ≡ countsOf [] → Reached file (length work) [] work 0 c
+reached-start file work c short room P e =
     record {
-      before = record { short = short; indexed = indexed-none file work (length file / 6) size (omega (arith, capacity-fits (length file))) (omega (arith, capacity-fits (length file))) zeros; counts = e; places = omega arith };
+      before =
+          record {
+            short = short;
+            indexed = indexed-none file work (length file / 6) (omega (arith, capacity-fits (length file))) (omega (arith, capacity-fits (length file))) (P .no-lists) (P .no-slots);
+            counts = e;
+            places = omega arith;
+          };
       room = room;
       rest = rest-start file;
       within = omega arith;
