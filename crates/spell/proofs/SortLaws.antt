@@ -1,16 +1,14 @@
--- The sort of a type from its entry: by cases on the entry, and by what the index and the names in memory say.
+-- What a type stands over by its mark, and the sort of a type: by cases on its entry, and by what the index and the names in memory say.
 -- Assumes nothing.
-use mathlib.Core.Path.{_≡_, refl, sym, ap, subst}
+use mathlib.Core.Path.{_≡_, refl, sym, ap, _∙_, subst}
 use mathlib.Core.Bool.{Bool, true, false}
 use mathlib.Core.List.{List, [], _∷_, _++_, map}
 use mathlib.Core.Option.{Option, none, some}
 use Prim.Native.Nat.{ℕ, _<_, _≤_}
 use native.Mathlib.Omega.{arith}
-use lib.ListN.{length}
-use package.types.Run.{OneOf, miss}
-use denote.Enum.Declared.{tagOf}
+use lib.ListN.{length, getD}
 use Rattle.script_spec.specs.Base.{Bytes, bytes, place, joined}
-use Rattle.script_spec.specs.Tree.{Ty, node, nil, forest, Bool·, eqTy, datatype, datatypeMark}
+use Rattle.script_spec.specs.Tree.{Ty, TypeMark, node, nil, forest, Bool·, Option·, Set·, eqTy, datatype, datatypeMark}
 use Rattle.script_spec.specs.Fields as fields
 use Rattle.script_spec.specs.Fields.{Entry}
 use Rattle.script_spec.specs.File.{TermFile, types, typeAt}
@@ -21,21 +19,51 @@ use Rattle.script_spec.specs.Walk as walk
 use Rattle.writer.specs.Writing.{Appends}
 use Rattle.writer.proofs.Laws.{_then_, says}
 use Rattle.index.specs.Cells.{cell, typeOffset, typeFirst}
-use Rattle.index.specs.First.{All, Below, InRange}
-use Rattle.index.specs.Standing.{bodyAt}
+use Rattle.index.specs.First.{All, Below}
+use Rattle.index.specs.Standing.{markAt, bodyAt, entryAt}
 use Rattle.index.specs.Meaning.{Index, counted}
 use Rattle.naming.specs.Naming.{typeName, nameAt, placeOf}
 use Rattle.naming.proofs.Names.{place-type}
-use Rattle.entry.specs.Types.{typeSaid, TypeAt}
-use Rattle.entry.proofs.types.TypeEntry.{the-type}
+use Rattle.record_rules.specs.Marks.{typeBytes, markOf}
+use Rattle.record_rules.proofs.Marks.{entry-mark}
+use Rattle.entry.specs.Types.{typeSaid, TypeAt, PartAt}
 use Rattle.entry.specs.declared.types.TypeEntry.{TypeEntry}
 use Rattle.entry.specs.declared.types.TypeEntry.the-variants as entry
 use Rattle.entry.proofs.Rows.{type-stands}
-use Rattle.spell.specs.Sorts.{overOf, opened, plainSort, SpellsSort}
+use Rattle.entry.proofs.TypeEntries.{under, type-option, type-set, type-at}
+use Rattle.spell.specs.Sorts.{overMark, overSaid, OverAt, opened, plainSort, SpellsSort}
+use Rattle.spell.specs.declared.sorts.Over.{Over}
 use Rattle.spell.specs.declared.sorts.Over.the-variants as over
 
-never : {A : Type 0} → _≡_ {A = ℕ} 0 1 → A
-never h = absurd (omega arith)
+-- ---- what a type stands over
+
+module _ (file : Bytes) (o : ℕ) {l : ℕ} (i : l ≡ getD (markAt file o) 1 0) where
+  pub over-set : {n : ℕ} → l ≡ 67 → PartAt file o n → OverAt file o (over.Part true n)
+  unfolding overSaid overMark typeSaid bytes
+  over-set h P = record { go = λ m rs g. let x = type-at i refl (under h (type-set refl)) .go m rs g in let e : m ≡ Set· = cc in (e, P .set rs (rw e at g)) }
+
+  pub over-option : {n : ℕ} → l ≡ 79 → PartAt file o n → OverAt file o (over.Part false n)
+  unfolding overSaid overMark typeSaid bytes
+  over-option h P = record { go = λ m rs g. let x = type-at i refl (under h (type-option refl)) .go m rs g in let e : m ≡ Option· = cc in (e, P .option rs (rw e at g)) }
+
+  -- any other second byte
+  over-letter : {m : TypeMark} {rs : List ℕ} (set : Bool) → entryAt file o ≡ some (fields.type m rs) → m ≡ overMark set → l ≡ getD (typeBytes (overMark set)) 1 0
+  unfolding entryAt markOf
+  over-letter set g e = i ∙ ap (λ (s : Bytes). getD s 1 0) (entry-mark (markAt file o) (bodyAt file o) g) ∙ ap (λ (m : TypeMark). getD (typeBytes m) 1 0) e
+
+  pub over-nothing : (l ≡ 67 → ⊥) → (l ≡ 79 → ⊥) → OverAt file o over.Nothing
+  unfolding overSaid overMark typeBytes bytes
+  over-nothing c p = record { go = λ m rs g set e. other set (over-letter set g e) }
+    where
+      other : (set : Bool) → l ≡ getD (typeBytes (overMark set)) 1 0 → ⊥
+      other true = c
+      other false = p
+
+-- at the same offset
+pub over-at : {file : Bytes} {o o′ : ℕ} {r : Over} → o ≡ o′ → OverAt file o r → OverAt file o′ r
+over-at {file} {r = r} e B = subst (λ (n : ℕ). OverAt file n r) e B
+
+-- ---- sorts
 
 -- the type that an entry names
 unfoldable treeOf : TermFile → Entry → Ty
@@ -45,83 +73,60 @@ treeOf f (fields.func id a r) = node Bool· nil
 treeOf f (fields.term m rs) = node Bool· nil
 treeOf f (fields.input n) = node Bool· nil
 
+-- an entry that is no set and no option
+abbrev Alone : Entry → Type 0
+Alone e = (set : Bool) (rs : List ℕ) → e ≡ fields.type (overMark set) rs → ⊥
+
 module _ (f : TermFile) (S : State) (body : Bytes) where
   -- a type that stands over no part
   abbrev PlainIs : TypeEntry → ℕ → Option Entry → Type 0
   PlainIs r name none = Unit {0}
-  PlainIs r name (some e) = place (eqTy (treeOf f e)) (S .types) ≡ placeOf name → plainSort r name ≡ sort (names S) (treeOf f e)
+  PlainIs r name (some e) = Alone e → place (eqTy (treeOf f e)) (S .types) ≡ placeOf name → plainSort r name ≡ sort (names S) (treeOf f e)
 
-  plain-is : (r : TypeEntry) (name : ℕ) → overOf r ≡ over.Nothing → PlainIs r name (typeSaid body r)
-  unfolding overOf typeSaid plainSort treeOf sort sorts sortFrom datatypeSort names walk.typeName datatype datatypeMark letter
-  plain-is entry.Bool name o = λ h. refl
-  plain-is entry.String name o = λ h. refl
-  plain-is (entry.BitVec n) name o = λ h. refl
-  plain-is (entry.Option n) name o = never (cc)
-  plain-is (entry.Set n) name o = never (cc)
-  plain-is (entry.Entity p) name o = λ h. ap (numbered (bytes "E")) (sym h)
-  plain-is (entry.Ext x) name o = λ h. refl
-  plain-is (entry.Record n) name o = λ h. ap (numbered (bytes "R")) (sym h)
-  plain-is entry.Unreadable name o = tt
+  plain-is : (r : TypeEntry) (name : ℕ) → PlainIs r name (typeSaid body r)
+  unfolding overMark typeSaid plainSort treeOf sort sorts sortFrom datatypeSort names walk.typeName datatype datatypeMark letter
+  plain-is entry.Bool name = λ o h. refl
+  plain-is entry.String name = λ o h. refl
+  plain-is (entry.BitVec n) name = λ o h. refl
+  plain-is (entry.Option n) name = λ o h. absurd (o false (n ∷ []) refl)
+  plain-is (entry.Set n) name = λ o h. absurd (o true (n ∷ []) refl)
+  plain-is (entry.Entity p) name = λ o h. ap (numbered (bytes "E")) (sym h)
+  plain-is (entry.Ext x) name = λ o h. refl
+  plain-is (entry.Record n) name = λ o h. ap (numbered (bytes "R")) (sym h)
+  plain-is entry.Unreadable name = tt
 
-  -- a type that stands over a part, which is below t where all parts are
-  abbrev OverIs : ℕ → Bool → ℕ → Option Entry → Type 0
-  OverIs t set p none = Unit {0}
-  OverIs t set p (some e) = (opened set ++ (sort (names S) (typeAt f p) ++ bytes ")") ≡ sort (names S) (treeOf f e)) × (InRange (counted t 0 0) e → p < t)
+-- a type that stands over a part
+over-sort : (f : TermFile) (S : State) (set : Bool) (p : ℕ) → opened set ++ (sort (names S) (typeAt f p) ++ bytes ")") ≡ sort (names S) (node (overMark set) (forest (map (typeAt f) (p ∷ []))))
+unfolding overMark opened sort sorts sortFrom headed spaced joined forest bytes
+over-sort f S true p = refl
+over-sort f S false p = refl
 
-  over-is : (t : ℕ) (r : TypeEntry) (set : Bool) (p : ℕ) → overOf r ≡ over.Part set p → OverIs t set p (typeSaid body r)
-  unfolding overOf typeSaid opened treeOf sort sorts sortFrom headed spaced joined forest bytes InRange Below All counted
-  over-is t entry.Bool set p o = never (cc)
-  over-is t entry.String set p o = never (cc)
-  over-is t (entry.BitVec n) set p o = never (cc)
-  over-is t (entry.Option n) set p o = let e : n ≡ p = cc in let b : set ≡ false = cc in (rw (b, e), λ h. rw e at (h .0))
-  over-is t (entry.Set n) set p o = let e : n ≡ p = cc in let b : set ≡ true = cc in (rw (b, e), λ h. rw e at (h .0))
-  over-is t (entry.Entity q) set p o = never (cc)
-  over-is t (entry.Ext x) set p o = never (cc)
-  over-is t (entry.Record n) set p o = never (cc)
-  over-is t entry.Unreadable set p o = tt
-
-module _ {file : Bytes} {work : List ℕ} {k t : ℕ} {r : TypeEntry} (T : TypeAt file (cell work k typeOffset t) r) where
-  pub spells-plain : {name limit at q : ℕ} {x y : Bytes} → overOf r ≡ over.Nothing → name ≡ nameAt work k typeFirst typeName t
-      → Appends limit x at y q (plainSort r name) → SpellsSort file work k t limit x at y q
-  unfolding treeOf
-  spells-plain {name} o e A = record {
+module _ {file : Bytes} {work : List ℕ} {k t : ℕ} {x : Over} (B : OverAt file (cell work k typeOffset t) x) where
+  pub spells-plain : {r : TypeEntry} {name limit at q : ℕ} {y z : Bytes} → x ≡ over.Nothing → TypeAt file (cell work k typeOffset t) r → name ≡ nameAt work k typeFirst typeName t
+      → Appends limit y at z q (plainSort r name) → SpellsSort file work k t limit y at z q
+  unfolding treeOf overSaid
+  spells-plain {r} {name} told T e A = record {
     go = λ f S I N l.
         type-stands (I .type-row t l .stands) (λ m rs reads below tree.
-        let is : PlainIs f S (bodyAt file (cell work k typeOffset t)) r name (some (fields.type m rs)) =
-        subst (λ (z : Option Entry). PlainIs f S (bodyAt file (cell work k typeOffset t)) r name z) (T .go m rs reads) (plain-is f S (bodyAt file (cell work k typeOffset t)) r name o) in
-        says (rw tree at (is (rw (tree, e) (place-type I t N l)))) A);
+        let body = bodyAt file (cell work k typeOffset t) in
+        let alone = subst (OverAt file (cell work k typeOffset t)) told B .go m rs reads in
+        let is : PlainIs f S body r name (some (fields.type m rs)) = subst (λ (z : Option Entry). PlainIs f S body r name z) (T .go m rs reads) (plain-is f S body r name) in
+        says (rw tree at (is (λ set ps q. alone set (cc)) (rw (tree, e) (place-type I t N l)))) A);
   }
 
-  module _ {set : Bool} {p : ℕ} (o : overOf r ≡ over.Part set p) where
+  module _ {set : Bool} {p : ℕ} (told : x ≡ over.Part set p) where
     over-here : {A : Type 0} (f : TermFile) (S : State) → Index file f work k → t < length (types f)
         → (opened set ++ (sort (names S) (typeAt f p) ++ bytes ")") ≡ sort (names S) (typeAt f t) → p < t → A) → A
-    unfolding treeOf InRange
+    unfolding overSaid Below All counted
     over-here f S I l next =
         type-stands (I .type-row t l .stands) (λ m rs reads below tree.
-        let is : OverIs f S (bodyAt file (cell work k typeOffset t)) t set p (some (fields.type m rs)) =
-        subst (λ (z : Option Entry). OverIs f S (bodyAt file (cell work k typeOffset t)) t set p z) (T .go m rs reads) (over-is f S (bodyAt file (cell work k typeOffset t)) t r set p o) in
-        next (rw tree at (is .0)) (is .1 below))
+        let b = subst (OverAt file (cell work k typeOffset t)) told B .go m rs reads in
+        next (over-sort f S set p ∙ ap (sort (names S)) (rw (b .0, b .1) at tree)) ((rw (b .1) at below) .0))
 
     -- a part that has no lower number does not occur
-    pub spells-never : {limit at : ℕ} {x : Bytes} → t ≤ p → SpellsSort file work k t limit x at x at
+    pub spells-never : {limit at : ℕ} {y : Bytes} → t ≤ p → SpellsSort file work k t limit y at y at
     spells-never h = record { go = λ f S I N l. over-here f S I l (λ e b. absurd (omega arith)) }
 
-    pub spells-over : {limit at a b q : ℕ} {x y z w : Bytes} → Appends limit x at y a (opened set) → SpellsSort file work k p limit y a z b → Appends limit z b w q (bytes ")")
-        → SpellsSort file work k t limit x at w q
-    spells-over A P B = record { go = λ f S I N l. over-here f S I l (λ e b. says e (A then P .go f S I N (omega arith) then B)) }
-
--- the types that stand over no part, by their places among the entries
-abbrev tags : List ℕ
-tags = 0 ∷ 1 ∷ 2 ∷ 5 ∷ 6 ∷ 7 ∷ 8 ∷ []
-
-pub over-nothing : (r : TypeEntry) → OneOf tags (tagOf the-type r) → over.Nothing ≡ overOf r
-unfolding overOf
-over-nothing entry.Bool h = refl
-over-nothing entry.String h = refl
-over-nothing (entry.BitVec n) h = refl
-over-nothing (entry.Option n) h = absurd (miss tags 3 tt h)
-over-nothing (entry.Set n) h = absurd (miss tags 4 tt h)
-over-nothing (entry.Entity p) h = refl
-over-nothing (entry.Ext x) h = refl
-over-nothing (entry.Record n) h = refl
-over-nothing entry.Unreadable h = refl
+    pub spells-over : {limit at a b q : ℕ} {u y z w : Bytes} → Appends limit u at y a (opened set) → SpellsSort file work k p limit y a z b → Appends limit z b w q (bytes ")")
+        → SpellsSort file work k t limit u at w q
+    spells-over A P C = record { go = λ f S I N l. over-here f S I l (λ e b. says e (A then P .go f S I N (omega arith) then C)) }

@@ -1,14 +1,19 @@
 -- The sorts of types by their entries, and what writing a sort promises.
 -- Assumes nothing.
 use Prim.Native.Nat.{ℕ, _<_}
+use mathlib.Core.Path.{_≡_}
 use mathlib.Core.Bool.{Bool, true, false}
-use mathlib.Core.List.{List, []}
+use mathlib.Core.List.{List, [], _∷_}
+use mathlib.Core.Option.{some}
 use lib.ListN.{length}
 use Rattle.script_spec.specs.Base.{Bytes, bytes}
+use Rattle.script_spec.specs.Tree.{TypeMark, Option·, Set·}
+use Rattle.script_spec.specs.Fields.{type}
 use Rattle.script_spec.specs.File.{TermFile, types, typeAt}
 use Rattle.script_spec.specs.Spelling.{sort, extName, bitVecSort}
 use Rattle.script_spec.specs.Walk.{State, numbered, names}
 use Rattle.writer.specs.Writing.{Appends}
+use Rattle.index.specs.Standing.{entryAt}
 use Rattle.index.specs.Meaning.{Index}
 use Rattle.naming.specs.Naming.{placeOf, Numbers}
 use Rattle.entry.specs.Types.{extTypeOf}
@@ -17,17 +22,19 @@ use Rattle.entry.specs.declared.types.TypeEntry.the-variants as entry
 use Rattle.spell.specs.declared.sorts.Over.{Over}
 use Rattle.spell.specs.declared.sorts.Over.the-variants as over
 
--- the part that a type stands over
-unfoldable pub overOf : TypeEntry → Over
-overOf entry.Bool = over.Nothing
-overOf entry.String = over.Nothing
-overOf (entry.BitVec n) = over.Nothing
-overOf (entry.Option n) = over.Part false n
-overOf (entry.Set n) = over.Part true n
-overOf (entry.Entity p) = over.Nothing
-overOf (entry.Ext x) = over.Nothing
-overOf (entry.Record n) = over.Nothing
-overOf entry.Unreadable = over.Nothing
+-- the mark of a set, or else of an option
+unfoldable pub overMark : Bool → TypeMark
+overMark true = Set·
+overMark false = Option·
+
+-- what a type's record has where the type stands over this
+unfoldable pub overSaid : TypeMark → List ℕ → Over → Type 0
+overSaid m rs (over.Part set n) = (m ≡ overMark set) × (rs ≡ n ∷ [])
+overSaid m rs over.Nothing = (set : Bool) → m ≡ overMark set → ⊥
+
+-- a record that is a type at an offset of a file stands over this
+pub record OverAt (file : Bytes) (offset : ℕ) (r : Over) : Type 0 where
+  pub go : (m : TypeMark) (rs : List ℕ) → entryAt file offset ≡ some (type m rs) → overSaid m rs r
 
 -- what stands before the part of a set, or else of an option
 unfoldable pub opened : Bool → Bytes

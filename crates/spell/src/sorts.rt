@@ -7,7 +7,7 @@ ghost use Rattle.writer.specs.Writing.{Appends};
 ghost use Rattle.index.specs.Cells.{cell, typeOffset, typeFirst};
 ghost use Rattle.naming.specs.Naming.{nameAt, typeName};
 ghost use Rattle.entry.specs.Types.{extTypeOf, TypeAt};
-ghost use Rattle.spell.specs.Sorts.{overOf, opened, plainSort, SpellsSort};
+ghost use Rattle.spell.specs.Sorts.{OverAt, opened, plainSort, SpellsSort};
 
 // What a type stands over: the part of a set, or else of an option, by its number.
 pub enum Over {
@@ -15,12 +15,14 @@ pub enum Over {
     Nothing,
 }
 
-fn stands_over(ty: TypeEntry) -> Over
-    ensures { λ r. ⌜ r ≡ overOf ty ⌝ }
+// What the type with number t stands over.
+fn stands_over(file: &[u8], work: &[u32], k: usize, t: u32) -> Over
+    ensures { λ r. ⌜ OverAt (now (file .entry)) (cell (now (work .entry)) k typeOffset t) r ⌝ }
 {
-    match ty {
-        TypeEntry::Set(n) => Over::Part(true, n),
-        TypeEntry::Option(n) => Over::Part(false, n),
+    let offset = index::get(work, k, index::TYPE_OFFSET, entry::wide(t));
+    match entry::letter_at(file, offset) {
+        b'C' => Over::Part(true, entry::types::part_at(file, offset)),
+        b'O' => Over::Part(false, entry::types::part_at(file, offset)),
         _ => Over::Nothing,
     }
 }
@@ -98,9 +100,11 @@ pub fn put_sort(
     ensures { λ r.
         ⌜ SpellsSort (now (file .entry)) (now (work .entry)) k t limit (now (out .entry)) at (now (out .exit)) r ⌝ }
 {
-    let ty = type_at(file, work, k, t);
-    match stands_over(ty) {
-        Over::Nothing => put_plain_sort(out, at, limit, ty, type_name(work, k, t)),
+    match stands_over(file, work, k, t) {
+        Over::Nothing => {
+            let ty = type_at(file, work, k, t);
+            put_plain_sort(out, at, limit, ty, type_name(work, k, t))
+        }
         Over::Part(set, part) => {
             if t <= part {
                 return at;

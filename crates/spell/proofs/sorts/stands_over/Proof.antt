@@ -1,18 +1,24 @@
--- `spell::sorts::stands_over` meets its contract: each type by its arm.
+-- `spell::sorts::stands_over` meets its contract: each letter by its arm.
 -- Assumes nothing.
-use Rattle.spell.specs.Sorts.{overOf}
-use Rattle.spell.proofs.SortLaws.{over-nothing}
+use mathlib.Core.Path.{_∙_}
+use Rattle.spell.proofs.SortLaws.{over-set, over-option, over-nothing, over-at}
 use borrow.Author.Needs.{needs}
 use Rattle.spell.proofs.sorts.stands_over.Statement.{statement}
 use Rattle.spell.proofs.sorts.stands_over.Tie as tie
 
 returns : tie.Need-returns
-unfolding overOf
-returns c = rw c.before.ty.given.1
+returns c = over-at (c.before.before.before.get.ensures ∙ (rw (c.before.before.before.before.wide.ensures .0))) (over-set _ _ c.before.before.letter-at.ensures c.before.match.keys1 c.part-at.ensures)
 
 returns-2 : tie.Need-returns-2
-unfolding overOf
-returns-2 c = rw c.before.ty2.given.1
+returns-2 c = over-at (c.before.before.before.get.ensures ∙ (rw (c.before.before.before.before.wide.ensures .0))) (over-option _ _ c.before.before.letter-at.ensures c.before.match.keys2 c.part-at2.ensures)
+
+returns-3 : tie.Need-returns-3
+returns-3 c = over-at (c.before.before.get.ensures ∙ (rw (c.before.before.before.wide.ensures .0))) (over-nothing _ _ c.before.letter-at.ensures (c.match.rest .0 .1) (c.match.rest .1))
 
 pub stands-over-spec : {M : Type 1} → statement M
-stands-over-spec = tie.close (tie.spec (λ c. search needs) (λ c. search needs) returns returns-2 (λ c. over-nothing _ c.match.keys3))
+stands-over-spec =
+    tie.close
+    (tie.spec (λ c κs. search needs) (λ c κs. search needs) (λ c κs. search needs) (λ c κs. search needs) (λ c κs. search needs)
+    returns
+    returns-2
+    returns-3)
