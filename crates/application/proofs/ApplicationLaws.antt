@@ -2,24 +2,27 @@
 -- Assumes nothing.
 use mathlib.Core.Path.{_≡_, refl, sym, ap, _∙_}
 use mathlib.Core.List.{List, [], _∷_, _++_}
-use Prim.Native.Nat.{ℕ, _-_, _*_, _^_, _%_, _<_, _≤_}
+use Prim.Native.Nat.{ℕ, _-_, _*_, _^_, _%_, _<_}
 use native.Mathlib.Omega.{arith}
 use lib.ListN.{length, take, drop}
 use package.types.Run.{OneOf, miss}
 use denote.Enum.Declared.{tagOf}
 use Rattle.script_spec.specs.Base.{Bytes, bytes}
-use Rattle.script_spec.specs.Tree.{Ty, Fun, Op, Enums, Mark, Forest, TypeMark, node, App, typesOf, Negation, ordinary, falsehood, comparison, negation}
-use Rattle.script_spec.specs.File.{TermFile, terms, termAt, namedOp, namedMark, members}
+use Rattle.script_spec.specs.Tree.{Ty, Fun, Op, Enums, Mark, Forest, TypeMark, node, App, typesOf, Negation, ordinary, comparison, negation}
+use Rattle.script_spec.specs.File.{TermFile, terms, enums, termAt, namedOp, namedMark, members}
 use Rattle.script_spec.specs.Command.{headed}
 use Rattle.script_spec.specs.Spelling as spelling
 use Rattle.script_spec.specs.Spelling.{Names, bitVec, pattern, application, negated, body}
-use Rattle.script_spec.specs.Walk.{names}
+use Rattle.script_spec.specs.Walk.{State, names}
 use Rattle.writer.specs.Writing.{Appends}
 use Rattle.writer.proofs.Laws.{_then_, says}
 use Rattle.bitvec.proofs.Powers.{power-whole}
 use Rattle.pattern.specs.Elements.{elements}
-use Rattle.index.specs.First.{All, Below, MarkInRange}
+use Rattle.index.specs.First.{MarkInRange}
 use Rattle.index.specs.Lists.{numberAt}
+use Rattle.index.specs.Meaning.{Index}
+use Rattle.index.proofs.Later.{below-more}
+use Rattle.naming.specs.Naming.{Numbers}
 use Rattle.operator.specs.Operators.{opOf}
 use Rattle.operator.specs.declared.Op as operator
 use Rattle.operator.specs.declared.Op.the-variants as op
@@ -27,12 +30,9 @@ use Rattle.operator.specs.declared.Pattern.{Pattern}
 use Rattle.operator.proofs.Op.{the-type}
 use Rattle.term_entry.specs.Terms.{childrenIn}
 use Rattle.term_entry.specs.declared.Children.{Children}
-use Rattle.query.specs.Negations.{negationSaid, NegationOf}
-use Rattle.query.specs.declared.Negated.{Negated}
-use Rattle.query.specs.declared.Negated.the-variants as answer
 use Rattle.term_parts.specs.Records.{TermIs}
 use Rattle.term_value.specs.Arguments.{atoms, SpellsArguments, SpellsClosed}
-use Rattle.application.specs.Applications.{typesAt, headOf, patternBytes, PatternIs, SpellsHead, SpellsApplied, SpellsOperator, SpellsComparison, SpellsLike, SpellsApplication}
+use Rattle.application.specs.Applications.{typesAt, headOf, patternBytes, PatternIs, SpellsHead, SpellsApplied, SpellsOperator, SpellsComparison, SpellsLike}
 use Rattle.term_value.proofs.ArgumentLaws.{headed-closed, headed-last}
 use Rattle.application.proofs.WidthLaws.{width-small}
 
@@ -115,36 +115,28 @@ app-is : (e : Enums) (ν : Names) (ty : Ty) (o : Op Fun) (ts : Forest Mark) (arg
 unfolding body spelling.bodyAt
 app-is e ν ty o ts args z h = ap (λ (z : Negation). negated z (application ν o (typesOf ts) args) args) h
 
-pub below-more : (a b : ℕ) → a ≤ b → (rs : List ℕ) → Below a rs → Below b rs
-unfolding Below All
-below-more a b l [] h = tt
-below-more a b l (n ∷ rs) h = (omega (arith, h .0), below-more a b l rs (h .1))
-
 -- an application from the children of its body
 app-here : {f : TermFile} {n t : ℕ} {o : Op ℕ} {rs : List ℕ} → TermIs f n (App t o) rs → (e : Enums) (ν : Names) (args : List Bytes) (z : Negation) → z ≡ negation (termAt f n)
     → negated z (application ν (namedOp f o) (typesAt f rs) args) args ≡ body e ν (termAt f n) args
 unfolding namedMark typesAt
 app-here T e ν args z h = app-is e ν _ _ _ args z (h ∙ ap negation (sym (T .tree))) ∙ ap (λ t. body e ν t args) (T .tree)
 
-module _ {file : Bytes} {work : List ℕ} {k many n : ℕ} {s : Bytes} {o : operator.Op} {c : Children} {limit at q : ℕ} {x y : Bytes} {r : Negated} (M : NegationOf file work k n r) where
-  pub application-false : r ≡ answer.Falsehood → Appends limit x at y q (bytes "false") → SpellsApplication file work k many n s o c limit x at y q
-  unfolding negationSaid negated
-  application-false e A = record { go = λ f S I N m l t T pat. says (app-here T (members f) (names S) _ falsehood (sym (ap negationSaid e) ∙ M .go f I l)) A }
+module _ {file : Bytes} {work : List ℕ} {k many n t : ℕ} {s : Bytes} {c : Children} {limit at q : ℕ} {x y : Bytes} where
+  -- the term with number n, an application, in full: by its operator
+  pub spells-ordinary : {o : operator.Op} → SpellsOperator file work k many s o c limit x at y q → (f : TermFile) (S : State) → Index file f work k → Numbers f work k S → many ≡ length (enums f)
+      → n < length (terms f) → TermIs f n (App t (opOf s o)) (childrenIn s c) → PatternIs s (opOf s o) → negation (termAt f n) ≡ ordinary
+      → Appends limit x at y q (body (members f) (names S) (termAt f n) (atoms f S (childrenIn s c)))
+  unfolding negated MarkInRange
+  spells-ordinary P f S I N m l T pat is =
+      says (app-here T (members f) (names S) _ ordinary (sym is)) (P .go f S I N m n (T .in-range .1) (below-more n (length (terms f)) (omega arith) _ (T .below)) pat)
 
-  pub application-ordinary : r ≡ answer.Ordinary → SpellsOperator file work k many s o c limit x at y q → SpellsApplication file work k many n s o c limit x at y q
-  unfolding negationSaid negated MarkInRange
-  application-ordinary e P = record {
-    go = λ f S I N m l t T pat.
-        says (app-here T (members f) (names S) _ ordinary (sym (ap negationSaid e) ∙ M .go f I l)) (P .go f S I N m n (T .in-range .1) (below-more n (length (terms f)) (omega arith) _ (T .below)) pat);
-  }
-
-  pub application-comparison : {w : ℕ} → r ≡ answer.Comparison w → SpellsComparison file work k many s c limit x at y q w → SpellsApplication file work k many n s o c limit x at y q
-  unfolding negationSaid negated
-  application-comparison {w} e P = record {
-    go = λ f S I N m l t T pat.
-        let is : comparison w ≡ negation (termAt f n) = sym (ap negationSaid e) ∙ M .go f I l in
-        let below = below-more n (length (terms f)) (omega arith) _ (T .below) in
-        let small : w - 1 < 128 = omega (arith, width-small I below T (sym is)) in
-        says (ap (λ (v : ℕ). headed (bytes "=") (atoms f S (childrenIn s c) ++ (bitVec w v ∷ []))) (power-whole (w - 1) small) ∙ app-here T (members f) (names S) _ (comparison w) is)
-        (P .go f S I N m below);
-  }
+  -- or as a comparison
+  pub spells-compared : {w : ℕ} {o : Op ℕ} → SpellsComparison file work k many s c limit x at y q w → (f : TermFile) (S : State) → Index file f work k → Numbers f work k S → many ≡ length (enums f)
+      → n < length (terms f) → TermIs f n (App t o) (childrenIn s c) → negation (termAt f n) ≡ comparison w
+      → Appends limit x at y q (body (members f) (names S) (termAt f n) (atoms f S (childrenIn s c)))
+  unfolding negated
+  spells-compared {w} P f S I N m l T is =
+      let below = below-more n (length (terms f)) (omega arith) _ (T .below) in
+      let small : w - 1 < 128 = omega (arith, width-small I below T is) in
+      says (ap (λ (v : ℕ). headed (bytes "=") (atoms f S (childrenIn s c) ++ (bitVec w v ∷ []))) (power-whole (w - 1) small) ∙ app-here T (members f) (names S) _ (comparison w) (sym is))
+      (P .go f S I N m below)

@@ -1,15 +1,15 @@
 -- The heads of applications, and what writing an application promises.
 -- Assumes nothing.
-use Prim.Native.Nat.{ℕ, _+_, _-_, _*_, _^_, _%_, _<_}
+use Prim.Native.Nat.{ℕ, _-_, _*_, _^_, _%_}
 use mathlib.Core.Path.{_≡_}
 use mathlib.Core.List.{List, [], _∷_, _++_, map}
 use lib.ListN.{length, take, drop}
 use Rattle.script_spec.specs.Base.{Bytes, bytes}
-use Rattle.script_spec.specs.Tree.{Fun, TypeMark, Forest, forest, typesOf, Op, Plain, Ext, RecordGet, StringLike, Uuf, ZeroExtend, App}
-use Rattle.script_spec.specs.File.{TermFile, types, funs, terms, enums, termAt, namedOp, members}
+use Rattle.script_spec.specs.Tree.{Fun, TypeMark, Forest, forest, typesOf, Op, Plain, Ext, RecordGet, StringLike, Uuf, ZeroExtend}
+use Rattle.script_spec.specs.File.{TermFile, types, funs, terms, enums, termAt, namedOp}
 use Rattle.script_spec.specs.Text.{decimal}
 use Rattle.script_spec.specs.Command.{headed}
-use Rattle.script_spec.specs.Spelling.{Names, plainName, extOpName, bitVec, pattern, selector, application, body}
+use Rattle.script_spec.specs.Spelling.{Names, plainName, extOpName, bitVec, pattern, selector, application}
 use Rattle.script_spec.specs.Walk.{State, names}
 use Rattle.writer.specs.Writing.{Appends}
 use Rattle.pattern.specs.Elements.{elements}
@@ -21,7 +21,6 @@ use Rattle.operator.specs.Operators.{opOf}
 use Rattle.operator.specs.declared.Op as operator
 use Rattle.term_entry.specs.Terms.{childrenIn}
 use Rattle.term_entry.specs.declared.Children.{Children}
-use Rattle.term_parts.specs.Records.{TermIs}
 use Rattle.term_value.specs.Arguments.{atoms, SpellsOver}
 
 -- the types of the terms with these numbers
@@ -81,9 +80,3 @@ module _ (file : Bytes) (work : List ℕ) (k many : ℕ) (body : Bytes) where
     -- the match with the pattern of the body is written
     abbrev pub SpellsLike : Type 0
     SpellsLike = SpellsOver file work k many body c limit x at y r (λ f S xs. headed (bytes "str.in_re") (xs ++ (pattern (elements (patternBytes body)) ∷ [])))
-
--- the term with number n, an application, is written in full
-pub record SpellsApplication (file : Bytes) (work : List ℕ) (k many n : ℕ) (s : Bytes) (o : operator.Op) (c : Children) (limit : ℕ) (x : Bytes) (at : ℕ) (y : Bytes) (r : ℕ) : Type 0 where
-  pub go : (f : TermFile) (S : State) → Index file f work k → Numbers f work k S → many ≡ length (enums f) → n < length (terms f)
-      → (t : ℕ) → TermIs f n (App t (opOf s o)) (childrenIn s c) → PatternIs s (opOf s o)
-      → Appends limit x at y r (body (members f) (names S) (termAt f n) (atoms f S (childrenIn s c)))

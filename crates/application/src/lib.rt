@@ -1,7 +1,6 @@
 // Applications of operators.
 use operator::Op;
 use query::Attribute;
-use query::Negated;
 use term_entry::Children;
 use term_value::arguments;
 ghost use mathlib.Core.List.{[], _∷_};
@@ -9,7 +8,7 @@ ghost use Rattle.script_spec.specs.Base.{bytes};
 ghost use Rattle.script_spec.specs.Text.{decimal};
 ghost use Rattle.script_spec.specs.Command.{headed};
 ghost use Rattle.writer.specs.Writing.{Appends};
-ghost use Rattle.application.specs.Applications.{SpellsSelector, SpellsHead, SpellsApplied, SpellsOperator, SpellsComparison, SpellsLike, SpellsApplication};
+ghost use Rattle.application.specs.Applications.{SpellsSelector, SpellsHead, SpellsApplied, SpellsOperator, SpellsComparison, SpellsLike};
 
 // Writes the selector of an attribute; the type of the first child of a body decides.
 fn put_selector(
@@ -97,7 +96,7 @@ fn put_applied(
 }
 
 // Writes the comparison of the child of a body with the least signed number of a width.
-fn put_comparison(
+pub fn put_comparison(
     file: &[u8],
     work: &[u32],
     k: usize,
@@ -144,7 +143,7 @@ fn put_like(
 }
 
 // Writes an application of an operator to the children of a body.
-fn put_operator(
+pub fn put_operator(
     file: &[u8],
     work: &[u32],
     k: usize,
@@ -162,29 +161,5 @@ fn put_operator(
     match op {
         Op::StringLike(_) => put_like(file, work, k, many, out, at, limit, body, c),
         _ => put_applied(file, work, k, many, out, at, limit, body, op, c),
-    }
-}
-
-// Writes the term with number n, an application of an operator to the children of its body, in full.
-pub fn put_application(
-    file: &[u8],
-    work: &[u32],
-    k: usize,
-    many: u32,
-    out: &mut [u8],
-    at: usize,
-    limit: usize,
-    n: u32,
-    body: &[u8],
-    op: Op,
-    c: Children,
-) -> usize
-    ensures { λ r.
-        ⌜ SpellsApplication (now (file .entry)) (now (work .entry)) k many n (now (body .entry)) op c limit (now (out .entry)) at (now (out .exit)) r ⌝ }
-{
-    match query::negation_of(file, work, k, n) {
-        Negated::Falsehood => writer::put_at(out, at, limit, b"false"),
-        Negated::Comparison(w) => put_comparison(file, work, k, many, out, at, limit, body, c, w),
-        Negated::Ordinary => put_operator(file, work, k, many, out, at, limit, body, op, c),
     }
 }

@@ -41,7 +41,8 @@ fn type_at(file: &[u8], work: &[u32], k: usize, t: u32) -> TypeEntry
     entry::types::type_at(file, offset)
 }
 
-fn is_nego(op: Op) -> bool
+// Whether an operator is `Bvnego`.
+pub fn is_nego(op: Op) -> bool
     ensures { λ r. ⌜ IsNego op r ⌝ }
 {
     match op {

@@ -11,7 +11,7 @@ use package.types.Run.{OneOf, miss}
 use denote.Enum.Declared.{tagOf}
 use Rattle.script_spec.specs.Base.{Bytes, bytes, isSome, joined}
 use Rattle.script_spec.specs.Utf8.{isUtf8}
-use Rattle.script_spec.specs.Tree.{Ty, Tm, TermMark, Enums, Forest, Mark, node, nil, forest, children, Entity, Set, Record, enumOf, typeOf, typeFrom}
+use Rattle.script_spec.specs.Tree.{Ty, Tm, TermMark, Enums, Forest, Mark, node, nil, forest, children, Entity, Some, Set, Record, enumOf, typeOf, typeFrom}
 use Rattle.script_spec.specs.File as files
 use Rattle.script_spec.specs.File.{TermFile, terms, typeAt, termAt, namedMark, members}
 use Rattle.script_spec.specs.Text.{literal}
@@ -25,12 +25,12 @@ use Rattle.utf8.specs.Decoding.{points}
 use Rattle.utf8.proofs.Laws.{utf8-points}
 use Rattle.field.specs.Answers.{spanned}
 use Rattle.field.specs.declared.Span.{Span}
-use Rattle.operator.specs.declared.Op.{Op}
 use Rattle.index.specs.Cells.{cell, termOffset}
 use Rattle.index.specs.First.{All, Below, MarkInRange}
 use Rattle.index.specs.Standing as standing
 use Rattle.index.specs.Meaning.{Index, counted}
 use Rattle.naming.specs.Naming.{Numbers}
+use Rattle.index.proofs.Later.{below-more}
 use Rattle.index.proofs.Rules.{trees-forest}
 use Rattle.spell.specs.Sorts.{SpellsSort}
 use Rattle.term_entry.specs.Terms.{valueOf, childrenIn, termSaid, TermAt}
@@ -49,10 +49,7 @@ use Rattle.atom.specs.Atoms.{SpellsAtom}
 use Rattle.atom.proofs.AtomLaws.{inlined-is}
 use Rattle.term_value.specs.Arguments.{atoms}
 use Rattle.term_value.specs.Values.{sortAt, SpellsConstant, SpellsSome, SpellsSet, SpellsRecord}
-use Rattle.application.specs.Applications.{SpellsApplication}
-use Rattle.application.proofs.ApplicationLaws.{below-more}
-use Rattle.application.proofs.PatternLaws.{pattern-here}
-use Rattle.term_line.specs.Lines.{isCollection, fullSpelling, SpellsConstructed, SpellsEntityBody, SpellsBody}
+use Rattle.term_line.specs.Lines.{isCompound, fullSpelling, SpellsConstructed, SpellsEntityBody, SpellsBody}
 
 -- ---- entities
 
@@ -107,6 +104,11 @@ args-are : {f : TermFile} {n : ℕ} {m : TermMark ℕ ℕ} {rs : List ℕ} → T
 unfolding atoms children
 args-are {f} {rs = rs} T S = ap (map (atom (members f) (names S))) (sym (trees-forest (map (termAt f) rs)) ∙ ap children (T .tree))
 
+-- what is written over them is written in full
+pub spells-full : {f : TermFile} {n : ℕ} {m : TermMark ℕ ℕ} {rs : List ℕ} {limit at q : ℕ} {x y : Bytes} → TermIs f n m rs → (S : State)
+    → Appends limit x at y q (body (members f) (names S) (termAt f n) (atoms f S rs)) → Appends limit x at y q (fullSpelling f S n)
+spells-full {f} T S A = says (ap (body (members f) (names S) (termAt f _)) (args-are T S)) A
+
 -- what is written for a mark over its children
 body-is : {f : TermFile} {n : ℕ} {m : TermMark ℕ ℕ} {rs : List ℕ} → TermIs f n m rs → (S : State)
     → body (members f) (names S) (node (namedMark f m) (forest (map (termAt f) rs))) (atoms f S rs) ≡ body (members f) (names S) (termAt f n) (map (atom (members f) (names S)) (children (termAt f n)))
@@ -128,6 +130,11 @@ record-is : {f : TermFile} {n : ℕ} {ns : List Bytes} {rs : List ℕ} → TermI
 unfolding namedMark body spelling.bodyAt
 record-is {f} {rs = rs} T S = ap (λ (ty : Bytes). recordValue ty (atoms f S rs)) (sort-is T S) ∙ body-is T S
 
+pub spells-some : {file : Bytes} {work : List ℕ} {k many n i limit at q : ℕ} {x y : Bytes} → SpellsSome file work k many i limit x at y q → (f : TermFile) (S : State)
+    → Index file f work k → Numbers f work k S → many ≡ length (files.enums f) → n < length (terms f) → TermIs f n Some (i ∷ []) → Appends limit x at y q (fullSpelling f S n)
+unfolding namedMark body spelling.bodyAt atoms Below All
+spells-some P f S I N m l is = says (body-is is S) (P .go f S I N m (omega (arith, is .below .0)))
+
 module _ {file : Bytes} {work : List ℕ} {k many n limit at q : ℕ} {s x y : Bytes} {c : Children} where
   pub spells-set : SpellsSet file work k many n s c limit x at y q → {t : ℕ} (f : TermFile) (S : State) → Index file f work k → Numbers f work k S → many ≡ length (files.enums f) → n < length (terms f)
       → TermIs f n (Set t) (childrenIn s c) → Appends limit x at y q (fullSpelling f S n)
@@ -137,13 +144,13 @@ module _ {file : Bytes} {work : List ℕ} {k many n limit at q : ℕ} {s x y : B
       → TermIs f n (Record ns) (childrenIn s c) → Appends limit x at y q (fullSpelling f S n)
   spells-record P f S I N m l is = says (record-is is S) (P .go f S I N m l (below-more n (length (terms f)) (omega arith) _ (is .below)))
 
--- the terms that are written the same way everywhere, and sets and records, by their places among the entries
+-- the terms that are written the same way everywhere, and those that are compound, by their places among the entries
 abbrev same : List ℕ
-same = 0 ∷ 1 ∷ 2 ∷ 3 ∷ 8 ∷ 9 ∷ 11 ∷ []
+same = 0 ∷ 1 ∷ 2 ∷ 3 ∷ 7 ∷ 8 ∷ 9 ∷ 10 ∷ 11 ∷ []
 
 same-body : (e : Enums) (ν : Names) (f : TermFile) (n : ℕ) (s : Bytes) (args : List Bytes) (r : TermEntry) → OneOf same (tagOf the-type r) → EntryIs f n (termSaid s r)
-    → isCollection (termAt f n) ≡ false → atom e ν (termAt f n) ≡ body e ν (termAt f n) args
-unfolding termSaid namedMark forest atom inlined body spelling.bodyAt isCollection
+    → isCompound (termAt f n) ≡ false → atom e ν (termAt f n) ≡ body e ν (termAt f n) args
+unfolding termSaid namedMark forest atom inlined body spelling.bodyAt isCompound
 same-body e ν f n s args (entry.Var p t) h i plain = subst (λ (t : Tm). atom e ν t ≡ body e ν t args) (i .tree) refl
 same-body e ν f n s args (entry.BoolLit b) h i plain = subst (λ (t : Tm). atom e ν t ≡ body e ν t args) (i .tree) refl
 same-body e ν f n s args (entry.BitVecLit w v) h i plain = subst (λ (t : Tm). atom e ν t ≡ body e ν t args) (i .tree) refl
@@ -151,10 +158,10 @@ same-body e ν f n s args (entry.StringLit p) h i plain = subst (λ (t : Tm). at
 same-body e ν f n s args (entry.Entity t p) h i plain = absurd (miss same 4 tt h)
 same-body e ν f n s args (entry.ExtLit v) h i plain = absurd (miss same 5 tt h)
 same-body e ν f n s args (entry.None t) h i plain = absurd (miss same 6 tt h)
-same-body e ν f n s args (entry.Some m) h i plain = absurd (miss same 7 tt h)
-same-body e ν f n s args (entry.Set t c) h i plain = let g : true ≡ false = ap isCollection (i .tree) ∙ plain in let z : _≡_ {A = ℕ} 0 1 = cc in absurd (omega arith)
-same-body e ν f n s args (entry.Record c) h i plain = let g : true ≡ false = ap isCollection (i .tree) ∙ plain in let z : _≡_ {A = ℕ} 0 1 = cc in absurd (omega arith)
-same-body e ν f n s args (entry.App t o c) h i plain = absurd (miss same 10 tt h)
+same-body e ν f n s args (entry.Some m) h i plain = let g : true ≡ false = ap isCompound (i .tree) ∙ plain in let z : _≡_ {A = ℕ} 0 1 = cc in absurd (omega arith)
+same-body e ν f n s args (entry.Set t c) h i plain = let g : true ≡ false = ap isCompound (i .tree) ∙ plain in let z : _≡_ {A = ℕ} 0 1 = cc in absurd (omega arith)
+same-body e ν f n s args (entry.Record c) h i plain = let g : true ≡ false = ap isCompound (i .tree) ∙ plain in let z : _≡_ {A = ℕ} 0 1 = cc in absurd (omega arith)
+same-body e ν f n s args (entry.App t o c) h i plain = let g : true ≡ false = ap isCompound (i .tree) ∙ plain in let z : _≡_ {A = ℕ} 0 1 = cc in absurd (omega arith)
 same-body e ν f n s args entry.Unreadable h i plain = absurd i
 
 module _ {file : Bytes} {work : List ℕ} {k many n limit at q : ℕ} {x y : Bytes} {r : TermEntry} (T : TermAt file (cell work k termOffset n) r) where
@@ -171,12 +178,6 @@ module _ {file : Bytes} {work : List ℕ} {k many n limit at q : ℕ} {x y : Byt
     go = λ f S I N m l plain. let is = entry-is T (ap (termSaid _) e) f I l in says (ap (asSort (bytes "none")) (sort-is is S) ∙ body-is is S) (P .go f S I N l);
   }
 
-  pub body-some : {i : ℕ} → r ≡ entry.Some i → SpellsSome file work k many i limit x at y q → SpellsBody file work k many n limit x at y q
-  unfolding termSaid namedMark body spelling.bodyAt atoms Below All
-  body-some {i} e P = record {
-    go = λ f S I N m l plain. let is = entry-is T (ap (termSaid _) e) f I l in says (body-is is S) (P .go f S I N m (omega (arith, is .below .0)));
-  }
-
   pub body-entity : {t : ℕ} {p : Span} {s id : Bytes} → r ≡ entry.Entity t p → s ≡ standing.bodyAt file (cell work k termOffset n) → id ≡ take (p .len) (drop (p .start) s)
       → SpellsEntityBody file work k many n t id limit x at y q → SpellsBody file work k many n limit x at y q
   unfolding termSaid namedMark forest MarkInRange counted spanned TermSound
@@ -185,13 +186,3 @@ module _ {file : Bytes} {work : List ℕ} {k many n limit at q : ℕ} {x y : Byt
         let is = entry-is T (ap (termSaid _) e) f I l in
         P .go f S I N m l (is .in-range) nil ((rw (i, b)) ∙ is .tree) ((rw (i, b)) ∙ is .sound) _;
   }
-
-  module _ {s : Bytes} (b : s ≡ standing.bodyAt file (cell work k termOffset n)) where
-    pub body-application : {t : ℕ} {o : Op} {c : Children} → r ≡ entry.App t o c → SpellsApplication file work k many n s o c limit x at y q → SpellsBody file work k many n limit x at y q
-    unfolding termSaid
-    body-application {t} {o} {c} e P = record {
-      go = λ f S I N m l plain.
-          let said = ap (termSaid (standing.bodyAt file (cell work k termOffset n))) e in
-          let is = entry-is T said f I l in
-          says (ap (body (members f) (names S) (termAt f n)) (args-are is S)) (subst (λ (u : Bytes). SpellsApplication file work k many n u o c limit x at y q) b P .go f S I N m l t is (pattern-here T said f I l));
-    }

@@ -21,19 +21,19 @@ use Rattle.naming.specs.Naming.{Numbers}
 
 -- ---- bodies
 
--- a set or a record
-unfoldable pub isCollection : Tm → Bool
-isCollection (node (Var id ty) ts) = false
-isCollection (node (BoolLit b) ts) = false
-isCollection (node (BitVecLit n v) ts) = false
-isCollection (node (StringLit s) ts) = false
-isCollection (node (Entity ty id) ts) = false
-isCollection (node (ExtLit v) ts) = false
-isCollection (node (None ty) ts) = false
-isCollection (node Some ts) = false
-isCollection (node (Set ty) ts) = true
-isCollection (node (Record ns) ts) = true
-isCollection (node (App ty op) ts) = false
+-- a compound term: an option of a term, a set, a record or an application
+unfoldable pub isCompound : Tm → Bool
+isCompound (node (Var id ty) ts) = false
+isCompound (node (BoolLit b) ts) = false
+isCompound (node (BitVecLit n v) ts) = false
+isCompound (node (StringLit s) ts) = false
+isCompound (node (Entity ty id) ts) = false
+isCompound (node (ExtLit v) ts) = false
+isCompound (node (None ty) ts) = false
+isCompound (node Some ts) = true
+isCompound (node (Set ty) ts) = true
+isCompound (node (Record ns) ts) = true
+isCompound (node (App ty op) ts) = true
 
 -- a term in full, over its children as they are spelled where they are used
 abbrev pub fullSpelling : TermFile → State → ℕ → Bytes
@@ -55,9 +55,9 @@ module _ (file : Bytes) (work : List ℕ) (k many n : ℕ) where
         → (ts : Forest Mark) → node (Entity (typeAt f t) id) ts ≡ termAt f n → isUtf8 id ≡ true → (args : List Bytes) → Appends limit x at y r (body (members f) (names S) (termAt f n) args)
 
   module _ (limit : ℕ) (x : Bytes) (at : ℕ) (y : Bytes) (r : ℕ) where
-    -- the term with number n, no set and no record, is written in full
+    -- the term with number n, which is not compound, is written in full
     pub record SpellsBody : Type 0 where
-      pub go : (f : TermFile) (S : State) → Index file f work k → Numbers f work k S → many ≡ length (enums f) → n < length (terms f) → isCollection (termAt f n) ≡ false
+      pub go : (f : TermFile) (S : State) → Index file f work k → Numbers f work k S → many ≡ length (enums f) → n < length (terms f) → isCompound (termAt f n) ≡ false
           → Appends limit x at y r (fullSpelling f S n)
 
     -- ---- lines

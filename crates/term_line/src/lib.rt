@@ -49,7 +49,7 @@ fn put_entity(
     }
 }
 
-// Writes the term with number n in full, if that is no set and no record.
+// Writes the term with number n in full, if that is not compound.
 pub fn put_body(
     file: &[u8],
     work: &[u32],
@@ -64,18 +64,13 @@ pub fn put_body(
         ⌜ SpellsBody (now (file .entry)) (now (work .entry)) k many n limit (now (out .entry)) at (now (out .exit)) r ⌝ }
 {
     let term = term_parts::term_at(file, work, k, n);
-    let body = term_parts::body_at(file, work, k, n);
     match term {
         TermEntry::Entity(t, p) => {
-            let id = field::part_of(body, p.start, p.len);
+            let id = field::part_of(term_parts::body_at(file, work, k, n), p.start, p.len);
             put_entity(file, work, k, many, out, at, limit, n, t, id)
         }
         TermEntry::ExtLit(v) => ext_value::put_ext_value(out, at, limit, v),
         TermEntry::None(_) => values::put_constant(file, work, k, out, at, limit, n, b"none"),
-        TermEntry::Some(m) => values::put_some(file, work, k, many, out, at, limit, m),
-        TermEntry::App(_, op, c) => {
-            application::put_application(file, work, k, many, out, at, limit, n, body, op, c)
-        }
         _ => atom::put_atom(file, work, k, many, out, at, limit, n),
     }
 }

@@ -1,39 +1,71 @@
 -- Applications: what becomes of a `Bvnego`.
 -- Assumes nothing.
-use Prim.Native.Nat.{ℕ}
+use Prim.Native.Nat.{ℕ, _<_}
 use mathlib.Core.Path.{_≡_, sym, ap, _∙_}
+use mathlib.Core.Bool.{Bool, false}
 use mathlib.Core.List.{List}
+use lib.ListN.{length}
 use Rattle.script_spec.specs.Base.{Bytes}
 use Rattle.script_spec.specs.Tree as tree
-use Rattle.script_spec.specs.Tree.{Negation, negation}
-use Rattle.script_spec.specs.File.{TermFile, members, termAt, namedOp}
-use Rattle.script_spec.specs.Walk.{State, defineApp}
-use Rattle.query.specs.Negations.{negationSaid, NegationOf}
+use Rattle.script_spec.specs.Tree.{Negation, ordinary, falsehood, comparison, negation}
+use Rattle.script_spec.specs.File.{TermFile, terms, members, typeAt, termAt, namedOp, namedMark}
+use Rattle.script_spec.specs.Walk.{State, Step, defineApp}
+use Rattle.index.specs.Meaning.{Index}
+use Rattle.operator.specs.Operators.{opOf}
+use Rattle.operator.specs.declared.Op.{Op}
+use Rattle.term_entry.specs.Terms.{childrenIn}
+use Rattle.term_entry.specs.declared.Children.{Children}
+use Rattle.query.specs.Negations.{negationSaid, IsNego, NegationOf}
 use Rattle.query.specs.declared.Negated.{Negated}
 use Rattle.query.specs.declared.Negated.the-variants as negated
+use Rattle.query.proofs.NegoLaws.{nego, namedOp-nego, negation-other}
 use Rattle.progress.specs.Progress.{Advances}
 use Rattle.progress.specs.declared.Progress.{Progress}
 use Rattle.progress.proofs.Running.{advances-by}
+use Rattle.term_parts.specs.Records.{TermIs}
 use Rattle.term_step.specs.Steps.{enterWalk, Enters}
-use Rattle.term_new.specs.News.{DefinedAt, OperatorAt, defineWalk, operatorWalk, ordinaryWalk, appWalk}
+use Rattle.term_new.specs.News.{AppAt, OrdinaryAt, ComparisonAt, defineWalk, operatorWalk, ordinaryWalk, appWalk}
 
--- what becomes of the term is what was answered
-app-by : (n : ℕ) (o : tree.Op ℕ) (f : TermFile) (S : State) (r y : Negated) → r ≡ y → negationSaid r ≡ negation (termAt f n)
-    → appWalk n o f S ≡ defineApp (members f) (termAt f n) (namedOp f o) (negationSaid y) S
+-- the step of an application is that of what becomes of it
+app-by : (n : ℕ) (o : tree.Op ℕ) (f : TermFile) (S : State) (z : Negation) → negation (termAt f n) ≡ z → appWalk n o f S ≡ defineApp (members f) (termAt f n) (namedOp f o) z S
 unfolding appWalk
-app-by n o f S r y e h = ap (λ (g : Negation). defineApp (members f) (termAt f n) (namedOp f o) g S) (sym h ∙ ap negationSaid e)
+app-by n o f S z h = ap (λ (g : Negation). defineApp (members f) (termAt f n) (namedOp f o) g S) h
 
-module _ {file : Bytes} {k many limit n : ℕ} (o : tree.Op ℕ) {work work′ : List ℕ} {out : Bytes} {p q : Progress} {r : Negated} (N : NegationOf file work k n r) where
-  pub app-false : r ≡ negated.Falsehood → Enters k n work p work′ q → Advances file k many limit (OperatorAt n o) (appWalk n o) work out p work′ out q
+-- an application of another operator is written by its operator
+other-ordinary : {f : TermFile} {n t : ℕ} {rs : List ℕ} (s : Bytes) {o : Op} {b : Bool} → IsNego o b → b ≡ false → TermIs f n (tree.App t (opOf s o)) rs → negation (termAt f n) ≡ ordinary
+unfolding namedMark
+other-ordinary {f} {t = t} s {o} G h T =
+    ap negation (sym (T .tree)) ∙ negation-other _ _ (λ q. let x : tree.App (typeAt f t) (namedOp f (opOf s o)) ≡ nego = q in G .if-not s h (namedOp-nego f _ (cc)))
+
+-- what becomes of a term is what was answered
+answered : {file : Bytes} {work : List ℕ} {k n : ℕ} {f : TermFile} {r z : Negated} → NegationOf file work k n r → r ≡ z → Index file f work k → n < length (terms f) → negation (termAt f n) ≡ negationSaid z
+answered N e I l = sym (N .go _ I l) ∙ ap negationSaid e
+
+module _ {file : Bytes} {k many limit n : ℕ} (s : Bytes) (o : Op) (c : Children) {work work′ : List ℕ} {out : Bytes} {p q : Progress} where
+  pub app-false : {r : Negated} → NegationOf file work k n r → r ≡ negated.Falsehood → Enters k n work p work′ q
+      → Advances file k many limit (AppAt n s o c) (appWalk n (opOf s o)) work out p work′ out q
   unfolding enterWalk defineApp negationSaid
-  app-false e E = advances-by (λ f x I m s. (s .at .at, λ S. app-by n o f S r negated.Falsehood e (N .go f I (s .at .at .below)))) (E .go file out many limit)
+  app-false N e E = advances-by (λ f x I m y. (y .at, λ S. app-by n (opOf s o) f S falsehood (answered N e I (y .at .below)))) (E .go file out many limit)
 
-  pub app-comparison : {w : ℕ} {out′ : Bytes} → r ≡ negated.Comparison w → Advances file k many limit (DefinedAt n) (defineWalk n) work out p work′ out′ q
-      → Advances file k many limit (OperatorAt n o) (appWalk n o) work out p work′ out′ q
-  unfolding defineWalk defineApp negationSaid
-  app-comparison {w} e A = advances-by (λ f x I m s. (s .at, λ S. app-by n o f S r (negated.Comparison w) e (N .go f I (s .at .at .below)))) A
+  module _ {out′ : Bytes} where
+    ordinary-app : ((f : TermFile) (x : Step) → Index file f work k → AppAt n s o c f x → negation (termAt f n) ≡ ordinary)
+        → Advances file k many limit (OrdinaryAt n s o c) (ordinaryWalk n (opOf s o)) work out p work′ out′ q → Advances file k many limit (AppAt n s o c) (appWalk n (opOf s o)) work out p work′ out′ q
+    unfolding defineWalk operatorWalk ordinaryWalk defineApp
+    ordinary-app h A = advances-by (λ f x I m y. let z = h f x I y in (record { at = y; becomes = z }, λ S. app-by n (opOf s o) f S ordinary z)) A
 
-  pub app-ordinary : {out′ : Bytes} → r ≡ negated.Ordinary → Advances file k many limit (OperatorAt n o) (ordinaryWalk n o) work out p work′ out′ q
-      → Advances file k many limit (OperatorAt n o) (appWalk n o) work out p work′ out′ q
-  unfolding defineWalk operatorWalk ordinaryWalk defineApp negationSaid
-  app-ordinary e A = advances-by (λ f x I m s. (s, λ S. app-by n o f S r negated.Ordinary e (N .go f I (s .at .at .below)))) A
+    pub app-other : {b : Bool} → IsNego o b → b ≡ false → Advances file k many limit (OrdinaryAt n s o c) (ordinaryWalk n (opOf s o)) work out p work′ out′ q
+        → Advances file k many limit (AppAt n s o c) (appWalk n (opOf s o)) work out p work′ out′ q
+    app-other G h A = ordinary-app (λ f x I y. other-ordinary s G h (y .is)) A
+
+    pub app-ordinary : {r : Negated} → NegationOf file work k n r → r ≡ negated.Ordinary → Advances file k many limit (OrdinaryAt n s o c) (ordinaryWalk n (opOf s o)) work out p work′ out′ q
+        → Advances file k many limit (AppAt n s o c) (appWalk n (opOf s o)) work out p work′ out′ q
+    unfolding negationSaid
+    app-ordinary N e A = ordinary-app (λ f x I y. answered N e I (y .at .below)) A
+
+    pub app-comparison : {r : Negated} {w : ℕ} → NegationOf file work k n r → r ≡ negated.Comparison w → Advances file k many limit (ComparisonAt n w (childrenIn s c)) (defineWalk n) work out p work′ out′ q
+        → Advances file k many limit (AppAt n s o c) (appWalk n (opOf s o)) work out p work′ out′ q
+    unfolding defineWalk defineApp negationSaid
+    app-comparison {w = w} N e A =
+        advances-by (λ f x I m y.
+        let z : negation (termAt f n) ≡ comparison w = answered N e I (y .at .below) in
+        (record { at = y .at; result = y .result; op = opOf s o; is = y .is; becomes = z }, λ S. app-by n (opOf s o) f S (comparison w) z)) A

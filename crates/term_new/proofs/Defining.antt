@@ -21,14 +21,17 @@ use Rattle.naming.proofs.Names.{index-kept}
 use Rattle.progress.specs.Progress.{Went, Advances}
 use Rattle.progress.specs.declared.Progress.{Progress}
 use Rattle.progress.proofs.Running.{movedTo, script-one, went-write, advances-went}
+use Rattle.operator.specs.declared.Op as operator
 use Rattle.term_entry.specs.Terms.{childrenIn}
 use Rattle.term_entry.specs.declared.Children.{Children}
-use Rattle.term_value.specs.Values.{SpellsSet, SpellsRecord}
+use Rattle.term_value.specs.Values.{SpellsSome, SpellsSet, SpellsRecord}
+use Rattle.application.specs.Applications.{SpellsOperator, SpellsComparison}
+use Rattle.application.proofs.ApplicationLaws.{spells-ordinary, spells-compared}
 use Rattle.term_line.specs.Lines.{fullSpelling, SpellsBody, SpellsHead, SpellsVariable}
 use Rattle.term_line.proofs.LineLaws.{definition-pieces}
-use Rattle.term_line.proofs.BodyLaws.{spells-set, spells-record}
+use Rattle.term_line.proofs.BodyLaws.{spells-full, spells-some, spells-set, spells-record}
 use Rattle.term_step.specs.Steps.{NewAt, enterWalk, newWalk, Enters}
-use Rattle.term_new.specs.News.{VariableAt, DefinedAt, SetAt, RecordAt, defineWalk}
+use Rattle.term_new.specs.News.{VariableAt, DefinedAt, SomeAt, SetAt, RecordAt, OrdinaryAt, ComparisonAt, defineWalk}
 
 -- a variable's id and type
 variable-is : {P : Type 0} (t : Tm) → isVariable t ≡ true → ((id : Bytes) (ty : Ty) (ts : Forest Mark) → t ≡ node (Var id ty) ts → P) → P
@@ -70,12 +73,24 @@ module _ {file : Bytes} {k many limit n a b at : ℕ} {work work′ : List ℕ} 
   pub defines : SpellsBody file work′ k many n limit out₁ a out₂ b → Advances file k many limit (DefinedAt n) (defineWalk n) work out p work′ out′ r
   defines B = defines-by (λ f x R. R .at) (λ f x S I N m R. B .go f S I N m (R .at .below) (R .plain))
 
+  pub defines-some : {m : ℕ} → SpellsSome file work′ k many m limit out₁ a out₂ b → Advances file k many limit (SomeAt n m) (defineWalk n) work out p work′ out′ r
+  defines-some B = defines-by (λ f x R. R .at) (λ f x S I N m R. spells-some B f S I N m (R .at .below) (R .is))
+
   module _ {s : Bytes} {c : Children} where
     pub defines-set : SpellsSet file work′ k many n s c limit out₁ a out₂ b → Advances file k many limit (SetAt n (childrenIn s c)) (defineWalk n) work out p work′ out′ r
     defines-set B = defines-by (λ f x R. R .at) (λ f x S I N m R. spells-set B f S I N m (R .at .below) (R .is))
 
     pub defines-record : SpellsRecord file work′ k many n s c limit out₁ a out₂ b → Advances file k many limit (RecordAt n (childrenIn s c)) (defineWalk n) work out p work′ out′ r
     defines-record B = defines-by (λ f x R. R .at) (λ f x S I N m R. spells-record B f S I N m (R .at .below) (R .is))
+
+    pub defines-applied : {o : operator.Op} → SpellsOperator file work′ k many s o c limit out₁ a out₂ b → Advances file k many limit (OrdinaryAt n s o c) (defineWalk n) work out p work′ out′ r
+    defines-applied B =
+        defines-by (λ f x R. R .at .at)
+        (λ f x S I N m R. spells-full (R .at .is) S (spells-ordinary B f S I N m (R .at .at .below) (R .at .is) (R .at .pattern) (R .becomes)))
+
+    pub defines-comparison : {w : ℕ} → SpellsComparison file work′ k many s c limit out₁ a out₂ b w
+        → Advances file k many limit (ComparisonAt n w (childrenIn s c)) (defineWalk n) work out p work′ out′ r
+    defines-comparison B = defines-by (λ f x R. R .at) (λ f x S I N m R. spells-full (R .is) S (spells-compared B f S I N m (R .at .below) (R .is) (R .becomes)))
 
 module _ {file : Bytes} {k many limit n at : ℕ} {work work′ : List ℕ} {out out′ : Bytes} {p q r : Progress} where
   pub declares : p .refused ≡ 0 → Enters k n work p work′ q → SpellsVariable file work′ k n limit out (q .at) out′ at → r ≡ movedTo q at

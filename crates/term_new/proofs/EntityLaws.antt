@@ -23,7 +23,7 @@ use Rattle.progress.proofs.Running.{refusedAt, advances-by, advances-stopped}
 use Rattle.query.specs.Searches.{Placed, MemberSaid, FindsMember}
 use Rattle.query.specs.declared.Member.{Member}
 use Rattle.query.specs.declared.Member.the-variants as member
-use Rattle.term_step.specs.Steps.{enterWalk, textWalk, Enters, TestsText}
+use Rattle.term_step.specs.Steps.{NewAt, enterWalk, textWalk, Enters, TestsText}
 use Rattle.term_new.specs.News.{DefinedAt, StringAt, EntityAt, defineWalk, stringWalk, entityWalk}
 
 -- ---- steps that leave a term new
@@ -32,10 +32,10 @@ stopped-ne-went : {n : ℕ} {t : Tm} {s : State} → stopped n t ≡ went s → 
 stopped-ne-went e = let z : _≡_ {A = ℕ} 0 1 = cc in omega arith
 
 -- a step that leaves it new leaves it new after whatever came before
-pub new-after : (n : ℕ) (f : TermFile) (x : Step) (w : Walk) → DefinedAt n f x → ((S : State) → New (termAt f n) S → Ends (New (termAt f n)) (λ m u. Unit {0}) (w S)) → DefinedAt n f (sticky w x)
+pub new-after : (n : ℕ) (f : TermFile) (x : Step) (w : Walk) → NewAt n f x → ((S : State) → New (termAt f n) S → Ends (New (termAt f n)) (λ m u. Unit {0}) (w S)) → NewAt n f (sticky w x)
 unfolding sticky
-new-after n f (went S) w r h = record { at = record { below = r .at .below; new = λ S′ e. ends-went (h S (r .at .new S refl)) e }; plain = r .plain }
-new-after n f (stopped c t) w r h = record { at = record { below = r .at .below; new = λ S′ e. absurd (stopped-ne-went e) }; plain = r .plain }
+new-after n f (went S) w r h = record { below = r .below; new = λ S′ e. ends-went (h S (r .new S refl)) e }
+new-after n f (stopped c t) w r h = record { below = r .below; new = λ S′ e. absurd (stopped-ne-went e) }
 
 -- ---- entities
 
@@ -57,7 +57,7 @@ module _ {file : Bytes} {k many limit n : ℕ} (id : Bytes) {work work′ : List
   string-entity T D =
       advances-then (textWalk n id) (defineWalk n)
       (advances-by (λ f x I m s. (record { below = s .at .at .below; utf8 = s .utf8 }, λ S. refl)) (T .go file k work .go out many limit)) D
-      (λ f x s. new-after n f x (textWalk n id f) (s .at) (λ S new. ends-ensure 15 (termAt f n) (lowEnough (codePoints id)) S new tt))
+      (λ f x s. record { at = new-after n f x (textWalk n id f) (s .at .at) (λ S new. ends-ensure 15 (termAt f n) (lowEnough (codePoints id)) S new tt); plain = s .at .plain })
 
 module _ {file : Bytes} {k many limit n t : ℕ} (id : Bytes) {work : List ℕ} {out : Bytes} {p q : Progress} {r : Member} (F : FindsMember file work k many t id r) where
   pub entity-plain : {work′ : List ℕ} {out′ : Bytes} → r ≡ member.NoEnum → Advances file k many limit (StringAt n id) (stringWalk n id) work out p work′ out′ q

@@ -10,10 +10,10 @@ use Rattle.script_spec.specs.Base.{Bytes}
 use Rattle.script_spec.specs.Tree as tree
 use Rattle.script_spec.specs.Tree.{Tm, Enums}
 use Rattle.script_spec.specs.File.{TermFile, types, funs, members, termAt, namedOp}
-use Rattle.script_spec.specs.Walk.{State, went, operatorStep}
+use Rattle.script_spec.specs.Walk.{State, Step, went, operatorStep}
 use Rattle.script_spec.proofs.EnteredTerms.{operator-new}
 use Rattle.naming.proofs.Sticky.{sticky-nothing}
-use Rattle.index.specs.First.{OpInRange}
+use Rattle.index.specs.First.{OpInRange, MarkInRange}
 use Rattle.index.specs.Meaning.{counted}
 use Rattle.field.specs.Answers.{spanned}
 use Rattle.field.specs.declared.Span.{Span}
@@ -22,13 +22,14 @@ use Rattle.operator.proofs.Op.{the-type}
 use Rattle.operator.specs.declared.Op.{Op}
 use Rattle.operator.specs.declared.Op.the-variants as op
 use Rattle.operator.specs.declared.Pattern.{Pattern}
+use Rattle.term_entry.specs.declared.Children.{Children}
 use Rattle.type_walk.specs.Types.{funReady, funWalk}
 use Rattle.progress.specs.Progress.{Advances}
 use Rattle.progress.specs.declared.Progress.{Progress}
 use Rattle.progress.proofs.Advancing.{advances-nothing, advances-then}
 use Rattle.progress.proofs.Running.{advances-by}
-use Rattle.term_step.specs.Steps.{termReady, getWalk, patternWalk, Tests, TestsPattern}
-use Rattle.term_new.specs.News.{DefinedAt, OperatorAt, defineWalk, recordGetWalk, operatorWalk, ordinaryWalk}
+use Rattle.term_step.specs.Steps.{NewAt, termReady, getWalk, patternWalk, Tests, TestsPattern}
+use Rattle.term_new.specs.News.{OrdinaryAt, defineWalk, recordGetWalk, operatorWalk, ordinaryWalk}
 use Rattle.term_new.proofs.EntityLaws.{new-after}
 
 -- the places of the operators that ask for nothing
@@ -71,49 +72,52 @@ asks-nothing e t f body S (op.StringLike p) h = absurd (miss others 30 tt h)
 asks-nothing e t f body S (op.Uuf g) h = absurd (miss others 31 tt h)
 asks-nothing e t f body S (op.ZeroExtend n) h = refl
 
-module _ {file : Bytes} {k many limit n : ℕ} {work work₁ work′ : List ℕ} {out out₁ out′ : Bytes} {p p₁ q : Progress} where
-  -- an application is defined after what its operator asks for
-  ordinary-then : (o : tree.Op ℕ) → Advances file k many limit (OperatorAt n o) (operatorWalk n o) work out p work₁ out₁ p₁
-      → Advances file k many limit (DefinedAt n) (defineWalk n) work₁ out₁ p₁ work′ out′ q → Advances file k many limit (OperatorAt n o) (ordinaryWalk n o) work out p work′ out′ q
-  unfolding ordinaryWalk operatorWalk
-  ordinary-then o A D =
-      advances-then (operatorWalk n o) (defineWalk n) A D
-      (λ f x s. new-after n f x (operatorWalk n o f) (s .at) (λ S new. operator-new (members f) (termAt f n) (termAt f n) (namedOp f o) S new))
+-- an application is the same after a step that leaves it new
+ordinary-after : {n : ℕ} {s : Bytes} {o : Op} {c : Children} {f : TermFile} {x x′ : Step} → OrdinaryAt n s o c f x → NewAt n f x′ → OrdinaryAt n s o c f x′
+ordinary-after y new = record { at = record { at = new; result = y .at .result; is = y .at .is; pattern = y .at .pattern }; becomes = y .becomes }
 
-module _ {file : Bytes} {k many limit n : ℕ} {work work′ : List ℕ} {out out′ : Bytes} {p q : Progress} where
+module _ {file : Bytes} {k many limit n : ℕ} (s : Bytes) (o : Op) (c : Children) {work work₁ work′ : List ℕ} {out out₁ out′ : Bytes} {p p₁ q : Progress} where
+  -- an application is defined after what its operator asks for
+  ordinary-then : Advances file k many limit (OrdinaryAt n s o c) (operatorWalk n (opOf s o)) work out p work₁ out₁ p₁
+      → Advances file k many limit (OrdinaryAt n s o c) (defineWalk n) work₁ out₁ p₁ work′ out′ q → Advances file k many limit (OrdinaryAt n s o c) (ordinaryWalk n (opOf s o)) work out p work′ out′ q
+  unfolding ordinaryWalk operatorWalk
+  ordinary-then A D =
+      advances-then (operatorWalk n (opOf s o)) (defineWalk n) A D
+      (λ f x y. ordinary-after y (new-after n f x (operatorWalk n (opOf s o) f) (y .at .at) (λ S new. operator-new (members f) (termAt f n) (termAt f n) (namedOp f (opOf s o)) S new)))
+
+module _ {file : Bytes} {k many limit n : ℕ} (s : Bytes) (o : Op) (c : Children) {work work′ : List ℕ} {out out′ : Bytes} {p q : Progress} where
   -- `RecordGet`: what it asks of its first child's type, then the definition
-  pub record-get-then : (a : Bytes) {p₁ : Progress} → Tests file k (termReady n) (getWalk n a) work p p₁ → Advances file k many limit (DefinedAt n) (defineWalk n) work out p₁ work′ out′ q
-      → Advances file k many limit (DefinedAt n) (recordGetWalk n a) work out p work′ out′ q
+  pub record-get-then : (a : Bytes) {p₁ : Progress} → Tests file k (termReady n) (getWalk n a) work p p₁ → Advances file k many limit (OrdinaryAt n s o c) (defineWalk n) work out p₁ work′ out′ q
+      → Advances file k many limit (OrdinaryAt n s o c) (recordGetWalk n a) work out p work′ out′ q
   unfolding recordGetWalk getWalk termReady operatorStep
   record-get-then a T D =
-      advances-then (getWalk n a) (defineWalk n) (advances-by (λ f x I m s. (s .at .below, λ S. refl)) (T .go out many limit)) D
-      (λ f x s. new-after n f x (getWalk n a f) s (λ S new. operator-new (members f) (termAt f n) (termAt f n) (tree.RecordGet a) S new))
+      advances-then (getWalk n a) (defineWalk n) (advances-by (λ f x I m y. (y .at .at .below, λ S. refl)) (T .go out many limit)) D
+      (λ f x y. ordinary-after y (new-after n f x (getWalk n a f) (y .at .at) (λ S new. operator-new (members f) (termAt f n) (termAt f n) (tree.RecordGet a) S new)))
 
-  module _ (body : Bytes) (o : Op) where
-    pub ordinary-get : {a : Span} {name : Bytes} → o ≡ op.RecordGet a → name ≡ take (a .len) (drop (a .start) body)
-        → Advances file k many limit (DefinedAt n) (recordGetWalk n name) work out p work′ out′ q
-        → Advances file k many limit (OperatorAt n (opOf body o)) (ordinaryWalk n (opOf body o)) work out p work′ out′ q
-    unfolding ordinaryWalk operatorWalk recordGetWalk getWalk operatorStep namedOp opOf spanned
-    ordinary-get e h A = advances-by (λ f x I m s. (s .at, λ S. rw (e, h))) A
+  pub ordinary-get : {a : Span} {name : Bytes} → o ≡ op.RecordGet a → name ≡ take (a .len) (drop (a .start) s)
+      → Advances file k many limit (OrdinaryAt n s o c) (recordGetWalk n name) work out p work′ out′ q
+      → Advances file k many limit (OrdinaryAt n s o c) (ordinaryWalk n (opOf s o)) work out p work′ out′ q
+  unfolding ordinaryWalk operatorWalk recordGetWalk getWalk operatorStep namedOp opOf spanned
+  ordinary-get e h A = advances-by (λ f x I m y. (y, λ S. rw (e, h))) A
 
-    pub ordinary-pattern : {r : Pattern} {p₁ : Progress} → o ≡ op.StringLike r → TestsPattern n (numbers (r .count) (drop (r .start) body)) p p₁
-        → Advances file k many limit (DefinedAt n) (defineWalk n) work out p₁ work′ out′ q
-        → Advances file k many limit (OperatorAt n (opOf body o)) (ordinaryWalk n (opOf body o)) work out p work′ out′ q
-    unfolding operatorWalk patternWalk operatorStep namedOp opOf termReady
-    ordinary-pattern e T D = ordinary-then (opOf body o) (advances-by (λ f x I m s. (s .at .at .below, λ S. rw e)) (T .go file k work .go out many limit)) D
+  pub ordinary-pattern : {r : Pattern} {p₁ : Progress} → o ≡ op.StringLike r → TestsPattern n (numbers (r .count) (drop (r .start) s)) p p₁
+      → Advances file k many limit (OrdinaryAt n s o c) (defineWalk n) work out p₁ work′ out′ q
+      → Advances file k many limit (OrdinaryAt n s o c) (ordinaryWalk n (opOf s o)) work out p work′ out′ q
+  unfolding operatorWalk patternWalk operatorStep namedOp opOf termReady
+  ordinary-pattern e T D = ordinary-then s o c (advances-by (λ f x I m y. (y .at .at .below, λ S. rw e)) (T .go file k work .go out many limit)) D
 
-    pub ordinary-uuf : {g : ℕ} {work₁ : List ℕ} {out₁ : Bytes} {p₁ : Progress} → o ≡ op.Uuf g → Advances file k many limit (funReady g) (funWalk g) work out p work₁ out₁ p₁
-        → Advances file k many limit (DefinedAt n) (defineWalk n) work₁ out₁ p₁ work′ out′ q
-        → Advances file k many limit (OperatorAt n (opOf body o)) (ordinaryWalk n (opOf body o)) work out p work′ out′ q
-    unfolding operatorWalk operatorStep namedOp opOf OpInRange counted funReady funWalk
-    ordinary-uuf e A D =
-        ordinary-then (opOf body o)
-        (advances-by (λ f x I m s. (subst (λ (y : Op). OpInRange (counted (length (types f)) (length (funs f)) n) (opOf body y)) e (s .in-range), λ S. rw e)) A) D
+  pub ordinary-uuf : {g : ℕ} {work₁ : List ℕ} {out₁ : Bytes} {p₁ : Progress} → o ≡ op.Uuf g → Advances file k many limit (funReady g) (funWalk g) work out p work₁ out₁ p₁
+      → Advances file k many limit (OrdinaryAt n s o c) (defineWalk n) work₁ out₁ p₁ work′ out′ q
+      → Advances file k many limit (OrdinaryAt n s o c) (ordinaryWalk n (opOf s o)) work out p work′ out′ q
+  unfolding operatorWalk operatorStep namedOp opOf OpInRange MarkInRange counted funReady funWalk
+  ordinary-uuf e A D =
+      ordinary-then s o c
+      (advances-by (λ f x I m y. (subst (λ (z : Op). OpInRange (counted (length (types f)) (length (funs f)) n) (opOf s z)) e (y .at .is .in-range .1), λ S. rw e)) A) D
 
-    pub ordinary-other : OneOf others (tagOf the-type o) → Advances file k many limit (DefinedAt n) (defineWalk n) work out p work′ out′ q
-        → Advances file k many limit (OperatorAt n (opOf body o)) (ordinaryWalk n (opOf body o)) work out p work′ out′ q
-    unfolding operatorWalk
-    ordinary-other h D =
-        ordinary-then (opOf body o)
-        (advances-by (λ f x I m s. (s, λ S. asks-nothing (members f) (termAt f n) f body S o h))
-        (advances-nothing (OperatorAt n (opOf body o)) (λ f. went) (λ f x s. sticky-nothing x))) D
+  pub ordinary-other : OneOf others (tagOf the-type o) → Advances file k many limit (OrdinaryAt n s o c) (defineWalk n) work out p work′ out′ q
+      → Advances file k many limit (OrdinaryAt n s o c) (ordinaryWalk n (opOf s o)) work out p work′ out′ q
+  unfolding operatorWalk
+  ordinary-other h D =
+      ordinary-then s o c
+      (advances-by (λ f x I m y. (y, λ S. asks-nothing (members f) (termAt f n) f s S o h))
+      (advances-nothing (OrdinaryAt n s o c) (λ f. went) (λ f x y. sticky-nothing x))) D

@@ -38,9 +38,11 @@ use Rattle.progress.proofs.Advancing.{advances-nothing}
 use Rattle.progress.proofs.Running.{advances-by}
 use Rattle.term_parts.specs.Records.{TermIs}
 use Rattle.term_parts.proofs.Rows.{entry-is}
-use Rattle.term_line.specs.Lines.{isCollection}
+use Rattle.application.specs.Applications.{PatternIs}
+use Rattle.application.proofs.PatternLaws.{pattern-here}
+use Rattle.term_line.specs.Lines.{isCompound}
 use Rattle.term_step.specs.Steps.{NewAt, textWalk, newWalk, TestsText}
-use Rattle.term_new.specs.News.{VariableAt, DefinedAt, SetAt, RecordAt, EntityAt, OperatorAt, defineWalk, entityWalk, appWalk}
+use Rattle.term_new.specs.News.{VariableAt, DefinedAt, SomeAt, SetAt, RecordAt, EntityAt, AppAt, defineWalk, entityWalk, appWalk}
 
 -- ---- the term of an entry
 
@@ -71,6 +73,13 @@ module _ {file : Bytes} {k n o : ℕ} {work : List ℕ} {r : TermEntry} (i : ℕ
       let here : o ≡ cell work k termOffset n = at ∙ ap (cell work k termOffset) same-number in
       entry-is (subst (λ (j : ℕ). TermAt file j r) here T) (subst (λ (j : ℕ). termSaid (bodyAt file j) r ≡ some (term x ss)) here e) f I l
 
+  -- and its pattern
+  has-pattern : (t : ℕ) (op : tree.Op ℕ) (ss : List ℕ) → termSaid (bodyAt file o) r ≡ some (term (tree.App t op) ss) → (f : TermFile) → Index file f work k → n < length (terms f) → PatternIs (bodyAt file o) op
+  has-pattern t op ss e f I l =
+      let here : o ≡ cell work k termOffset n = at ∙ ap (cell work k termOffset) same-number in
+      subst (λ (j : ℕ). PatternIs (bodyAt file j) op) (sym here)
+      (pattern-here (subst (λ (j : ℕ). TermAt file j r) here T) (subst (λ (j : ℕ). termSaid (bodyAt file j) r ≡ some (term (tree.App t op) ss)) here e) f I l)
+
 -- ---- the step of each mark
 
 module _ (e : Enums) (u : Tm) (ts : Forest Mark) (S : State) where
@@ -81,6 +90,10 @@ module _ (e : Enums) (u : Tm) (ts : Forest Mark) (S : State) where
   step-string : (id : Bytes) → u ≡ node (tree.StringLit id) ts → encodeNew e u S ≡ ensure 15 u (lowEnough (codePoints id)) S
   unfolding encodeNew
   step-string id h = rw h
+
+  step-some : u ≡ node tree.Some ts → encodeNew e u S ≡ defineTerm e u S
+  unfolding encodeNew
+  step-some h = rw h
 
   step-set : (ty : Ty) → u ≡ node (tree.Set ty) ts → encodeNew e u S ≡ defineTerm e u S
   unfolding encodeNew
@@ -96,26 +109,26 @@ module _ (e : Enums) (u : Tm) (ts : Forest Mark) (S : State) where
 
 -- the places of the other entries that are defined whatever they hold
 abbrev others : List ℕ
-others = 5 ∷ 6 ∷ 7 ∷ []
+others = 5 ∷ 6 ∷ []
 
--- the term of such an entry is no set and no record, and is defined
+-- the term of such an entry is not compound, and is defined
 defined : (e : Enums) (f : TermFile) (body : Bytes) (u : Tm) (ts : Forest Mark) (r : TermEntry) (m : TermMark ℕ ℕ) (rs : List ℕ)
-    → OneOf others (tagOf the-type r) → termSaid body r ≡ some (term m rs) → u ≡ node (namedMark f m) ts → (isCollection u ≡ false) × ((S : State) → encodeNew e u S ≡ defineTerm e u S)
-unfolding termSaid namedMark encodeNew isCollection
+    → OneOf others (tagOf the-type r) → termSaid body r ≡ some (term m rs) → u ≡ node (namedMark f m) ts → (isCompound u ≡ false) × ((S : State) → encodeNew e u S ≡ defineTerm e u S)
+unfolding termSaid namedMark encodeNew isCompound
 defined e f body u ts (entry.Var p t) m rs h said is = absurd (miss others 0 tt h)
 defined e f body u ts (entry.BoolLit b) m rs h said is = absurd (miss others 1 tt h)
 defined e f body u ts (entry.BitVecLit n v) m rs h said is = absurd (miss others 2 tt h)
 defined e f body u ts (entry.StringLit p) m rs h said is = absurd (miss others 3 tt h)
 defined e f body u ts (entry.Entity t p) m rs h said is = absurd (miss others 4 tt h)
-defined e f body u ts (entry.ExtLit v) m rs h said is = let q : m ≡ tree.ExtLit (valueOf v) = cc in let g : u ≡ node (tree.ExtLit (valueOf v)) ts = is ∙ ap (λ (y : TermMark ℕ ℕ). node (namedMark f y) ts) q in (ap isCollection g, λ S. rw g)
-defined e f body u ts (entry.None t) m rs h said is = let q : m ≡ tree.None t = cc in let g : u ≡ node (tree.None (typeAt f t)) ts = is ∙ ap (λ (y : TermMark ℕ ℕ). node (namedMark f y) ts) q in (ap isCollection g, λ S. rw g)
-defined e f body u ts (entry.Some n) m rs h said is = let q : m ≡ tree.Some = cc in let g : u ≡ node tree.Some ts = is ∙ ap (λ (y : TermMark ℕ ℕ). node (namedMark f y) ts) q in (ap isCollection g, λ S. rw g)
+defined e f body u ts (entry.ExtLit v) m rs h said is = let q : m ≡ tree.ExtLit (valueOf v) = cc in let g : u ≡ node (tree.ExtLit (valueOf v)) ts = is ∙ ap (λ (y : TermMark ℕ ℕ). node (namedMark f y) ts) q in (ap isCompound g, λ S. rw g)
+defined e f body u ts (entry.None t) m rs h said is = let q : m ≡ tree.None t = cc in let g : u ≡ node (tree.None (typeAt f t)) ts = is ∙ ap (λ (y : TermMark ℕ ℕ). node (namedMark f y) ts) q in (ap isCompound g, λ S. rw g)
+defined e f body u ts (entry.Some n) m rs h said is = absurd (miss others 7 tt h)
 defined e f body u ts (entry.Set t c) m rs h said is = absurd (miss others 8 tt h)
 defined e f body u ts (entry.Record c) m rs h said is = absurd (miss others 9 tt h)
 defined e f body u ts (entry.App t op c) m rs h said is = absurd (miss others 10 tt h)
 defined e f body u ts entry.Unreadable m rs h said is = absurd (miss others 11 tt h)
 
--- ---- sets and records
+-- ---- sets, records and applications
 
 module _ {f : TermFile} {n : ℕ} {x : Step} {s s′ : Bytes} (c : Children) (e : s ≡ s′) (y : NewAt n f x) where
   set-at : {t : ℕ} → TermIs f n (tree.Set t) (childrenIn s′ c) → SetAt n (childrenIn s c) f x
@@ -123,6 +136,9 @@ module _ {f : TermFile} {n : ℕ} {x : Step} {s s′ : Bytes} (c : Children) (e 
 
   record-at : {ns : List Bytes} → TermIs f n (tree.Record ns) (childrenIn s′ c) → RecordAt n (childrenIn s c) f x
   record-at {ns} is = record { at = y; names = ns; is = rw e is }
+
+  app-at : {t : ℕ} (op : Op) → TermIs f n (tree.App t (opOf s′ op)) (childrenIn s′ c) → PatternIs s′ (opOf s′ op) → AppAt n s op c f x
+  app-at {t} op is has = record { at = y; result = t; is = rw e is; pattern = rw e has }
 
 -- ---- the step of each entry
 
@@ -164,26 +180,26 @@ module _ {file : Bytes} {k many limit n o : ℕ} {work : List ℕ} {out : Bytes}
 
   pub new-entity : {s : Span} {t : ℕ} {body id : Bytes} {work′ : List ℕ} {out′ : Bytes} {q : Progress} → r ≡ entry.Entity t s → body ≡ bodyAt file o → id ≡ take (s .len) (drop (s .start) body)
       → Advances file k many limit (EntityAt n t id) (entityWalk n t id) work out p work′ out′ q → Advances file k many limit (NewAt n) (newWalk n) work out p work′ out′ q
-  unfolding termSaid namedMark newWalk entityWalk Utf8Mark MarkInRange counted spanned isCollection
+  unfolding termSaid namedMark newWalk entityWalk Utf8Mark MarkInRange counted spanned isCompound
   new-entity {s} {t} {id = id} e b h A =
       let is-text : id ≡ spanned (bodyAt file o) s = h ∙ ap (λ (y : Bytes). spanned y s) b in
       advances-by (λ f x I m y.
       let K = marked i same-number at T _ _ (ap (termSaid (bodyAt file o)) e) f I (y .below) in
-      (record { at = record { at = y; plain = ap isCollection (K .is) }; type-below = K .in-range; utf8 = rw is-text (K .utf8) }, λ S. rw (is-text) (step-entity (members f) (termAt f n) (K .rest) S _ _ (K .is)))) A
-
-  pub new-app : {t : ℕ} {op : Op} {c : Children} {body : Bytes} {work′ : List ℕ} {out′ : Bytes} {q : Progress} → r ≡ entry.App t op c → body ≡ bodyAt file o
-      → Advances file k many limit (OperatorAt n (opOf body op)) (appWalk n (opOf body op)) work out p work′ out′ q → Advances file k many limit (NewAt n) (newWalk n) work out p work′ out′ q
-  unfolding termSaid namedMark newWalk appWalk MarkInRange isCollection
-  new-app {op = op} e b A =
-      advances-by (λ f x I m y.
-      let K = marked i same-number at T _ _ (ap (termSaid (bodyAt file o)) e) f I (y .below) in
-      (record { at = record { at = y; plain = ap isCollection (K .is) }; in-range = rw b (K .in-range .1) }, λ S. rw b (step-app (members f) (termAt f n) (K .rest) S _ _ (K .is)))) A
+      (record { at = record { at = y; plain = ap isCompound (K .is) }; type-below = K .in-range; utf8 = rw is-text (K .utf8) }, λ S. rw (is-text) (step-entity (members f) (termAt f n) (K .rest) S _ _ (K .is)))) A
 
   pub new-unreadable : r ≡ entry.Unreadable → Advances file k many limit (NewAt n) (newWalk n) work out p work out p
   unfolding termSaid
   new-unreadable e =
       advances-by (λ f x I m y. term-of i same-number at T f I (y .below) (λ m′ rs said known. absurd (Option·none-ne-some _ (sym (ap (termSaid (bodyAt file o)) e) ∙ said))))
       (advances-nothing (NewAt n) (λ f. went) (λ f y s. sticky-nothing y))
+
+  pub new-some : {m : ℕ} {work′ : List ℕ} {out′ : Bytes} {q : Progress} → r ≡ entry.Some m → Advances file k many limit (SomeAt n m) (defineWalk n) work out p work′ out′ q
+      → Advances file k many limit (NewAt n) (newWalk n) work out p work′ out′ q
+  unfolding termSaid namedMark newWalk defineWalk
+  new-some e A =
+      advances-by (λ f x I m y.
+      let is = is-term i same-number at T _ _ (ap (termSaid (bodyAt file o)) e) f I (y .below) in
+      (record { at = y; is = is }, λ S. step-some (members f) (termAt f n) _ S (sym (is .tree)))) A
 
   module _ {c : Children} {body : Bytes} {work′ : List ℕ} {out′ : Bytes} {q : Progress} where
     pub new-set : {t : ℕ} → r ≡ entry.Set t c → body ≡ bodyAt file o → Advances file k many limit (SetAt n (childrenIn body c)) (defineWalk n) work out p work′ out′ q
@@ -201,6 +217,15 @@ module _ {file : Bytes} {k many limit n o : ℕ} {work : List ℕ} {out : Bytes}
         advances-by (λ f x I m y.
         let is = is-term i same-number at T _ _ (ap (termSaid (bodyAt file o)) e) f I (y .below) in
         (record-at c b y is, λ S. step-record (members f) (termAt f n) _ S _ (sym (is .tree)))) A
+
+    pub new-app : {t : ℕ} {op : Op} → r ≡ entry.App t op c → body ≡ bodyAt file o → Advances file k many limit (AppAt n body op c) (appWalk n (opOf body op)) work out p work′ out′ q
+        → Advances file k many limit (NewAt n) (newWalk n) work out p work′ out′ q
+    unfolding termSaid namedMark newWalk appWalk
+    new-app {op = op} e b A =
+        advances-by (λ f x I m y.
+        let said = ap (termSaid (bodyAt file o)) e in
+        let is = is-term i same-number at T _ _ said f I (y .below) in
+        (app-at c b y op is (has-pattern i same-number at T _ _ _ said f I (y .below)), λ S. rw b (step-app (members f) (termAt f n) _ S _ _ (sym (is .tree))))) A
 
   pub new-defined : {work′ : List ℕ} {out′ : Bytes} {q : Progress} → OneOf others (tagOf the-type r) → Advances file k many limit (DefinedAt n) (defineWalk n) work out p work′ out′ q
       → Advances file k many limit (NewAt n) (newWalk n) work out p work′ out′ q

@@ -3,17 +3,20 @@
 use Prim.Native.Nat.{ℕ, _<_}
 use mathlib.Core.Path.{_≡_}
 use mathlib.Core.Bool.{true, false}
-use mathlib.Core.List.{List}
+use mathlib.Core.List.{List, [], _∷_}
 use lib.ListN.{length}
 use Rattle.script_spec.specs.Base.{Bytes}
 use Rattle.script_spec.specs.Utf8.{isUtf8}
-use Rattle.script_spec.specs.Tree.{Op, Set, Record, enumOf, isVariable, negation}
-use Rattle.script_spec.specs.File.{TermFile, types, funs, members, typeAt, termAt, namedOp}
+use Rattle.script_spec.specs.Tree.{Op, Some, Set, Record, App, enumOf, isVariable, ordinary, comparison, negation}
+use Rattle.script_spec.specs.File.{TermFile, types, members, typeAt, termAt, namedOp}
 use Rattle.script_spec.specs.Walk.{Step, Walk, _>>_, defineTerm, defineEntity, operatorStep, defineApp}
-use Rattle.index.specs.First.{OpInRange}
-use Rattle.index.specs.Meaning.{counted}
+use Rattle.operator.specs.Operators.{opOf}
+use Rattle.operator.specs.declared.Op as operator
+use Rattle.term_entry.specs.Terms.{childrenIn}
+use Rattle.term_entry.specs.declared.Children.{Children}
 use Rattle.term_parts.specs.Records.{TermIs}
-use Rattle.term_line.specs.Lines.{isCollection}
+use Rattle.application.specs.Applications.{PatternIs}
+use Rattle.term_line.specs.Lines.{isCompound}
 use Rattle.term_step.specs.Steps.{NewAt, textWalk, getWalk}
 
 -- ---- what a step is ready for
@@ -23,10 +26,15 @@ pub record VariableAt (n : ℕ) (f : TermFile) (x : Step) : Type 0 where
   pub at : NewAt n f x
   pub is : isVariable (termAt f n) ≡ true
 
--- it is new, and no set and no record
+-- it is new, and not compound
 pub record DefinedAt (n : ℕ) (f : TermFile) (x : Step) : Type 0 where
   pub at : NewAt n f x
-  pub plain : isCollection (termAt f n) ≡ false
+  pub plain : isCompound (termAt f n) ≡ false
+
+-- it is new, and the option of the term with number m
+pub record SomeAt (n m : ℕ) (f : TermFile) (x : Step) : Type 0 where
+  pub at : NewAt n f x
+  pub is : TermIs f n Some (m ∷ [])
 
 -- it is new, and a set of the terms with these numbers
 pub record SetAt (n : ℕ) (rs : List ℕ) (f : TermFile) (x : Step) : Type 0 where
@@ -40,7 +48,7 @@ pub record RecordAt (n : ℕ) (rs : List ℕ) (f : TermFile) (x : Step) : Type 0
   pub names : List Bytes
   pub is : TermIs f n (Record names) rs
 
--- it is new and no set and no record, and the text is UTF-8
+-- it is new and not compound, and the text is UTF-8
 pub record StringAt (n : ℕ) (s : Bytes) (f : TermFile) (x : Step) : Type 0 where
   pub at : DefinedAt n f x
   pub utf8 : isUtf8 s ≡ true
@@ -51,10 +59,25 @@ pub record EntityAt (n t : ℕ) (id : Bytes) (f : TermFile) (x : Step) : Type 0 
   pub type-below : t < length (types f)
   pub utf8 : isUtf8 id ≡ true
 
--- it is new and no set and no record, and the function of an operator is one of the file's
-pub record OperatorAt (n : ℕ) (op : Op ℕ) (f : TermFile) (x : Step) : Type 0 where
-  pub at : DefinedAt n f x
-  pub in-range : OpInRange (counted (length (types f)) (length (funs f)) n) op
+-- it is new, and an application of an operator to the children that a body has, with the pattern that the body has
+pub record AppAt (n : ℕ) (s : Bytes) (o : operator.Op) (c : Children) (f : TermFile) (x : Step) : Type 0 where
+  pub at : NewAt n f x
+  pub result : ℕ
+  pub is : TermIs f n (App result (opOf s o)) (childrenIn s c)
+  pub pattern : PatternIs s (opOf s o)
+
+-- and it is written by its operator
+pub record OrdinaryAt (n : ℕ) (s : Bytes) (o : operator.Op) (c : Children) (f : TermFile) (x : Step) : Type 0 where
+  pub at : AppAt n s o c f x
+  pub becomes : negation (termAt f n) ≡ ordinary
+
+-- it is new, and an application to the terms with these numbers that is written as a comparison of w bits
+pub record ComparisonAt (n w : ℕ) (rs : List ℕ) (f : TermFile) (x : Step) : Type 0 where
+  pub at : NewAt n f x
+  pub result : ℕ
+  pub op : Op ℕ
+  pub is : TermIs f n (App result op) rs
+  pub becomes : negation (termAt f n) ≡ comparison w
 
 -- ---- steps over the term with number n
 

@@ -31,7 +31,7 @@ pub fn declare_var(
     progress::placed(q, at)
 }
 
-// Names the term with number n, no set and no record, and defines it.
+// Names the term with number n, which is not compound, and defines it.
 pub fn define_term(
     file: &[u8],
     work: &mut [u32],

@@ -32,6 +32,9 @@ pub fn encode_new(
             let id = field::part_of(body, s.start, s.len);
             crate::entities::define_entity(file, work, k, many, out, limit, p, n, t, id)
         }
+        TermEntry::Some(m) => {
+            crate::collections::define_some(file, work, k, many, out, limit, p, n, m)
+        }
         TermEntry::Set(_, c) => crate::collections::define_set(
             file,
             work,
@@ -56,7 +59,7 @@ pub fn encode_new(
             body,
             c,
         ),
-        TermEntry::App(_, op, _) => crate::applications::define_app(
+        TermEntry::App(_, op, c) => crate::applications::define_app(
             file,
             work,
             k,
@@ -67,6 +70,7 @@ pub fn encode_new(
             n,
             body,
             op,
+            c,
         ),
         TermEntry::Unreadable => p,
         _ => crate::define_term(file, work, k, many, out, limit, p, n),

@@ -7,4 +7,4 @@ use Rattle.term_new.proofs.applications.define_record_get.Tie as tie
 
 pub define-record-get-spec : {M : Type 1} → statement M
 define-record-get-spec =
-    tie.close (tie.spec (λ c κs. search needs) (λ c κs. search needs) (λ c. search needs) (λ c. search needs) (λ c. record-get-then _ c.before.before.before.before.before.before.before.record-get.ensures c.before.before.before.before.define-term.ensures))
+    tie.close (tie.spec (λ c κs. search needs) (λ c κs. search needs) (λ c. search needs) (λ c. search needs) (λ c. record-get-then _ _ _ _ c.before.before.before.before.before.before.before.record-get.ensures c.before.before.before.before.define-applied.ensures))

@@ -1,0 +1,14 @@
+-- `term_new::applications::define_applied` meets its contract.
+-- Assumes nothing.
+use borrow.Author.Needs.{needs}
+use Rattle.progress.proofs.Running.{advances-refused}
+use Rattle.term_new.proofs.Defining.{defines-applied}
+use Rattle.term_new.proofs.applications.define_applied.Statement.{statement}
+use Rattle.term_new.proofs.applications.define_applied.Tie as tie
+
+pub define-applied-spec : {M : Type 1} → statement M
+define-applied-spec =
+    tie.close
+    (tie.spec
+    (λ c. advances-refused c.if1.taken) (λ c κs. search needs) (λ c κs. search needs) (λ c κs. search needs) (λ c κs. search needs) (λ c κs. search needs) (λ c. search needs) (λ c. search needs)
+    (λ c. defines-applied c.before.before.before.before.before.before.before.before.before.before.before.before.before.before.before.before.before.before.before.if1.left c.before.before.before.before.before.before.before.before.before.before.before.before.before.before.before.before.before.enter.ensures c.before.before.before.before.before.before.before.before.before.before.before.before.put-head.ensures c.before.before.before.put-end.ensures c.placed.ensures c.before.before.before.before.before.before.before.put-operator.ensures))
