@@ -1,9 +1,10 @@
--- A term where it is used, from its mark alone: an application, or a term that always has a name.
+-- A term where it is used, from its mark: an application, which may be told by its operator's code, or a term that always has a name.
 -- Assumes nothing.
 use Prim.Native.Nat.{ℕ, _<_}
 use native.Mathlib.Omega.{arith}
 use mathlib.Core.Path.{_≡_, refl, sym, ap, _∙_, subst}
-use mathlib.Core.Bool.{false}
+use mathlib.Core.Bool.{Bool, true, false}
+use mathlib.Core.Logic.{inl}
 use mathlib.Core.List.{List, [], _∷_, map}
 use mathlib.Core.Option.{some}
 use lib.ListN.{length}
@@ -29,8 +30,12 @@ use Rattle.entry.proofs.Classes.{termShape, shape, kind-shape, marked-entry}
 use Rattle.entry.proofs.TermRows.{term-stands}
 use Rattle.term_parts.specs.Parts.{nameOf}
 use Rattle.term_parts.proofs.Numbered.{name-is}
+use Rattle.query.specs.Negations.{OtherCode}
+use Rattle.query.proofs.CodeLaws.{record-other}
+use Rattle.query.proofs.NegationLaws.{of-unlike}
 use Rattle.atom.specs.Atoms.{SpellsCall, SpellsAtom}
 use Rattle.atom.proofs.AtomLaws.{named-is}
+use Rattle.atom.proofs.QueryLaws.{call-named}
 
 -- ---- marks
 
@@ -87,6 +92,10 @@ module _ {file : Bytes} {work : List ℕ} {k n o : ℕ} {kd : Kind} (place : o �
           app-shape mk (h ∙ ap (tagOf the-type) e) (λ t op is.
           C .go f S I N l _ _ _ (ap (λ (mk : TermMark ℕ ℕ). node (namedMark f mk) (forest (map (termAt f) rs))) (sym is) ∙ tree) (members f)));
     }
+
+    -- an application with another code than that of `Bvnego` has a name
+    pub marked-other : {body : Bytes} {b : Bool} → kd ≡ kind.XA → body ≡ bodyAt file o → OtherCode body b → b ≡ true → Appends limit x at y q (nameOf work k n) → SpellsAtom file work k many n limit x at y q
+    marked-other e here C h A = marked-call e (call-named (of-unlike place (record-other M e here C) h) (inl refl) A)
 
     pub marked-named : OneOf tags (tagOf the-type kd) → Appends limit x at y q (nameOf work k n) → SpellsAtom file work k many n limit x at y q
     marked-named h A = record {

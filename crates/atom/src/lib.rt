@@ -99,7 +99,12 @@ pub fn put_atom(
 {
     let offset = index::get(work, k, index::TERM_OFFSET, entry::wide(n));
     match entry::kind_at(file, offset) {
-        Kind::XA => put_call(file, work, k, out, at, limit, n),
+        Kind::XA => {
+            if query::is_other_code(entry::body_at(file, offset)) {
+                return term_parts::put_term_name(work, k, out, at, limit, n);
+            }
+            put_call(file, work, k, out, at, limit, n)
+        }
         Kind::XB | Kind::XN | Kind::XS | Kind::XE => {
             put_read(file, work, k, many, out, at, limit, n)
         }

@@ -118,13 +118,17 @@ record-other {file} {body} {o} {k} {r} m e b C = record {
       C .go h t rs (rw (b, under) q));
 }
 
+-- a kind that is no application's, by its place
+pub kind-other : {file : Bytes} {o : ℕ} {k : Kind} {r : Bool} → Marked (markAt file o) k → (tagOf the-type k ≡ 20 → ⊥) → IsOther file o r
+unfolding entryAt shape termShape
+kind-other {file} {o} {k} {r} m h = record {
+  go = λ e t rs g. marked-entry (bodyAt file o) (markAt file o) (mark k) (m .is) g (λ s i q.
+      h (sym (kind-shape (bodyAt file o) k s (term (App t (Plain Bvnego)) rs) i q)));
+}
+
 -- the places of the other kinds
 abbrev tags : List ℕ
 tags = 0 ∷ 1 ∷ 2 ∷ 3 ∷ 4 ∷ 5 ∷ 6 ∷ 7 ∷ 8 ∷ 9 ∷ 10 ∷ 11 ∷ 12 ∷ 13 ∷ 14 ∷ 15 ∷ 16 ∷ 17 ∷ 18 ∷ 19 ∷ 21 ∷ 22 ∷ []
 
 pub mark-other : {file : Bytes} {o : ℕ} {k : Kind} {r : Bool} → Marked (markAt file o) k → OneOf tags (tagOf the-type k) → IsOther file o r
-unfolding entryAt shape termShape
-mark-other {file} {o} {k} {r} m h = record {
-  go = λ e t rs g. marked-entry (bodyAt file o) (markAt file o) (mark k) (m .is) g (λ s i q.
-      miss tags 20 tt (subst (OneOf tags) (sym (kind-shape (bodyAt file o) k s (term (App t (Plain Bvnego)) rs) i q)) h));
-}
+mark-other m h = kind-other m (λ e. miss tags 20 tt (subst (OneOf tags) e h))

@@ -87,7 +87,7 @@ fn negation_with(file: &[u8], work: &[u32], k: usize, t: u32, body: &[u8], c: Ch
 }
 
 // Whether the body of an application has the code of another operator than `Bvnego`.
-fn is_other_code(body: &[u8]) -> bool
+pub fn is_other_code(body: &[u8]) -> bool
     ensures { λ r. ⌜ OtherCode (now (body .entry)) r ⌝ }
 {
     let c = Cursor { at: 4 };

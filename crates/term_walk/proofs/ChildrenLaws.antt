@@ -1,34 +1,52 @@
--- The children that are encoded before a term: none under the `false` of a `Bvnego`, else those of its record.
+-- The children that are encoded before a term: none under the `false` of a `Bvnego`, else those of its record, which its mark and, of an
+-- application, its operator's code may tell.
 -- Assumes nothing.
 use Prim.Native.Nat.{ℕ}
-use mathlib.Core.Path.{_≡_, sym, ap, _∙_, subst}
-use mathlib.Core.Bool.{true, false}
+use native.Mathlib.Omega.{arith}
+use mathlib.Core.Path.{_≡_, refl, sym, ap, _∙_, subst}
+use mathlib.Core.Bool.{Bool, true, false}
+use mathlib.Core.Logic.{inl}
 use mathlib.Core.List.{List, [], _∷_, map}
+use mathlib.Core.Option.{some}
 use package.types.Run.{OneOf, miss}
 use denote.Enum.Declared.{tagOf}
-use Rattle.script_spec.specs.Base.{Bytes}
+use Rattle.script_spec.specs.Base.{Bytes, bytes}
 use Rattle.script_spec.specs.Tree.{Tm, Mark, Forest, forest, isFalsehood, falsehood, negation}
 use Rattle.script_spec.specs.File.{members, termAt}
 use Rattle.script_spec.specs.Walk.{encodeTerm, encodeTerms}
 use Rattle.index.specs.Cells.{cell, termOffset}
 use Rattle.index.specs.First.{All, Below}
-use Rattle.index.specs.Standing.{bodyAt, entryAt}
+use Rattle.index.specs.Standing.{markAt, bodyAt, entryAt}
 use Rattle.index.specs.Meaning.{counted}
 use Rattle.naming.proofs.Sticky.{unless-known, unless-new}
+use Rattle.term_file.specs.Marks.{mark, Marked}
+use Rattle.term_file.specs.declared.mark.Kind.{Kind}
+use Rattle.term_file.specs.declared.mark.Kind.the-variants as kind
+use Rattle.term_file.proofs.mark.Kind as kinds
 use Rattle.entry.proofs.TermRows.{term-stands}
 use Rattle.term_entry.specs.Terms.{childrenIn}
-use Rattle.term_entry.specs.Children.{ChildrenAt}
+use Rattle.term_entry.specs.Children.{IsChildren, ChildrenAt}
 use Rattle.term_entry.specs.declared.Children.{Children}
 use Rattle.term_entry.proofs.ChildLaws.{no-children}
-use Rattle.query.specs.Negations.{negationSaid, NegationOf}
+use Rattle.term_entry.proofs.ChildEntries.{bare-children, children-some, under, children-at}
+use Rattle.query.specs.Negations.{negationSaid, OtherCode, NegationOf}
 use Rattle.query.specs.declared.Negated.{Negated}
 use Rattle.query.specs.declared.Negated.the-variants as negated
 use Rattle.query.proofs.Negated.{the-type}
-use Rattle.term_walk.specs.Terms.{termsWalk, below, childrenWalk, ChildrenAre, ToEncode}
+use Rattle.query.proofs.CodeLaws.{record-other, kind-other}
+use Rattle.query.proofs.NegationLaws.{of-unlike}
+use Rattle.term_walk.specs.Terms.{termsWalk, below, childrenWalk, ChildrenAre, ToEncode, ArgumentsToEncode}
 
 -- the places of the other answers
 abbrev others : List ℕ
 others = 0 ∷ 2 ∷ []
+
+-- the places of sets and records among the kinds, and of the kinds whose records have no children
+abbrev collections : List ℕ
+collections = 18 ∷ 19 ∷ []
+
+abbrev leaves : List ℕ
+leaves = 0 ∷ 1 ∷ 2 ∷ 3 ∷ 4 ∷ 5 ∷ 6 ∷ 7 ∷ 8 ∷ 9 ∷ 10 ∷ 11 ∷ 12 ∷ 13 ∷ 14 ∷ 15 ∷ 16 ∷ 21 ∷ 22 ∷ []
 
 -- an answer that is no `false`
 not-false : (u : Tm) (r : Negated) → OneOf others (tagOf the-type r) → negationSaid r ≡ negation u → isFalsehood u ≡ false
@@ -43,7 +61,7 @@ is-false u e = rw (isFalsehood, e)
 
 module _ {file : Bytes} {work : List ℕ} {k n : ℕ} {r : Negated} (N : NegationOf file work k n r) where
   -- the `false` of a `Bvnego`
-  pub encode-none : {c : Children} → r ≡ negated.Falsehood → c .left ≡ 0 → ToEncode file work k n c
+  encode-none : {c : Children} → r ≡ negated.Falsehood → c .left ≡ 0 → ToEncode file work k n c
   unfolding childrenWalk termsWalk encodeTerm encodeTerms forest Below All negationSaid
   encode-none {c} e h =
       record {
@@ -54,18 +72,52 @@ module _ {file : Bytes} {work : List ℕ} {k n : ℕ} {r : Negated} (N : Negatio
       }
 
   -- any other term
-  pub encode-all : {c : Children} {o : ℕ} (i : ℕ) → OneOf others (tagOf the-type r) → i ≡ n → o ≡ cell work k termOffset i → ChildrenAt file o c → ToEncode file work k n c
+  encode-all : {c : Children} {o : ℕ} → OneOf others (tagOf the-type r) → o ≡ cell work k termOffset n → ChildrenAt file o c → ToEncode file work k n c
   unfolding childrenWalk termsWalk below counted
-  encode-all {c} {o} i h same-number at C =
+  encode-all {c} {o} h here C =
       record {
         go = λ f I l.
             term-stands (I .term-row n l .stands) (λ m rs reads marks lower tree.
-            let here : o ≡ cell work k termOffset n = at ∙ ap (cell work k termOffset) same-number in
             let children : childrenIn (bodyAt file (cell work k termOffset n)) c ≡ rs = subst (λ (j : ℕ). childrenIn (bodyAt file j) c ≡ rs) here (C .go m rs (ap (entryAt file) here ∙ reads)) in
-            let under : below (termAt f n) ≡ forest (map (termAt f) rs) = ap below (sym tree) in
+            let forest-is : below (termAt f n) ≡ forest (map (termAt f) rs) = ap below (sym tree) in
             subst (ChildrenAre f n) (sym children)
             (record {
               lower = lower;
-              walks = λ S. unless-new (λ s. isFalsehood (termAt f n)) _ S (not-false (termAt f n) r h (N .go f I l)) ∙ ap (λ (ts : Forest Mark). encodeTerms (members f) ts S) under;
+              walks = λ S. unless-new (λ s. isFalsehood (termAt f n)) _ S (not-false (termAt f n) r h (N .go f I l)) ∙ ap (λ (ts : Forest Mark). encodeTerms (members f) ts S) forest-is;
             }));
       }
+
+-- ---- applications
+
+module _ {file : Bytes} {work : List ℕ} {k n : ℕ} {body : Bytes} {c : Children} where
+  -- with another code than that of `Bvnego`
+  pub arguments-other : {b : Bool} → OtherCode body b → b ≡ true → IsChildren (some (bytes "XA")) body c → ArgumentsToEncode file work k n body c
+  unfolding mark
+  arguments-other C h A = record { go = λ o place M here. encode-all (of-unlike place (record-other M refl here C) h) (inl refl) place (children-at M here A) }
+
+  pub arguments-none : {r : Negated} → NegationOf file work k n r → r ≡ negated.Falsehood → c .left ≡ 0 → ArgumentsToEncode file work k n body c
+  arguments-none N e h = record { go = λ o place M here. encode-none N e h }
+
+  pub arguments-all : {r : Negated} → NegationOf file work k n r → OneOf others (tagOf the-type r) → IsChildren (some (bytes "XA")) body c → ArgumentsToEncode file work k n body c
+  unfolding mark
+  arguments-all N h A = record { go = λ o place M here. encode-all N h place (children-at M here A) }
+
+-- ---- marks
+
+module _ {file : Bytes} {work : List ℕ} {k n o : ℕ} {kd : Kind} (place : o ≡ cell work k termOffset n) (M : Marked (markAt file o) kd) where
+  pub encode-app : {body : Bytes} {c : Children} → kd ≡ kind.XA → body ≡ bodyAt file o → ArgumentsToEncode file work k n body c → ToEncode file work k n c
+  encode-app e here A = A .go o place (subst (Marked (markAt file o)) e M) here
+
+  -- a term that is no application
+  encode-other : {c : Children} → (tagOf kinds.the-type kd ≡ 20 → ⊥) → ChildrenAt file o c → ToEncode file work k n c
+  encode-other h C = encode-all (of-unlike place (kind-other M h) refl) (inl refl) place C
+
+  pub encode-some : kd ≡ kind.X1 → ToEncode file work k n (record { from = 0; left = 1; named = false })
+  unfolding mark
+  encode-some e = encode-other (λ h. let x : 17 ≡ 20 = ap (tagOf kinds.the-type) (sym e) ∙ h in omega arith) (children-at M refl (under e refl children-some))
+
+  pub encode-collection : {c : Children} → OneOf collections (tagOf kinds.the-type kd) → ChildrenAt file o c → ToEncode file work k n c
+  encode-collection h C = encode-other (λ e. miss collections 20 tt (subst (OneOf collections) e h)) C
+
+  pub encode-leaf : OneOf leaves (tagOf kinds.the-type kd) → ToEncode file work k n (record { from = 0; left = 0; named = false })
+  encode-leaf h = encode-other (λ e. miss leaves 20 tt (subst (OneOf leaves) e h)) (children-at M refl (bare-children kd h))

@@ -10,8 +10,10 @@ use Rattle.script_spec.specs.File.{TermFile, terms, members, termAt}
 use Rattle.script_spec.specs.Walk.{State, Walk, unless, encodeType, encodeTerm, encodeTerms}
 use Rattle.index.specs.Cells.{cell, termOffset}
 use Rattle.index.specs.First.{Below}
-use Rattle.index.specs.Standing.{bodyAt}
+use Rattle.index.specs.Standing.{markAt, bodyAt}
 use Rattle.index.specs.Meaning.{Index}
+use Rattle.term_file.specs.Marks.{Marked}
+use Rattle.term_file.specs.declared.mark.Kind.the-variants as kind
 use Rattle.term_entry.specs.Terms.{childrenIn}
 use Rattle.term_entry.specs.declared.Children.{Children}
 use Rattle.term_walk.specs.declared.Part.{Part}
@@ -50,3 +52,7 @@ pub record ChildrenAre (f : TermFile) (n : ℕ) (rs : List ℕ) : Type 0 where
 -- the children that are encoded, whatever file was accepted
 pub record ToEncode (file : Bytes) (work : List ℕ) (k n : ℕ) (r : Children) : Type 0 where
   pub go : (f : TermFile) → Index file f work k → n < length (terms f) → ChildrenAre f n (childrenIn (bodyAt file (cell work k termOffset n)) r)
+
+-- the arguments that are encoded, where the record of the term with number n is an application and has this body
+pub record ArgumentsToEncode (file : Bytes) (work : List ℕ) (k n : ℕ) (body : Bytes) (r : Children) : Type 0 where
+  pub go : (o : ℕ) → o ≡ cell work k termOffset n → Marked (markAt file o) kind.XA → body ≡ bodyAt file o → ToEncode file work k n r

@@ -3,6 +3,7 @@ use progress::Progress;
 use query::Negated;
 use term_entry::Child;
 use term_entry::Children;
+use term_file::mark::Kind;
 ghost use mathlib.Core.Path.{_≡_};
 ghost use Rattle.index.specs.Cells.{termFirst};
 ghost use Rattle.index.specs.Standing.{bodyAt};
@@ -10,7 +11,7 @@ ghost use Rattle.naming.specs.Naming.{nameAt, termName};
 ghost use Rattle.progress.specs.Progress.{Advances};
 ghost use Rattle.term_entry.specs.Children.{TakesChild};
 ghost use Rattle.term_step.specs.Steps.{termReady};
-ghost use Rattle.term_walk.specs.Terms.{termWalk, ownTypeWalk, childrenWalk, partWalk, ToEncode};
+ghost use Rattle.term_walk.specs.Terms.{termWalk, ownTypeWalk, childrenWalk, partWalk, ToEncode, ArgumentsToEncode};
 
 // What of a term is encoded before it.
 enum Part {
@@ -31,20 +32,41 @@ fn term_name(work: &[u32], k: usize, n: u32) -> u32
     )
 }
 
-// The children of the term with number n that are encoded before it: none under the `false` of a `Bvnego`.
-fn to_encode(file: &[u8], work: &[u32], k: usize, n: u32) -> Children
-    ensures { λ r. ⌜ ToEncode (now (file .entry)) (now (work .entry)) k n r ⌝ }
+// The arguments of the application with number n that are encoded before it, by its body: none under the `false` of a `Bvnego`.
+fn arguments_to_encode(file: &[u8], work: &[u32], k: usize, n: u32, body: &[u8]) -> Children
+    ensures { λ r. ⌜ ArgumentsToEncode (now (file .entry)) (now (work .entry)) k n (now (body .entry)) r ⌝ }
 {
+    if query::is_other_code(body) {
+        return term_entry::arguments(body);
+    }
     match query::negation_of(file, work, k, n) {
         Negated::Falsehood => Children {
             from: 0,
             left: 0,
             named: false,
         },
-        _ => {
-            let offset = index::get(work, k, index::TERM_OFFSET, entry::wide(n));
-            term_entry::children_at(file, offset)
-        }
+        _ => term_entry::arguments(body),
+    }
+}
+
+// The children of the term with number n that are encoded before it.
+fn to_encode(file: &[u8], work: &[u32], k: usize, n: u32) -> Children
+    ensures { λ r. ⌜ ToEncode (now (file .entry)) (now (work .entry)) k n r ⌝ }
+{
+    let offset = index::get(work, k, index::TERM_OFFSET, entry::wide(n));
+    match entry::kind_at(file, offset) {
+        Kind::X1 => Children {
+            from: 0,
+            left: 1,
+            named: false,
+        },
+        Kind::XA => arguments_to_encode(file, work, k, n, entry::body_at(file, offset)),
+        Kind::XC | Kind::XR => term_entry::children_at(file, offset),
+        _ => Children {
+            from: 0,
+            left: 0,
+            named: false,
+        },
     }
 }
 

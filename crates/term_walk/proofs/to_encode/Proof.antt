@@ -1,14 +1,27 @@
--- `term_walk::to_encode` meets its contract.
+-- `term_walk::to_encode` meets its contract: each mark by its arm.
 -- Assumes nothing.
 use borrow.Author.Needs.{needs}
-use mathlib.Core.Path.{refl}
-use Rattle.term_walk.proofs.ChildrenLaws.{encode-none, encode-all}
+use Rattle.term_walk.proofs.ChildrenLaws.{encode-app, encode-some, encode-collection, encode-leaf}
 use Rattle.term_walk.proofs.to_encode.Statement.{statement}
 use Rattle.term_walk.proofs.to_encode.Tie as tie
+
+returns : tie.Need-returns
+returns c = encode-some (rw (← (c.before.before.before.before.wide.ensures .0)) c.before.before.before.get.ensures) c.before.before.kind-at.ensures c.enum-told.given.1
+
+returns-2 : tie.Need-returns-2
+returns-2 c = encode-app (rw (← (c.before.before.before.before.before.before.wide.ensures .0)) c.before.before.before.before.before.get.ensures) c.before.before.before.before.kind-at.ensures c.before.before.enum-told2.given.1 c.before.body-at.ensures c.arguments-to-encode.ensures
+
+returns-3 : tie.Need-returns-3
+returns-3 c = encode-collection (rw (← (c.before.before.before.before.wide.ensures .0)) c.before.before.before.get.ensures) c.before.before.kind-at.ensures c.before.match.keys3 c.children-at.ensures
+
+returns-4 : tie.Need-returns-4
+returns-4 c = encode-leaf (rw (← (c.before.before.before.wide.ensures .0)) c.before.before.get.ensures) c.before.kind-at.ensures c.match.keys4
 
 pub to-encode-spec : {M : Type 1} → statement M
 to-encode-spec =
     tie.close
-    (tie.spec (λ c κs. search needs) (λ c. search needs) (λ c κs. search needs) (λ c κs. search needs) (λ c κs. search needs)
-    (λ c. encode-none c.before.before.negation-of.ensures c.enum-told.given.1 refl)
-    (λ c. encode-all c.before.before.before.before.negation-of.ensures _ c.before.before.before.match.keys2 c.before.before.wide.ensures.0 c.before.get.ensures c.children-at.ensures))
+    (tie.spec (λ c κs. search needs) (λ c κs. search needs) (λ c κs. search needs) (λ c. search needs) (λ c. search needs) (λ c κs. search needs) (λ c κs. search needs) (λ c κs. search needs)
+    returns
+    returns-2
+    returns-3
+    returns-4)
