@@ -2,7 +2,6 @@
 use query::Member;
 use query::Negated;
 use term_entry::TermEntry;
-use term_file::mark::Kind;
 ghost use Rattle.atom.specs.Atoms.{SpellsEntity, SpellsCall, SpellsAtom};
 
 // Writes the term with number n, an entity of the type with number t: a member of an enum by its place, or else by its name.
@@ -98,16 +97,14 @@ pub fn put_atom(
         ⌜ SpellsAtom (now (file .entry)) (now (work .entry)) k many n limit (now (out .entry)) at (now (out .exit)) r ⌝ }
 {
     let offset = index::get(work, k, index::TERM_OFFSET, entry::wide(n));
-    match entry::kind_at(file, offset) {
-        Kind::XA => {
+    match entry::letter_at(file, offset) {
+        b'A' => {
             if query::is_other_code(entry::body_at(file, offset)) {
                 return term_parts::put_term_name(work, k, out, at, limit, n);
             }
             put_call(file, work, k, out, at, limit, n)
         }
-        Kind::XB | Kind::XN | Kind::XS | Kind::XE => {
-            put_read(file, work, k, many, out, at, limit, n)
-        }
+        b'B' | b'N' | b'S' | b'E' => put_read(file, work, k, many, out, at, limit, n),
         _ => term_parts::put_term_name(work, k, out, at, limit, n),
     }
 }

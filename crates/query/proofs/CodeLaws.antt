@@ -1,13 +1,11 @@
--- A record that is no `Bvnego`: by its mark, or by its operator's code, since only one place of the table has `Bvnego`.
+-- A record that is no `Bvnego`: by the second byte of its mark, or by its operator's code, since only one place of the table has `Bvnego`.
 -- Assumes nothing.
 use Prim.Native.Nat.{ℕ, zero, suc, _^_}
 use mathlib.Core.Path.{_≡_, refl, sym, ap, _∙_, subst}
 use mathlib.Core.Bool.{Bool, false}
 use mathlib.Core.List.{List, [], _∷_, _++_}
 use mathlib.Core.Option.{Option, none, some, Option·none-ne-some}
-use lib.ListN.{length, take, drop}
-use package.types.Run.{OneOf, miss}
-use denote.Enum.Declared.{tagOf}
+use lib.ListN.{length, take, drop, getD}
 use Rattle.script_spec.specs.Base.{Bytes, bytes, at, same, lookup, andThen}
 use Rattle.script_spec.specs.Tree as tree
 use Rattle.script_spec.specs.Tree.{PlainOp, Op, App, Plain, Bvnego}
@@ -16,11 +14,8 @@ use Rattle.index.specs.First.{All}
 use Rattle.index.specs.Standing.{markAt, bodyAt, entryOf, entryAt, loose}
 use Rattle.index.proofs.Readers.{Gives, gives-after, gives-pure, got-value, bad-not-got}
 use Rattle.field.specs.Reads.{value, asRead, Reads}
-use Rattle.term_file.specs.Marks.{mark, Marked}
-use Rattle.term_file.proofs.mark.Kind.{the-type}
-use Rattle.term_file.specs.declared.mark.Kind.{Kind}
-use Rattle.term_file.specs.declared.mark.Kind.the-variants as kind
-use Rattle.entry.proofs.Classes.{termShape, shape, kind-shape, marked-entry}
+use Rattle.record_rules.specs.Marks.{termBytes, markOf}
+use Rattle.record_rules.proofs.Marks.{entry-mark}
 use Rattle.entry.proofs.Inverse.{entry-whole, bind-inverse, tested-inverse}
 use Rattle.entry.proofs.TypeEntries.{coded-by}
 use Rattle.query.specs.Negations.{OtherCode, IsOther}
@@ -110,25 +105,16 @@ code-any = record { go = λ e t rs g. never (cc) }
 
 -- ---- records
 
-pub record-other : {file body : Bytes} {o : ℕ} {k : Kind} {r : Bool} → Marked (markAt file o) k → k ≡ kind.XA → body ≡ bodyAt file o → OtherCode body r → IsOther file o r
-unfolding entryAt mark
-record-other {file} {body} {o} {k} {r} m e b C = record {
-  go = λ h t rs g. marked-entry (bodyAt file o) (markAt file o) (mark k) (m .is) g (λ s i q.
-      let under : bytes "XA" ≡ s = cc in
-      C .go h t rs (rw (b, under) q));
-}
+-- the mark of an application
+app-mark : (file : Bytes) (o : ℕ) {t : ℕ} {op : Op ℕ} {rs : List ℕ} → entryAt file o ≡ some (term (App t op) rs) → markAt file o ≡ bytes "XA"
+unfolding entryAt markOf termBytes
+app-mark file o g = entry-mark (markAt file o) (bodyAt file o) g
 
--- a kind that is no application's, by its place
-pub kind-other : {file : Bytes} {o : ℕ} {k : Kind} {r : Bool} → Marked (markAt file o) k → (tagOf the-type k ≡ 20 → ⊥) → IsOther file o r
-unfolding entryAt shape termShape
-kind-other {file} {o} {k} {r} m h = record {
-  go = λ e t rs g. marked-entry (bodyAt file o) (markAt file o) (mark k) (m .is) g (λ s i q.
-      h (sym (kind-shape (bodyAt file o) k s (term (App t (Plain Bvnego)) rs) i q)));
-}
+pub record-other : {file body : Bytes} {o : ℕ} {r : Bool} → body ≡ bodyAt file o → OtherCode body r → IsOther file o r
+unfolding entryAt
+record-other {file} {o = o} b C = record { go = λ h t rs g. C .go h t rs (rw (b, ← (app-mark file o g)) g) }
 
--- the places of the other kinds
-abbrev tags : List ℕ
-tags = 0 ∷ 1 ∷ 2 ∷ 3 ∷ 4 ∷ 5 ∷ 6 ∷ 7 ∷ 8 ∷ 9 ∷ 10 ∷ 11 ∷ 12 ∷ 13 ∷ 14 ∷ 15 ∷ 16 ∷ 17 ∷ 18 ∷ 19 ∷ 21 ∷ 22 ∷ []
-
-pub mark-other : {file : Bytes} {o : ℕ} {k : Kind} {r : Bool} → Marked (markAt file o) k → OneOf tags (tagOf the-type k) → IsOther file o r
-mark-other m h = kind-other m (λ e. miss tags 20 tt (subst (OneOf tags) e h))
+-- a letter that is no application's
+pub letter-other : {file : Bytes} {o l : ℕ} {r : Bool} → l ≡ getD (markAt file o) 1 0 → (l ≡ 65 → ⊥) → IsOther file o r
+unfolding bytes
+letter-other {file} {o} i h = record { go = λ e t rs g. h (i ∙ ap (λ (s : Bytes). getD s 1 0) (app-mark file o g)) }

@@ -6,7 +6,6 @@ use operator::Op;
 use positions::Found;
 use term_entry::Children;
 use term_entry::TermEntry;
-use term_file::mark::Kind;
 ghost use Rattle.index.specs.Cells.{cell, typeOffset};
 ghost use Rattle.entry.specs.Types.{TypeAt};
 ghost use Rattle.query.specs.Searches.{FindsAttribute, IsEnum, FindsIn, FindsMember};
@@ -106,8 +105,8 @@ pub fn is_other_code(body: &[u8]) -> bool
 fn is_other(file: &[u8], offset: u32) -> bool
     ensures { λ r. ⌜ IsOther (now (file .entry)) offset r ⌝ }
 {
-    match entry::kind_at(file, offset) {
-        Kind::XA => is_other_code(entry::body_at(file, offset)),
+    match entry::letter_at(file, offset) {
+        b'A' => is_other_code(entry::body_at(file, offset)),
         _ => true,
     }
 }

@@ -1,7 +1,7 @@
 -- Types that have nothing left to declare: by their marks, by the part of an option or a set, and by a name. The walk over such a type
 -- changes nothing.
 -- Assumes nothing.
-use Prim.Native.Nat.{ℕ, _<_}
+use Prim.Native.Nat.{ℕ, _+_, _^_, _<_}
 use mathlib.Core.Path.{_≡_, refl, sym, ap, _∙_, subst}
 use mathlib.Core.Logic.{_⊎_, inl, inr}
 use mathlib.Core.Bool.{Bool, true, false, not}
@@ -9,16 +9,18 @@ use mathlib.Core.List.{List, [], _∷_, map}
 use mathlib.Core.Option.{none, some}
 use native.Mathlib.Omega.{arith}
 use lib.Dec.{eqb}
-use lib.ListN.{getD}
+use lib.ListN.{length, getD}
 use Rattle.script_spec.specs.Base.{Bytes, bytes, any}
 use Rattle.script_spec.specs.Tree.{Ty, TypeMark, Forest, Enums, node, forest, eqTy, datatype, datatypeMark, Bool·, String·, BitVec·}
 use Rattle.script_spec.specs.Fields.{type}
-use Rattle.script_spec.specs.File.{types, members, typeAt}
-use Rattle.script_spec.specs.Walk.{State, went, declareType, encodeType, encodeTypes}
+use Rattle.script_spec.specs.File.{TermFile, types, enums, members, typeAt}
+use Rattle.script_spec.specs.Walk.{State, Step, went, stopped, declareType, encodeType, encodeTypes}
 use Rattle.index.specs.Cells.{cell, typeOffset, typeFirst}
 use Rattle.index.specs.Standing.{markAt, bodyAt, entryAt}
+use Rattle.index.specs.Meaning.{Index}
 use Rattle.naming.specs.Naming.{typeName, nameAt}
 use Rattle.naming.specs.Sticky.{sticky}
+use Rattle.naming.proofs.Names.{kept-refl}
 use Rattle.naming.proofs.Sticky.{sticky-then}
 use Rattle.entry.specs.Types.{typeSaid, IsType, PartAt}
 use Rattle.entry.proofs.Letters.{typeMarked}
@@ -26,9 +28,8 @@ use Rattle.entry.proofs.Rows.{type-stands}
 use Rattle.entry.proofs.TypeEntries.{under, type-bool, type-string, type-bitvec, type-option, type-set, type-at}
 use Rattle.entry.specs.declared.types.TypeEntry.{TypeEntry}
 use Rattle.entry.specs.declared.types.TypeEntry.the-variants as entry
-use Rattle.progress.specs.Progress.{Advances}
+use Rattle.progress.specs.Progress.{Holds, Advances}
 use Rattle.progress.specs.declared.Progress.{Progress}
-use Rattle.progress.proofs.Running.{advances-passed}
 use Rattle.type_walk.specs.Parts.{settledSaid, SettlesBy}
 use Rattle.type_walk.specs.declared.settled.SettledBy.{SettledBy}
 use Rattle.type_walk.specs.declared.settled.SettledBy.the-variants as by
@@ -128,8 +129,13 @@ pub follows-part : {file : Bytes} {work : List ℕ} {k t u o n : ℕ} {x : Settl
     → Follows file work k t n
 follows-part F place told B less = record { go = λ r P. F .go r (settled-part place told B less P) }
 
--- a settled type is left
-pub passes-settled : {file : Bytes} {k many limit t : ℕ} {work : List ℕ} {out : Bytes} {p : Progress} {r : Bool} → p .refused ≡ 0 → Settled file work k t r → r ≡ true
+-- a settled type is left, after a refusal too
+pub passes-settled : {file : Bytes} {k many limit t : ℕ} {work : List ℕ} {out : Bytes} {p : Progress} {r : Bool} → Settled file work k t r → r ≡ true
     → Advances file k many limit (typeReady t) (typeWalk t) work out p work out p
-unfolding typeReady
-passes-settled {t = t} z P h = advances-passed {ready = typeReady t} {walk = typeWalk t} z (λ f o S I n R W. P .go h f S I (W .numbers) R)
+unfolding typeReady sticky
+passes-settled {file} {k} {many} {limit} {t} {work} {out} {p} P h = record { kept = kept-refl work k; go = go }
+  where
+    go : (f : TermFile) (o : Bytes) (x : Step) → Index file f work k → k + 1 < 2 ^ 32 → many ≡ length (enums f) → typeReady t f x
+        → Holds f k limit o work out p x → Holds f k limit o work out p (sticky (typeWalk t f) x)
+    go f o (went S) I small n R H = subst (Holds f k limit o work out p) (sym (P .go h f S I (H .numbers) R)) H
+    go f o (stopped c u) I small n R H = H

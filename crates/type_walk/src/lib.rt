@@ -1,7 +1,7 @@
 // The encoder's walk over types and functions, by the numbers of their records: what was not declared before is.
 pub mod declare;
 pub mod parts;
-mod settled;
+pub mod settled;
 
 use parts::Parts;
 use progress::Progress;

@@ -6,18 +6,18 @@ use Rattle.atom.proofs.put_atom.Statement.{statement}
 use Rattle.atom.proofs.put_atom.Tie as tie
 
 returns : tie.Need-returns
-returns c = marked-other (rw (← (c.before.before.before.before.before.before.before.before.before.before.before.wide.ensures .0)) c.before.before.before.before.before.before.before.before.before.before.get.ensures) c.before.before.before.before.before.before.before.before.before.kind-at.ensures c.before.before.before.before.before.before.before.enum-told.given.1 c.before.before.before.before.before.before.body-at.ensures c.before.before.before.before.before.is-other-code.ensures c.before.before.before.before.if1.taken c.before.before.put-term-name.ensures
+returns c = marked-other (rw (← (c.before.before.before.before.before.before.before.before.before.before.wide.ensures .0)) c.before.before.before.before.before.before.before.before.before.get.ensures) c.before.before.before.before.before.before.before.before.letter-at.ensures c.before.before.before.before.before.before.before.match.keys1 c.before.before.before.before.before.before.body-at.ensures c.before.before.before.before.before.is-other-code.ensures c.before.before.before.before.if1.taken c.before.before.put-term-name.ensures
 
 returns-2 : tie.Need-returns-2
-returns-2 c = marked-call (rw (← (c.before.before.before.before.before.before.before.before.before.before.before.wide.ensures .0)) c.before.before.before.before.before.before.before.before.before.before.get.ensures) c.before.before.before.before.before.before.before.before.before.kind-at.ensures c.before.before.before.before.before.before.before.enum-told.given.1 c.before.before.put-call.ensures
+returns-2 c = marked-call (rw (← (c.before.before.before.before.before.before.before.before.before.before.wide.ensures .0)) c.before.before.before.before.before.before.before.before.before.get.ensures) c.before.before.before.before.before.before.before.before.letter-at.ensures c.before.before.before.before.before.before.before.match.keys1 c.before.before.put-call.ensures
 
 returns-4 : tie.Need-returns-4
-returns-4 c = marked-named (rw (← (c.before.before.before.before.before.before.before.wide.ensures .0)) c.before.before.before.before.before.before.get.ensures) c.before.before.before.before.before.kind-at.ensures c.before.before.before.before.match.keys3 c.before.before.put-term-name2.ensures
+returns-4 c = let r = c.before.before.before.before.match.rest in marked-named (rw (← (c.before.before.before.before.before.before.before.wide.ensures .0)) c.before.before.before.before.before.before.get.ensures) c.before.before.before.before.before.letter-at.ensures (r .0 .1) (r .1) c.before.before.put-term-name2.ensures
 
 pub put-atom-spec : {M : Type 1} → statement M
 put-atom-spec =
     tie.close
-    (tie.spec (λ c κs. search needs) (λ c κs. search needs) (λ c κs. search needs) (λ c. search needs) (λ c κs. search needs) (λ c κs. search needs) (λ c κs. search needs) (λ c. search needs)
+    (tie.spec (λ c κs. search needs) (λ c κs. search needs) (λ c κs. search needs) (λ c κs. search needs) (λ c κs. search needs) (λ c κs. search needs) (λ c. search needs)
     returns (λ c κs. search needs) (λ c κs. search needs) (λ c κs. search needs) (λ c. search needs)
     returns-2 (λ c. search needs) (λ c. search needs) (λ c. search needs)
     returns-4)

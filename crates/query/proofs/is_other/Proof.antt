@@ -1,6 +1,6 @@
 -- `query::is_other` meets its contract: by the mark, and of an application by the code.
 -- Assumes nothing.
-use Rattle.query.proofs.CodeLaws.{record-other, mark-other}
+use Rattle.query.proofs.CodeLaws.{record-other, letter-other}
 use borrow.Author.Needs.{needs}
 use Rattle.query.proofs.is_other.Statement.{statement}
 use Rattle.query.proofs.is_other.Tie as tie
@@ -8,6 +8,6 @@ use Rattle.query.proofs.is_other.Tie as tie
 pub is-other-spec : {M : Type 1} → statement M
 is-other-spec =
     tie.close
-    (tie.spec (λ c κs. search needs) (λ c. search needs) (λ c κs. search needs) (λ c κs. search needs)
-    (λ c. record-other c.before.before.before.before.kind-at.ensures c.before.before.enum-told.given.1 c.before.body-at.ensures c.is-other-code.ensures)
-    (λ c. mark-other c.before.kind-at.ensures c.match.keys2))
+    (tie.spec (λ c κs. search needs) (λ c κs. search needs) (λ c κs. search needs)
+    (λ c. record-other c.before.body-at.ensures c.is-other-code.ensures)
+    (λ c. letter-other c.before.letter-at.ensures (c.match.rest .1)))

@@ -71,7 +71,7 @@ encode-type-same-length : (t : ℕ) → encode-type-lts.Need-same-length (encode
 encode-type-same-length t c = search needs
 
 encode-type-returns-2 : (t : ℕ) → encode-type-lts.Need-returns-2 (encode-type-claims t) (encode-type-at t) encode-type.Post
-encode-type-returns-2 t c = passes-settled c.before.before.before.if1.left c.before.is-settled.ensures c.if2.taken
+encode-type-returns-2 t c = passes-settled c.before.is-settled.ensures c.if2.taken
 
 encode-type-type-name-requires : (t : ℕ) → encode-type-lts.Need-type-name-requires (encode-type-claims t) (encode-type-at t) encode-type.Post
 encode-type-type-name-requires t c κs = search needs
