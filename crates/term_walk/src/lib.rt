@@ -76,7 +76,7 @@ fn take_child(file: &[u8], offset: u32, c: Children) -> Child
     term_entry::take_child(entry::body_at(file, offset), c)
 }
 
-// Encodes the type of the term with number n.
+// Encodes the type of the term with number n. The walk over types is called only where something may be left to declare.
 fn encode_own_type(
     file: &[u8],
     work: &mut [u32],
@@ -91,6 +91,9 @@ fn encode_own_type(
         ⌜ Advances (now (file .entry)) k many limit (termReady n) (ownTypeWalk n) (now (work .entry)) (now (out .entry)) p (now (work .exit)) (now (out .exit)) r ⌝ }
 {
     let t = index::get(work, k, index::TERM_TYPE, entry::wide(n));
+    if type_walk::settled::is_settled(file, work, k, t) {
+        return p;
+    }
     type_walk::encode_type(file, work, k, many, out, limit, p, t)
 }
 
