@@ -1,13 +1,14 @@
--- The children that are encoded before a term: none under the `false` of a `Bvnego`, else those of its record, which its mark and, of an
--- application, its operator's code may tell.
+-- The children that are encoded before a term: none under the `false` of a `Bvnego`, else those of its record, which the second byte of
+-- its mark and, of an application, its operator's code may tell.
 -- Assumes nothing.
 use Prim.Native.Nat.{ℕ}
 use native.Mathlib.Omega.{arith}
 use mathlib.Core.Path.{_≡_, refl, sym, ap, _∙_, subst}
 use mathlib.Core.Bool.{Bool, true, false}
-use mathlib.Core.Logic.{inl}
+use mathlib.Core.Logic.{inl, inr}
 use mathlib.Core.List.{List, [], _∷_, map}
 use mathlib.Core.Option.{some}
+use lib.ListN.{getD}
 use package.types.Run.{OneOf, miss}
 use denote.Enum.Declared.{tagOf}
 use Rattle.script_spec.specs.Base.{Bytes, bytes}
@@ -19,10 +20,6 @@ use Rattle.index.specs.First.{All, Below}
 use Rattle.index.specs.Standing.{markAt, bodyAt, entryAt}
 use Rattle.index.specs.Meaning.{counted}
 use Rattle.naming.proofs.Sticky.{unless-known, unless-new}
-use Rattle.term_file.specs.Marks.{mark, Marked}
-use Rattle.term_file.specs.declared.mark.Kind.{Kind}
-use Rattle.term_file.specs.declared.mark.Kind.the-variants as kind
-use Rattle.term_file.proofs.mark.Kind as kinds
 use Rattle.entry.proofs.TermRows.{term-stands}
 use Rattle.term_entry.specs.Terms.{childrenIn}
 use Rattle.term_entry.specs.Children.{IsChildren, ChildrenAt}
@@ -33,20 +30,13 @@ use Rattle.query.specs.Negations.{negationSaid, OtherCode, NegationOf}
 use Rattle.query.specs.declared.Negated.{Negated}
 use Rattle.query.specs.declared.Negated.the-variants as negated
 use Rattle.query.proofs.Negated.{the-type}
-use Rattle.query.proofs.CodeLaws.{record-other, kind-other}
+use Rattle.query.proofs.CodeLaws.{record-other, letter-other}
 use Rattle.query.proofs.NegationLaws.{of-unlike}
 use Rattle.term_walk.specs.Terms.{termsWalk, below, childrenWalk, ChildrenAre, ToEncode, ArgumentsToEncode}
 
 -- the places of the other answers
 abbrev others : List ℕ
 others = 0 ∷ 2 ∷ []
-
--- the places of sets and records among the kinds, and of the kinds whose records have no children
-abbrev collections : List ℕ
-collections = 18 ∷ 19 ∷ []
-
-abbrev leaves : List ℕ
-leaves = 0 ∷ 1 ∷ 2 ∷ 3 ∷ 4 ∷ 5 ∷ 6 ∷ 7 ∷ 8 ∷ 9 ∷ 10 ∷ 11 ∷ 12 ∷ 13 ∷ 14 ∷ 15 ∷ 16 ∷ 21 ∷ 22 ∷ []
 
 -- an answer that is no `false`
 not-false : (u : Tm) (r : Negated) → OneOf others (tagOf the-type r) → negationSaid r ≡ negation u → isFalsehood u ≡ false
@@ -89,35 +79,43 @@ module _ {file : Bytes} {work : List ℕ} {k n : ℕ} {r : Negated} (N : Negatio
 
 -- ---- applications
 
+-- the arguments are the children of the record
+called : {file body : Bytes} {o : ℕ} {c : Children} → getD (markAt file o) 1 0 ≡ 65 → body ≡ bodyAt file o → IsChildren (some (bytes "XA")) body c → ChildrenAt file o c
+unfolding bytes
+called e here A = children-at (sym e) here A
+
 module _ {file : Bytes} {work : List ℕ} {k n : ℕ} {body : Bytes} {c : Children} where
   -- with another code than that of `Bvnego`
   pub arguments-other : {b : Bool} → OtherCode body b → b ≡ true → IsChildren (some (bytes "XA")) body c → ArgumentsToEncode file work k n body c
-  unfolding mark
-  arguments-other C h A = record { go = λ o place M here. encode-all (of-unlike place (record-other M refl here C) h) (inl refl) place (children-at M here A) }
+  arguments-other C h A = record { go = λ o place e here. encode-all (of-unlike place (record-other here C) h) (inl refl) place (called e here A) }
 
   pub arguments-none : {r : Negated} → NegationOf file work k n r → r ≡ negated.Falsehood → c .left ≡ 0 → ArgumentsToEncode file work k n body c
-  arguments-none N e h = record { go = λ o place M here. encode-none N e h }
+  arguments-none N e h = record { go = λ o place i here. encode-none N e h }
 
   pub arguments-all : {r : Negated} → NegationOf file work k n r → OneOf others (tagOf the-type r) → IsChildren (some (bytes "XA")) body c → ArgumentsToEncode file work k n body c
-  unfolding mark
-  arguments-all N h A = record { go = λ o place M here. encode-all N h place (children-at M here A) }
+  arguments-all N h A = record { go = λ o place e here. encode-all N h place (called e here A) }
 
--- ---- marks
+-- ---- letters
 
-module _ {file : Bytes} {work : List ℕ} {k n o : ℕ} {kd : Kind} (place : o ≡ cell work k termOffset n) (M : Marked (markAt file o) kd) where
-  pub encode-app : {body : Bytes} {c : Children} → kd ≡ kind.XA → body ≡ bodyAt file o → ArgumentsToEncode file work k n body c → ToEncode file work k n c
-  encode-app e here A = A .go o place (subst (Marked (markAt file o)) e M) here
+-- the letters of sets and records
+abbrev collections : List ℕ
+collections = 67 ∷ 82 ∷ []
+
+module _ {file : Bytes} {work : List ℕ} {k n o l : ℕ} (place : o ≡ cell work k termOffset n) (i : l ≡ getD (markAt file o) 1 0) where
+  pub encode-app : {body : Bytes} {c : Children} → l ≡ 65 → body ≡ bodyAt file o → ArgumentsToEncode file work k n body c → ToEncode file work k n c
+  encode-app e here A = A .go o place (sym i ∙ e) here
 
   -- a term that is no application
-  encode-other : {c : Children} → (tagOf kinds.the-type kd ≡ 20 → ⊥) → ChildrenAt file o c → ToEncode file work k n c
-  encode-other h C = encode-all (of-unlike place (kind-other M h) refl) (inl refl) place C
+  encode-other : {c : Children} → (l ≡ 65 → ⊥) → ChildrenAt file o c → ToEncode file work k n c
+  encode-other h C = encode-all (of-unlike place (letter-other i h) refl) (inl refl) place C
 
-  pub encode-some : kd ≡ kind.X1 → ToEncode file work k n (record { from = 0; left = 1; named = false })
-  unfolding mark
-  encode-some e = encode-other (λ h. let x : 17 ≡ 20 = ap (tagOf kinds.the-type) (sym e) ∙ h in omega arith) (children-at M refl (under e refl children-some))
+  pub encode-some : l ≡ 49 → ToEncode file work k n (record { from = 0; left = 1; named = false })
+  unfolding bytes
+  encode-some e = encode-other (λ h. omega arith) (children-at i refl (under e children-some))
 
-  pub encode-collection : {c : Children} → OneOf collections (tagOf kinds.the-type kd) → ChildrenAt file o c → ToEncode file work k n c
-  encode-collection h C = encode-other (λ e. miss collections 20 tt (subst (OneOf collections) e h)) C
+  pub encode-collection : {c : Children} → OneOf collections l → ChildrenAt file o c → ToEncode file work k n c
+  encode-collection (inl e) C = encode-other (λ h. omega arith) C
+  encode-collection (inr e) C = encode-other (λ h. omega arith) C
 
-  pub encode-leaf : OneOf leaves (tagOf kinds.the-type kd) → ToEncode file work k n (record { from = 0; left = 0; named = false })
-  encode-leaf h = encode-other (λ e. miss leaves 20 tt (subst (OneOf leaves) e h)) (children-at M refl (bare-children kd h))
+  pub encode-leaf : (l ≡ 49 → ⊥) → (l ≡ 65 → ⊥) → (OneOf collections l → ⊥) → ToEncode file work k n (record { from = 0; left = 0; named = false })
+  encode-leaf s a c = encode-other a (children-at i refl (bare-children _ s (λ h. c (inl h)) (λ h. c (inr h)) a))

@@ -3,7 +3,7 @@
 use Prim.Native.Nat.{ℕ, _<_}
 use mathlib.Core.Path.{_≡_}
 use mathlib.Core.List.{List, map}
-use lib.ListN.{length}
+use lib.ListN.{length, getD}
 use Rattle.script_spec.specs.Base.{Bytes}
 use Rattle.script_spec.specs.Tree.{Tm, Mark, Forest, node, forest, typeOf, isFalsehood}
 use Rattle.script_spec.specs.File.{TermFile, terms, members, termAt}
@@ -12,8 +12,6 @@ use Rattle.index.specs.Cells.{cell, termOffset}
 use Rattle.index.specs.First.{Below}
 use Rattle.index.specs.Standing.{markAt, bodyAt}
 use Rattle.index.specs.Meaning.{Index}
-use Rattle.term_file.specs.Marks.{Marked}
-use Rattle.term_file.specs.declared.mark.Kind.the-variants as kind
 use Rattle.term_entry.specs.Terms.{childrenIn}
 use Rattle.term_entry.specs.declared.Children.{Children}
 use Rattle.term_walk.specs.declared.Part.{Part}
@@ -53,6 +51,6 @@ pub record ChildrenAre (f : TermFile) (n : ℕ) (rs : List ℕ) : Type 0 where
 pub record ToEncode (file : Bytes) (work : List ℕ) (k n : ℕ) (r : Children) : Type 0 where
   pub go : (f : TermFile) → Index file f work k → n < length (terms f) → ChildrenAre f n (childrenIn (bodyAt file (cell work k termOffset n)) r)
 
--- the arguments that are encoded, where the record of the term with number n is an application and has this body
+-- the arguments that are encoded, where the record of the term with number n has the letter of an application and this body
 pub record ArgumentsToEncode (file : Bytes) (work : List ℕ) (k n : ℕ) (body : Bytes) (r : Children) : Type 0 where
-  pub go : (o : ℕ) → o ≡ cell work k termOffset n → Marked (markAt file o) kind.XA → body ≡ bodyAt file o → ToEncode file work k n r
+  pub go : (o : ℕ) → o ≡ cell work k termOffset n → getD (markAt file o) 1 0 ≡ 65 → body ≡ bodyAt file o → ToEncode file work k n r

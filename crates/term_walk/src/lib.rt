@@ -3,7 +3,6 @@ use progress::Progress;
 use query::Negated;
 use term_entry::Child;
 use term_entry::Children;
-use term_file::mark::Kind;
 ghost use mathlib.Core.Path.{_≡_};
 ghost use Rattle.index.specs.Cells.{termFirst};
 ghost use Rattle.index.specs.Standing.{bodyAt};
@@ -54,14 +53,14 @@ fn to_encode(file: &[u8], work: &[u32], k: usize, n: u32) -> Children
     ensures { λ r. ⌜ ToEncode (now (file .entry)) (now (work .entry)) k n r ⌝ }
 {
     let offset = index::get(work, k, index::TERM_OFFSET, entry::wide(n));
-    match entry::kind_at(file, offset) {
-        Kind::X1 => Children {
+    match entry::letter_at(file, offset) {
+        b'1' => Children {
             from: 0,
             left: 1,
             named: false,
         },
-        Kind::XA => arguments_to_encode(file, work, k, n, entry::body_at(file, offset)),
-        Kind::XC | Kind::XR => term_entry::children_at(file, offset),
+        b'A' => arguments_to_encode(file, work, k, n, entry::body_at(file, offset)),
+        b'C' | b'R' => term_entry::children_at(file, offset),
         _ => Children {
             from: 0,
             left: 0,
@@ -77,7 +76,7 @@ fn take_child(file: &[u8], offset: u32, c: Children) -> Child
     term_entry::take_child(entry::body_at(file, offset), c)
 }
 
-// Encodes the type of the term with number n.
+// Encodes the type of the term with number n. The walk over types is called only where something may be left to declare.
 fn encode_own_type(
     file: &[u8],
     work: &mut [u32],
@@ -92,6 +91,9 @@ fn encode_own_type(
         ⌜ Advances (now (file .entry)) k many limit (termReady n) (ownTypeWalk n) (now (work .entry)) (now (out .entry)) p (now (work .exit)) (now (out .exit)) r ⌝ }
 {
     let t = index::get(work, k, index::TERM_TYPE, entry::wide(n));
+    if type_walk::settled::is_settled(file, work, k, t) {
+        return p;
+    }
     type_walk::encode_type(file, work, k, many, out, limit, p, t)
 }
 
