@@ -145,6 +145,17 @@ fn skip(c: Cursor, body: &[u8], field: Field, file: &[u8], offsets: &[u32]) -> M
     }
 }
 
+// The first field: mostly a reference, which is told before the others.
+fn skip_first(body: &[u8], field: Field, file: &[u8], offsets: &[u32]) -> Moved
+    ensures { λ r. ⌜ Reads (fieldReader (isEntityAt (now (file .entry)) (now (offsets .entry))) field) (now (body .entry)) 0 (movedTold r) ⌝ }
+{
+    let c = Cursor { at: 0 };
+    match field {
+        Field::Reference(n) => field::number_moved(c.reference(body, n)),
+        _ => skip(c, body, field, file, offsets),
+    }
+}
+
 // A field after the first: mostly `Nothing`, which is told before the others.
 fn skip_field(c: Cursor, body: &[u8], field: Field, file: &[u8], offsets: &[u32]) -> Moved
     ensures { λ r. ⌜ Reads (fieldReader (isEntityAt (now (file .entry)) (now (offsets .entry))) field) (now (body .entry)) (c .at) (movedTold r) ⌝ }
@@ -182,7 +193,7 @@ pub fn read_body(
     let first = all.0;
     let second = all.1;
     let third = all.2;
-    match skip(Cursor { at: 0 }, body, first, file, offsets) {
+    match skip_first(body, first, file, offsets) {
         Moved::Bad(n) => Verdict::Bad(n),
         Moved::To(c) => match skip_field(c, body, second, file, offsets) {
             Moved::Bad(n) => Verdict::Bad(n),
