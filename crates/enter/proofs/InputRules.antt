@@ -1,4 +1,4 @@
--- An input is entered: its body is the number of its term, which is stored with its place.
+-- An input is entered: its body is the number of its term, which is stored with its offset and place.
 -- Assumes nothing.
 use mathlib.Core.Path.{_≡_, refl, sym, ap, _∙_, subst}
 use Prim.Native.Nat.{ℕ, suc, _≤_, _<_}
@@ -11,7 +11,7 @@ use Rattle.script_spec.specs.Tree.{Tm}
 use Rattle.script_spec.specs.Fields.{Entry, pure, ref, marks}
 use Rattle.script_spec.specs.Fields as fields
 use Rattle.script_spec.specs.File.{TermFile, input, terms, termAt, named, earlier, rules, broken}
-use Rattle.index.specs.Cells.{store, inputTerm, inputPlace}
+use Rattle.index.specs.Cells.{store, inputPlace, inputOffset, inputTerm}
 use Rattle.index.specs.First.{InRange}
 use Rattle.index.specs.Standing.{loose, markAt, bodyAt, entryOf, entryAt}
 use Rattle.index.specs.Meaning.{Stands}
@@ -59,15 +59,16 @@ number-read file o n e =
     let mark-is : markAt file o ≡ bytes "IN" = entry-mark (markAt file o) (bodyAt file o) e in
     input-number (bodyAt file o) n (ap (λ (s : Bytes). entryOf s (bodyAt file o)) (sym mark-is) ∙ e)
 
-pub input-entered : (file : Bytes) (work : List ℕ) (k count o place : ℕ) {n : ℕ} {body : Bytes} {work₁ work₂ : List ℕ} → body ≡ bodyAt file o → n ≡ numberAt body 0
-    → work₁ ≡ store work k inputTerm count n → work₂ ≡ store work₁ k inputPlace count place → Enters input inputCount file work work₂ k count o place Done
+pub input-entered : (file : Bytes) (work : List ℕ) (k count o place : ℕ) {n : ℕ} {body : Bytes} {work₁ work₂ work₃ : List ℕ} → body ≡ bodyAt file o → n ≡ numberAt body 0
+    → work₁ ≡ store work k inputOffset count o → work₂ ≡ store work₁ k inputTerm count n → work₃ ≡ store work₂ k inputPlace count place → Enters input inputCount file work work₃ k count o place Done
 unfolding inputCount rules broken
-input-entered file work k count o place {n} {body} {work₁} {work₂} hb hn e₁ e₂ = record { go = λ f I c room p t s. record { kept = refl; indexed = stored f I c room p t s } }
+input-entered file work k count o place {n} {body} {work₁} {work₂} {work₃} hb hn e₁ e₂ e₃ = record { go = λ f I c room p t s. record { kept = refl; indexed = stored f I c room p t s } }
   where
-    stored : (f : TermFile) → Indexed file f work k → count ≡ inputCount f → suc (length f) ≤ k → place ≡ length f → (t : Tm) → Stands file f (earlier f) o (input t) → Indexed file (f ++ (input t ∷ [])) work₂ k
+    stored : (f : TermFile) → Indexed file f work k → count ≡ inputCount f → suc (length f) ≤ k → place ≡ length f → (t : Tm) → Stands file f (earlier f) o (input t) → Indexed file (f ++ (input t ∷ [])) work₃ k
     stored f I c room p t s =
         let B = by-number f (s .entry) t (s .names) (s .in-range) in
-        let n-is : n ≡ B .number = hn ∙ ap (λ (b : Bytes). numberAt b 0) hb ∙ number-read file o (B .number) (s .reads ∙ ap some (B .is)) in
-        let row = store (store work k inputTerm (inputCount f) (B .number)) k inputPlace (inputCount f) (length f) in
-        let K : Indexed file (f ++ (input t ∷ [])) row k = subst (λ (u : Tm). Indexed file (f ++ (input u ∷ [])) row k) (B .names) (indexed-input I room (B .below)) in
-        rw (e₂, e₁, c, n-is, p) K
+        let reads : entryAt file o ≡ some (fields.input (B .number)) = s .reads ∙ ap some (B .is) in
+        let n-is : n ≡ B .number = hn ∙ ap (λ (b : Bytes). numberAt b 0) hb ∙ number-read file o (B .number) reads in
+        let row = store (store (store work k inputOffset (inputCount f) o) k inputTerm (inputCount f) (B .number)) k inputPlace (inputCount f) (length f) in
+        let K : Indexed file (f ++ (input t ∷ [])) row k = subst (λ (u : Tm). Indexed file (f ++ (input u ∷ [])) row k) (B .names) (indexed-input I room o reads (B .below)) in
+        rw (e₃, e₂, e₁, c, n-is, p) K

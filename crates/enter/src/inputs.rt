@@ -17,6 +17,7 @@ pub fn enter_input(
 {
     let body = entry::body_at(file, o);
     let n = entry::number_at(body, 0);
+    index::set(work, k, index::INPUT_OFFSET, count as usize, o);
     index::set(work, k, index::INPUT_TERM, count as usize, n);
     index::set(work, k, index::INPUT_PLACE, count as usize, place);
     Entered::Done

@@ -17,6 +17,7 @@ use Rattle.index.specs.Cells.{cell, hash}
 use Rattle.index.specs.Names.{Names}
 use Rattle.index.specs.Lists.{Blank}
 use Rattle.index.specs.First.{orElse, firstType, InRange}
+use Rattle.index.specs.Standing.{entryAt}
 use Rattle.index.specs.Meaning.{Stands, counted, inputAt, Indexed}
 use Rattle.index.proofs.Growth.{lists-type, lists-func, lists-term, lists-enum, lists-input, type-added, fun-added, term-added, types-kept, terms-kept}
 use Rattle.index.proofs.Later.{more-append, in-range-more, named-kept}
@@ -212,9 +213,9 @@ module _ {file : Bytes} {f : TermFile} {work work′ : List ℕ} {k : ℕ} (I : 
             B;
       }
 
-  pub indexed-input : {n : ℕ} → InputStored f k n (length f) work work′ → Stays (cell work k hash) (cell work′ k hash) → n < length (terms f) → Indexed file (f ++ (input (termAt f n) ∷ [])) work′ k
+  pub indexed-input : {o n : ℕ} → InputStored f k o n (length f) work work′ → Stays (cell work k hash) (cell work′ k hash) → entryAt file o ≡ some (fields.input n) → n < length (terms f) → Indexed file (f ++ (input (termAt f n) ∷ [])) work′ k
   unfolding earlier inputAt
-  indexed-input {n} S stays below =
+  indexed-input {n} S stays reads below =
       let t = termAt f n in
       let L = lists-input f t in
       let B = blank-counts (ap length (L .types-are)) (ap length (L .funs-are)) (S .unlisted (I .depths .blank)) in
@@ -226,6 +227,7 @@ module _ {file : Bytes} {f : TermFile} {work work′ : List ℕ} {k : ℕ} (I : 
             (λ l. absurd (omega (arith, ap length (L .terms-are))))
             (λ l. absurd (omega (arith, ap length (L .enums-are))))
             (λ l. record {
+              stands = rw (S .offset-is, S .term-is) reads;
               below = rw (S .term-is) (omega (arith, more-append f (input t) .terms-more));
               is = rw (S .term-is) (terms-kept f (input t) .name-kept n below ∙ sym (rw (L .inputs-are) (getD-append-seam (inputs f) t [] _)));
               place-is = S .place-is ∙ sym (place-input f t);

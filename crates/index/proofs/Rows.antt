@@ -11,7 +11,7 @@ use Rattle.script_spec.specs.Base.{Bytes}
 use Rattle.script_spec.specs.Tree.{typeOf, depth}
 use Rattle.script_spec.specs.Fields.{Earlier}
 use Rattle.script_spec.specs.File.{TermFile, Named, types, funs, terms, inputs, enums, typeAt, termAt, earlier}
-use Rattle.index.specs.Cells.{cell, typeOffset, typeFirst, typeDepth, funOffset, funFirst, termOffset, termFirst, termType, termDepth, enumOffset, termPlace, typePlace, funPlace, enumPlace, inputPlace, inputTerm, listRow}
+use Rattle.index.specs.Cells.{cell, typeOffset, typeFirst, typeDepth, funOffset, funFirst, termOffset, termFirst, termType, termDepth, enumOffset, termPlace, typePlace, funPlace, enumPlace, inputPlace, inputOffset, inputTerm, listRow}
 use Rattle.index.specs.Names.{Names}
 use Rattle.index.specs.Lists.{Listed, Blank}
 use Rattle.index.specs.Meaning.{Stands, counted, inputAt, TypeRow, FunRow, TermRow, EnumRow, InputRow, Listings, Index, Depths}
@@ -99,6 +99,7 @@ module _ (file : Bytes) (f : TermFile) (r : Named) (k : ℕ) {work work′ : Lis
   input-kept n l R =
       let same : cell work′ k inputTerm n ≡ cell work k inputTerm n = U .same inputTerm n l in
       record {
+        stands = rw (U .same inputOffset n l, same) (R .stands);
         below = rw same (omega (arith, R .below, more-append f r .terms-more));
         is = rw same (terms-kept f r .name-kept _ (R .below) ∙ R .is ∙ sym (rw (lists-append f r .inputs-are) (List·getD-append (inputs f) (inputs (r ∷ [])) _ n l)));
         place-is = U .same inputPlace n l ∙ R .place-is ∙ sym (place-kept inputs-kind f r n l);

@@ -6,7 +6,7 @@ use native.Mathlib.Omega.{arith}
 use mathlib.Core.List.{List}
 use lib.ListN.{length}
 use Rattle.script_spec.specs.File.{TermFile, types, funs, terms, inputs, enums}
-use Rattle.index.specs.Cells.{placed, cell, store, typeOffset, typeFirst, typeDepth, funOffset, funFirst, termOffset, termFirst, termType, termDepth, enumOffset, hash, termPlace, typePlace, funPlace, enumPlace, inputPlace, inputTerm, enumList, typeList}
+use Rattle.index.specs.Cells.{placed, cell, store, typeOffset, typeFirst, typeDepth, funOffset, funFirst, termOffset, termFirst, termType, termDepth, enumOffset, hash, termPlace, typePlace, funPlace, enumPlace, inputPlace, inputOffset, inputTerm, enumList, typeList}
 use Rattle.index.specs.Lists.{Blank}
 unfoldable pub use Rattle.index.specs.Meaning.{used}
 use Rattle.index.proofs.Cells.{shared, Apart, length-store, cell-store-same, cell-store-apart}
@@ -116,9 +116,10 @@ module _ (f : TermFile) (k : ℕ) where
     pub place-is : cell work′ k enumPlace (length (enums f)) ≡ place
 
   -- the row of an input
-  pub record InputStored (term place : ℕ) (work work′ : List ℕ) : Type 0 where
+  pub record InputStored (offset term place : ℕ) (work work′ : List ℕ) : Type 0 where
     pub untouched : Untouched f k work work′
     pub unlisted : Blank (length (types f)) (length (funs f)) work k → Blank (length (types f)) (length (funs f)) work′ k
+    pub offset-is : cell work′ k inputOffset (length (inputs f)) ≡ offset
     pub term-is : cell work′ k inputTerm (length (inputs f)) ≡ term
     pub place-is : cell work′ k inputPlace (length (inputs f)) ≡ place
 
@@ -227,18 +228,23 @@ module _ (f : TermFile) (k : ℕ) (work : List ℕ) (fits : 12 * k ≤ length wo
         place-is = stored a enumPlace n place (omega arith) (omega arith);
       }
 
-  pub input-stored : (term place : ℕ) → InputStored f k term place work
-      (store (store work k inputTerm (length (inputs f)) term) k inputPlace (length (inputs f)) place)
+  pub input-stored : (offset term place : ℕ) → InputStored f k offset term place work
+      (store (store (store work k inputOffset (length (inputs f)) offset) k inputTerm (length (inputs f)) term) k inputPlace (length (inputs f)) place)
   unfolding used shared placed
-  input-stored term place =
+  input-stored offset term place =
       let few = counts-together f in
       let n = length (inputs f) in
-      let a = untouched-store (untouched-refl f k work) inputTerm n term (record { after = omega arith; before = omega arith }) in
+      let a = untouched-store (untouched-refl f k work) inputOffset n offset (record { after = omega arith; before = omega arith }) in
+      let b = untouched-store a inputTerm n term (record { after = omega arith; before = omega arith }) in
       record {
-        untouched = untouched-store a inputPlace n place (record { after = omega arith; before = omega arith });
+        untouched = untouched-store b inputPlace n place (record { after = omega arith; before = omega arith });
         unlisted = λ B.
-            let b1 = blank-store B inputTerm n term (λ e. omega arith) (λ e. omega arith) (λ e. omega arith) (λ e. omega arith) in
-            blank-store b1 inputPlace n place (λ e. omega arith) (λ e. omega arith) (λ e. omega arith) (λ e. omega arith);
-        term-is = under _ n inputPlace inputTerm place (λ e. omega arith) (λ e. omega arith) ∙ stored (untouched-refl f k work) inputTerm n term (omega arith) (omega arith);
-        place-is = stored a inputPlace n place (omega arith) (omega arith);
+            let b1 = blank-store B inputOffset n offset (λ e. omega arith) (λ e. omega arith) (λ e. omega arith) (λ e. omega arith) in
+            let b2 = blank-store b1 inputTerm n term (λ e. omega arith) (λ e. omega arith) (λ e. omega arith) (λ e. omega arith) in
+            blank-store b2 inputPlace n place (λ e. omega arith) (λ e. omega arith) (λ e. omega arith) (λ e. omega arith);
+        offset-is =
+            under _ n inputPlace inputOffset place (λ e. omega arith) (λ e. omega arith) ∙ under _ n inputTerm inputOffset term (λ e. omega arith) (λ e. omega arith)
+            ∙ stored (untouched-refl f k work) inputOffset n offset (omega arith) (omega arith);
+        term-is = under _ n inputPlace inputTerm place (λ e. omega arith) (λ e. omega arith) ∙ stored a inputTerm n term (omega arith) (omega arith);
+        place-is = stored b inputPlace n place (omega arith) (omega arith);
       }

@@ -103,6 +103,10 @@ inputPlace = 18
 abbrev pub funName : ℕ
 funName = 14
 
+-- at the end of the types of terms
+abbrev pub inputOffset : ℕ
+inputOffset = 20
+
 -- at the end of the offsets of enums
 abbrev pub inputTerm : ℕ
 inputTerm = 22

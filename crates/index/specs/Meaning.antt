@@ -12,7 +12,7 @@ use Rattle.script_spec.specs.Tree.{Tm, typeOf, depth, node, nil, Some, attribut
 use Rattle.script_spec.specs.Fields.{Entry, Earlier}
 use Rattle.script_spec.specs.Fields as fields
 use Rattle.script_spec.specs.File.{TermFile, Named, type, func, term, types, funs, terms, inputs, enums, typeAt, funAt, termAt, named}
-use Rattle.index.specs.Cells.{cell, typeOffset, typeFirst, typeDepth, funOffset, funFirst, termOffset, termFirst, termType, termDepth, enumOffset, termPlace, typePlace, funPlace, enumPlace, inputPlace, inputTerm, enumList, typeList}
+use Rattle.index.specs.Cells.{cell, typeOffset, typeFirst, typeDepth, funOffset, funFirst, termOffset, termFirst, termType, termDepth, enumOffset, termPlace, typePlace, funPlace, enumPlace, inputPlace, inputOffset, inputTerm, enumList, typeList}
 use Rattle.index.specs.First.{firstType, firstFun, firstTerm, InRange}
 use Rattle.index.specs.Standing.{entryAt}
 use Rattle.index.specs.Names.{Names}
@@ -26,7 +26,7 @@ used f column =
     let tm = length (terms f) in
     let en = length (enums f) in
     let ip = length (inputs f) in
-    getD (ty ∷ ty ∷ ty ∷ fn ∷ fn ∷ fn ∷ tm ∷ tm ∷ tm ∷ tm ∷ en ∷ 0 ∷ tm ∷ 0 ∷ 0 ∷ ty ∷ 0 ∷ en ∷ ip ∷ 0 ∷ 0 ∷ 0 ∷ ip ∷ []) column 0
+    getD (ty ∷ ty ∷ ty ∷ fn ∷ fn ∷ fn ∷ tm ∷ tm ∷ tm ∷ tm ∷ en ∷ 0 ∷ tm ∷ 0 ∷ 0 ∷ ty ∷ 0 ∷ en ∷ ip ∷ 0 ∷ ip ∷ 0 ∷ ip ∷ []) column 0
 
 -- the record at an offset of the file names r among the records f, and refers only to records that e counts
 pub record Stands (file : Bytes) (f : TermFile) (e : Earlier) (offset : ℕ) (r : Named) : Type 0 where
@@ -90,6 +90,7 @@ module _ (file : Bytes) (f : TermFile) (work : List ℕ) (k : ℕ) where
 
   -- the row of an input, which has the number of its term
   pub record InputRow (n : ℕ) : Type 0 where
+    pub stands : entryAt file (cell work k inputOffset n) ≡ some (fields.input (cell work k inputTerm n))
     pub below : cell work k inputTerm n < length (terms f)
     pub is : termAt f (cell work k inputTerm n) ≡ inputAt f n
     pub place-is : cell work k inputPlace n ≡ recordPlace inputs f n

@@ -47,6 +47,9 @@ pub const INPUT_PLACE: usize = 18;
 // cleared whole, and has nothing else at its end.
 pub const FUN_NAME: usize = 14;
 
+// The offsets of the inputs, at the end of the types of the terms.
+pub const INPUT_OFFSET: usize = 20;
+
 // The terms of the inputs, at the end of the offsets of the enums.
 pub const INPUT_TERM: usize = 22;
 

@@ -80,7 +80,7 @@ module _ {file : Bytes} {f : TermFile} {work work′ : List ℕ} {k : ℕ} (K : 
               place-is = K .others 12 n refl ∙ r .place-is;
             };
         enum-row = λ n l. let r = I .enum-row n l in record { stands = rw (K .others 10 n refl) (r .stands); place-is = K .others 17 n refl ∙ r .place-is };
-        input-row = λ n l. let r = I .input-row n l in record { below = rw (K .others 22 n refl) (r .below); is = rw (K .others 22 n refl) (r .is); place-is = K .others 18 n refl ∙ r .place-is };
+        input-row = λ n l. let r = I .input-row n l in record { stands = rw (K .others 20 n refl, K .others 22 n refl) (r .stands); below = rw (K .others 22 n refl) (r .below); is = rw (K .others 22 n refl) (r .is); place-is = K .others 18 n refl ∙ r .place-is };
         fit = I .fit;
         names = names-same (record { same = λ i h. K .others 11 i refl }) (I .names) refl;
         listed =

@@ -248,7 +248,7 @@ module _ {file : Bytes} {f : TermFile} {k terms : ℕ} {work₀ : List ℕ} (K :
               place-is = L .same 12 n l ∙ r .place-is;
             };
         enum-row = λ n l. let r = I .enum-row n l in record { stands = rw (L .same 10 n l) (r .stands); place-is = L .same 17 n l ∙ r .place-is };
-        input-row = λ n l. let r = I .input-row n l in record { below = rw (L .same 22 n l) (r .below); is = rw (L .same 22 n l) (r .is); place-is = L .same 18 n l ∙ r .place-is };
+        input-row = λ n l. let r = I .input-row n l in record { stands = rw (L .same 20 n l, L .same 22 n l) (r .stands); below = rw (L .same 22 n l) (r .below); is = rw (L .same 22 n l) (r .is); place-is = L .same 18 n l ∙ r .place-is };
         fit = I .fit;
         names = names-same (record { same = λ i h. L .slots i }) (I .names) refl;
         listed = record { of-types = L .of-types .lists; of-enums = L .of-enums .lists };

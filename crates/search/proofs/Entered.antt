@@ -5,11 +5,13 @@ use Prim.Native.Nat.{ℕ, suc, _+_, _*_, _≤_, _<_}
 use native.Mathlib.Nat.{not-suc-le-zero}
 use native.Mathlib.Omega.{arith}
 use mathlib.Core.List.{List, [], _∷_, _++_}
+use mathlib.Core.Option.{some}
 use lib.ListN.{length, length-append}
 use Rattle.script_spec.specs.Base.{Bytes, collect}
 use Rattle.script_spec.specs.Tree.{Ty, Fun, Tm, typeOf, depth}
+use Rattle.script_spec.specs.Fields as fields
 use Rattle.script_spec.specs.File.{TermFile, Named, type, enum, func, term, input, types, funs, terms, inputs, enums, typeAt, termAt, earlier}
-use Rattle.index.specs.Cells.{placed, cell, store, typeOffset, typeFirst, typeDepth, funOffset, funFirst, termOffset, termFirst, termType, termDepth, enumOffset, hash, termPlace, typePlace, funPlace, enumPlace, inputPlace, inputTerm}
+use Rattle.index.specs.Cells.{placed, cell, store, typeOffset, typeFirst, typeDepth, funOffset, funFirst, termOffset, termFirst, termType, termDepth, enumOffset, hash, termPlace, typePlace, funPlace, enumPlace, inputPlace, inputOffset, inputTerm}
 use Rattle.index.specs.First.{canonical, firstType}
 use Rattle.index.specs.Standing.{entryAt}
 use Rattle.index.specs.Lists.{Blank}
@@ -187,16 +189,18 @@ module _ {file : Bytes} {f : TermFile} {work : List ℕ} {k : ℕ} (I : Indexed 
             (λ l. absurd (omega (arith, ap length (L .terms-are))));
       }
 
-  pub indexed-input : {n : ℕ} → n < length (terms f) → Indexed file (f ++ (input (termAt f n) ∷ [])) (store (store work k inputTerm (length (inputs f)) n) k inputPlace (length (inputs f)) (length f)) k
+  pub indexed-input : (o : ℕ) {n : ℕ} → entryAt file o ≡ some (fields.input n) → n < length (terms f)
+      → Indexed file (f ++ (input (termAt f n) ∷ [])) (store (store (store work k inputOffset (length (inputs f)) o) k inputTerm (length (inputs f)) n) k inputPlace (length (inputs f)) (length f)) k
   unfolding shared placed
-  indexed-input {n} below =
+  indexed-input o {n} reads below =
       let t = termAt f n in
       let i = length (inputs f) in
-      let work′ = store (store work k inputTerm i n) k inputPlace i (length f) in
-      let S = input-stored f k work (I .index .fits) room n (length f) in
-      let same : (i : ℕ) → cell work′ k hash i ≡ cell work k hash i = λ j. slots-beside _ k inputPlace i (length f) (λ e. omega arith) (λ e. omega arith) j ∙ slots-beside work k inputTerm i n (λ e. omega arith) (λ e. omega arith) j in
+      let work′ = store (store (store work k inputOffset i o) k inputTerm i n) k inputPlace i (length f) in
+      let S = input-stored f k work (I .index .fits) room o n (length f) in
+      let same : (i : ℕ) → cell work′ k hash i ≡ cell work k hash i
+      = λ j. slots-beside _ k inputPlace i (length f) (λ e. omega arith) (λ e. omega arith) j ∙ slots-beside _ k inputTerm i n (λ e. omega arith) (λ e. omega arith) j ∙ slots-beside work k inputOffset i o (λ e. omega arith) (λ e. omega arith) j in
       let stays : Stays (cell work k hash) (cell work′ k hash) = record { same = λ i g. same i } in
-      let J = rows.indexed-input without room S stays below in
+      let J = rows.indexed-input without room S stays reads below in
       let L = lists-input f t in
       record {
         index = J .index;

@@ -6,7 +6,7 @@ use Rattle.enter.proofs.inputs.enter_input.Statement.{statement}
 use Rattle.enter.proofs.inputs.enter_input.Tie as tie
 
 returns : tie.Need-returns
-returns c = input-entered _ _ _ _ _ _ c.before.before.before.before.before.before.before.before.before.body-at.ensures c.before.before.before.before.before.before.before.before.number-at.ensures c.before.before.before.before.before.before.set.ensures c.before.before.set2.ensures
+returns c = input-entered _ _ _ _ _ _ c.before.before.before.before.before.before.before.before.before.before.before.before.before.body-at.ensures c.before.before.before.before.before.before.before.before.before.before.before.before.number-at.ensures c.before.before.before.before.before.before.before.before.before.before.set.ensures c.before.before.before.before.before.before.set2.ensures c.before.before.set3.ensures
 
 pub enter-input-spec : {M : Type 1} → statement M
-enter-input-spec = tie.close (tie.spec (λ c κs. search needs) (λ c κs. search needs) (λ c κs. search needs) (λ c κs. search needs) (λ c. search needs) returns)
+enter-input-spec = tie.close (tie.spec (λ c κs. search needs) (λ c κs. search needs) (λ c κs. search needs) (λ c κs. search needs) (λ c κs. search needs) (λ c. search needs) returns)
