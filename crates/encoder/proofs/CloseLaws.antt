@@ -18,7 +18,7 @@ use Rattle.writer.specs.Writing.{Wrote, Appends}
 use Rattle.writer.proofs.Laws.{from-start}
 use Rattle.index.specs.Cells.{cell, termFirst, termPlace}
 use Rattle.index.specs.First.{firstTerm}
-use Rattle.index.specs.Meaning.{Index}
+use Rattle.index.specs.Meaning.{Index, Unnamed}
 use Rattle.index.proofs.Firsts.{first-terms, first-below, first-first}
 use Rattle.index.proofs.Places.{place-first-equal}
 use Rattle.naming.proofs.Names.{index-kept, numbers-start}
@@ -32,10 +32,9 @@ use Rattle.term_check.specs.Promise as check
 use Rattle.term_check.specs.declared.Counts.{Counts}
 use Rattle.term_check.specs.declared.Filled.{Filled}
 use Rattle.term_check.specs.declared.Filled.the-variants as fill
-use Rattle.encoder.specs.Clearing.{ClearsNames}
 use Rattle.encoder.specs.Inputs.{inputsReady, inputsWalk, SpellsAssertions}
 use Rattle.encoder.specs.Promise.{Encodes}
-use Rattle.encoder.specs.Ending.{Gives, Refuses, Finishes, walked, Closes, EncodesRecords}
+use Rattle.encoder.specs.Ending.{Gives, TurnsBack, Refuses, Finishes, walked, Closes, EncodesRecords}
 use Rattle.encoder.specs.declared.Encoded.{Encoded}
 use Rattle.encoder.proofs.EndLaws.{encoded-walked, encoded-refused, encodes}
 
@@ -85,12 +84,12 @@ module _ (file : Bytes) (k many count limit : ℕ) (p : Progress) (work : List �
 
 -- ---- the records of an accepted file
 
-holds-start : (f : TermFile) (k limit : ℕ) (work : List ℕ) (x x₁ : Bytes) (at : ℕ) → ((work₀ : List ℕ) × ClearsNames work₀ k work) → Appends limit x 0 x₁ at (script (start .commands))
+holds-start : {file : Bytes} (f : TermFile) (k limit : ℕ) (work : List ℕ) (x x₁ : Bytes) (at : ℕ) → Unnamed file f work k → Appends limit x 0 x₁ at (script (start .commands))
     → Holds f k limit x work x₁ (record { at = at; types = 0; funs = 0; terms = 0; refused = 0; term = 0 }) (went start)
 unfolding start
-holds-start f k limit work x x₁ at C A =
+holds-start f k limit work x x₁ at N A =
     record {
-      numbers = numbers-start f work k (C .1 .no-types) (C .1 .no-funs) (C .1 .no-terms);
+      numbers = numbers-start f work k N;
       types-are = refl;
       funs-are = refl;
       terms-are = refl;
@@ -109,42 +108,42 @@ accepted-short file w f e = go (leb (length file) 1048576) refl e
     go false q h = absurd (let z : _≡_ {A = ℕ} 0 1 = cc in omega arith)
     go true q h = leb-true (length file) 1048576 q
 
-small-enough : (n : ℕ) → n ≤ 1048576 → n / 6 + 1 < 2 ^ 32
+small-enough : (n : ℕ) → n ≤ 1048576 → n / 6 + 257 < 2 ^ 32
 small-enough n h = omega (arith, div-add-mod' n 6)
 
-pub encodes-records : (file : Bytes) (many count : ℕ) (work : List ℕ) (x : Bytes) {k limit at : ℕ} {work₁ work₂ work₃ : List ℕ} {x₁ x₂ x₃ : Bytes} {q : Progress} {r : Encoded}
-    → k ≡ length file / 6 → limit ≡ length x → ClearsNames work k work₁ → Appends limit x 0 x₁ at (script (start .commands))
-    → Advances file k many limit (inputsReady count) inputsWalk work₁ x₁ (record { at = at; types = 0; funs = 0; terms = 0; refused = 0; term = 0 }) work₂ x₂ q
-    → Closes file k many count limit q work₂ x₂ work₃ x₃ r → EncodesRecords file many count work x work₃ x₃ r
+pub encodes-records : (file : Bytes) (many count : ℕ) (work : List ℕ) (x : Bytes) {k limit at : ℕ} {work₁ work₂ : List ℕ} {x₁ x₂ x₃ : Bytes} {q : Progress} {r : Encoded}
+    → k ≡ length file / 6 → limit ≡ length x → Appends limit x 0 x₁ at (script (start .commands))
+    → Advances file k many limit (inputsReady count) inputsWalk work x₁ (record { at = at; types = 0; funs = 0; terms = 0; refused = 0; term = 0 }) work₁ x₂ q
+    → Closes file k many count limit q work₁ x₂ work₂ x₃ r → EncodesRecords file many count work x work₂ x₃ r
 unfolding inputsReady inputsWalk
-encodes-records file many count work x {k} {limit} {at} {work₁} {work₂} {work₃} {x₁} {x₂} {x₃} {q} {r} hk hl C A E L = record {
-  cleared = L .cleared ∙ ap (λ (n : ℕ). replicate n 0) (E .kept .size ∙ C .kept .size);
-  go = λ w f e I m n.
+encodes-records file many count work x {k} {limit} {at} {work₁} {work₂} {x₁} {x₂} {x₃} {q} {r} hk hl A E L = record {
+  cleared = L .cleared ∙ ap (λ (n : ℕ). replicate n 0) (E .kept .size);
+  go = λ w f e I N m n.
       let I₀ : Index file f work k = rw hk I in
-      let I₁ : Index file f work₁ k = index-kept (C .kept) I₀ in
-      let I₂ : Index file f work₂ k = index-kept (E .kept) I₁ in
-      let small : k + 1 < 2 ^ 32 = rw hk (small-enough (length file) (accepted-short file w f e)) in
-      let H = E .go f x (went start) I₁ small m n (holds-start f k limit work₁ x x₁ at (work, C) A) in
-      let G = L .go f x (encodeInputs (members f) (inputs f) start) I₂ m n hl (rw sticky-went at H) in
+      let N₀ : Unnamed file f work k = rw hk N in
+      let I₁ : Index file f work₁ k = index-kept (E .kept) I₀ in
+      let small : k + 257 < 2 ^ 32 = rw hk (small-enough (length file) (accepted-short file w f e)) in
+      let H = E .go f x (went start) I₀ small m n (holds-start f k limit work x x₁ at N₀ A) in
+      let G = L .go f x (encodeInputs (members f) (inputs f) start) I₁ m n hl (rw sticky-went at H) in
       subst (λ (a : Answer Bytes). Gives x x₃ r a) (sym (encoded-walked file w f e (length x))) G;
 }
 
 -- ---- the whole
 
-module _ (file : Bytes) (work : List ℕ) (x : Bytes) {work₁ work₂ : List ℕ} {y : Bytes} {v : Filled} {r : Encoded} (F : Fills file work work₁ v) (size : length work₁ ≡ length work) where
-  pub encodes-refused : {n p : ℕ} → v ≡ fill.Refused n p → Refuses work₁ x n p work₂ y r → Encodes file work x work₂ y r
-  encodes-refused {n} {p} e R =
+module _ (file : Bytes) (work : List ℕ) (x : Bytes) {work₁ : List ℕ} {y : Bytes} {v : Filled} {r : Encoded} (F : Fills file work work₁ v) where
+  pub encodes-refused : {n p : ℕ} → v ≡ fill.Refused n p → TurnsBack x n p y r → Encodes file work x work₁ y r
+  encodes-refused {n} {p} e T =
       let B : check.Refuses file work work₁ n p = subst (λ (u : Filled). Fills file work work₁ u) e F in
-      encodes file work x (R .cleared ∙ ap (λ (m : ℕ). replicate m 0) size)
-      (subst (λ (a : Answer Bytes). Gives x y r a) (sym (encoded-refused file (length work) n p (length x) (B .refuses))) (R .gives))
+      encodes file work x (B .cleared) (subst (λ (a : Answer Bytes). Gives x y r a) (sym (encoded-refused file (length work) n p (length x) (B .refuses))) T)
 
-  pub encodes-accepted : {c : Counts} {many count terms ty k : ℕ} {listed : List ℕ} → v ≡ fill.Done c → k ≡ length file / 6 → terms ≡ c .terms → ty ≡ c .types → many ≡ c .enums → count ≡ c .inputs
+  pub encodes-accepted : length work₁ ≡ length work → {c : Counts} {many count terms ty k : ℕ} {listed work₂ : List ℕ} → v ≡ fill.Done c → k ≡ length file / 6 → terms ≡ c .terms → ty ≡ c .types → many ≡ c .enums → count ≡ c .inputs
       → MakesLists file k terms ty many work₁ listed → length listed ≡ length work₁ → EncodesRecords file many count listed x work₂ y r → Encodes file work x work₂ y r
   unfolding countsOf
-  encodes-accepted {c} {many} {count} {terms} {ty} {k} {listed} e hk t ty-is m n M same R =
+  encodes-accepted size {c} {many} {count} {terms} {ty} {k} {listed} e hk t ty-is m n M same R =
       let B : Accepts file work work₁ c = subst (λ (u : Filled). Fills file work work₁ u) e F in
       let K : Known file (B .records) k terms work₁ =
       record { index = rw hk (B .index); ascends = accepted-ascends file (length work) (B .records) (B .accepts); terms-are = t ∙ ap (λ (d : Counts). d .terms) (B .counts) } in
       let many-is = m ∙ ap (λ (d : Counts). d .enums) (B .counts) in
+      let L = M .go (B .records) K (ty-is ∙ ap (λ (d : Counts). d .types) (B .counts)) many-is in
       encodes file work x (R .cleared ∙ ap (λ (m : ℕ). replicate m 0) (same ∙ size))
-      (R .go (length work) (B .records) (B .accepts) (rw hk at (M .go (B .records) K (ty-is ∙ ap (λ (d : Counts). d .types) (B .counts)) many-is)) many-is (n ∙ ap (λ (d : Counts). d .inputs) (B .counts)))
+      (R .go (length work) (B .records) (B .accepts) (rw hk at (L .index)) (rw hk at (L .unnamed (rw hk (B .unnamed)))) many-is (n ∙ ap (λ (d : Counts). d .inputs) (B .counts)))

@@ -17,7 +17,7 @@ use Rattle.writer.specs.Writing as writing
 use Rattle.writer.specs.declared.Written.{Written}
 use Rattle.writer.proofs.Laws.{laid-nil, finished}
 use Rattle.encoder.specs.Promise.{encodedAs, Encodes}
-use Rattle.encoder.specs.Ending.{Gives, Refuses, Finishes, walked}
+use Rattle.encoder.specs.Ending.{Gives, TurnsBack, Finishes, walked}
 use Rattle.encoder.specs.declared.Encoded.{Encoded}
 use Rattle.encoder.specs.declared.Encoded.the-variants.{Script, Refused}
 
@@ -27,12 +27,9 @@ zeros-from : (x y : Bytes) → y ≡ cleared x 0 → y ≡ replicate (length x) 
 unfolding cleared
 zeros-from x y e = simp unary-clauses at e
 
-pub gives-refused : (x : Bytes) {y : Bytes} (n p : ℕ) → y ≡ replicate (length x) 0 → Gives x y (Refused n p) (refused n p)
+pub turned-back : (x : Bytes) {y : Bytes} (n p : ℕ) → y ≡ cleared x 0 → TurnsBack x n p y (Refused n p)
 unfolding encodedAs lengthOf left
-gives-refused x n p e = record { says = refl; holds = e }
-
-pub refuses-cleared : (work : List ℕ) (x : Bytes) (n p : ℕ) {work′ : List ℕ} {y : Bytes} → work′ ≡ replicate (length work) 0 → y ≡ cleared x 0 → Refuses work x n p work′ y (Refused n p)
-refuses-cleared work x n p {work′} {y} a b = record { cleared = a; gives = gives-refused x n p (zeros-from x y b) }
+turned-back x {y} n p e = record { says = refl; holds = zeros-from x y e }
 
 -- ---- the end of a script
 

@@ -51,7 +51,7 @@ module _ (file : Bytes) (k many count limit : ℕ) where
     pub kept : Kept work work′ k
     pub size : length out′ ≡ length out
     pub most : i ≤ count
-    pub go : (f : TermFile) (o : Bytes) (x : Step) → Index file f work k → k + 1 < 2 ^ 32 → many ≡ length (enums f) → count ≡ length (inputs f)
+    pub go : (f : TermFile) (o : Bytes) (x : Step) → Index file f work k → k + 257 < 2 ^ 32 → many ≡ length (enums f) → count ≡ length (inputs f)
         → Holds f k limit o work out p x → Holds f k limit o work′ out′ p′ (sticky (encodeInputs (members f) (take i (inputs f))) x)
 
   pub encoding-start : (work : List ℕ) (out : Bytes) (p : Progress) → Encoding work out p 0 work out p

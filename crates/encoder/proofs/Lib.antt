@@ -1,4 +1,3 @@
-pub mod Clearing
 pub mod InputLaws
 pub mod AssertionLaws
 pub mod EndLaws

@@ -9,7 +9,7 @@ use Rattle.script_spec.specs.File.{TermFile, enums, members, inputs, checked}
 use Rattle.script_spec.specs.Command.{script, fitting, left}
 use Rattle.script_spec.specs.Walk.{Step, went, stopped, names, assertions, firstEqual, encoded}
 use Rattle.writer.specs.Writing.{Wrote, lengthOf}
-use Rattle.index.specs.Meaning.{Index}
+use Rattle.index.specs.Meaning.{Index, Unnamed}
 use Rattle.progress.specs.Progress.{Holds}
 use Rattle.progress.specs.declared.Progress.{Progress}
 use Rattle.encoder.specs.declared.Encoded.{Encoded}
@@ -20,10 +20,14 @@ pub record Gives (x y : Bytes) (r : Encoded) (w : Answer Bytes) : Type 0 where
   pub says : encodedAs r ≡ lengthOf w
   pub holds : y ≡ left w (length x)
 
+-- a file that is turned back leaves no script
+abbrev pub TurnsBack : Bytes → ℕ → ℕ → Bytes → Encoded → Type 0
+TurnsBack x n p y r = Gives x y r (refused n p)
+
 -- a refusal clears the script and the working memory
 pub record Refuses (work : List ℕ) (x : Bytes) (n p : ℕ) (work′ : List ℕ) (y : Bytes) (r : Encoded) : Type 0 where
   pub cleared : work′ ≡ replicate (length work) 0
-  pub gives : Gives x y r (refused n p)
+  pub gives : TurnsBack x n p y r
 
 -- a script s that was written into a buffer o is ended: its length or refusal 20
 pub record Finishes (work : List ℕ) (x : Bytes) (at : ℕ) (work′ : List ℕ) (y : Bytes) (r : Encoded) : Type 0 where
@@ -41,8 +45,8 @@ pub record Closes (file : Bytes) (k many count limit : ℕ) (p : Progress) (work
   pub go : (f : TermFile) (o : Bytes) (z : Step) → Index file f work k → many ≡ length (enums f) → count ≡ length (inputs f) → limit ≡ length o
       → Holds f k limit o work x p z → Gives o y r (walked f (length o) z)
 
--- the records of an accepted file are encoded, whatever its index was made with
+-- the records of an accepted file are encoded, where none has a name yet, whatever the index was made with
 pub record EncodesRecords (file : Bytes) (many count : ℕ) (work : List ℕ) (x : Bytes) (work′ : List ℕ) (y : Bytes) (r : Encoded) : Type 0 where
   pub cleared : work′ ≡ replicate (length work) 0
-  pub go : (w : ℕ) (f : TermFile) → checked file w ≡ accepted f → Index file f work (length file / 6) → many ≡ length (enums f) → count ≡ length (inputs f)
+  pub go : (w : ℕ) (f : TermFile) → checked file w ≡ accepted f → Index file f work (length file / 6) → Unnamed file f work (length file / 6) → many ≡ length (enums f) → count ≡ length (inputs f)
       → Gives x y r (encoded file w (length x))

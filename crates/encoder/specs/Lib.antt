@@ -1,4 +1,3 @@
-pub mod Clearing
 pub mod Inputs
 pub mod Ending
 pub mod Promise

@@ -1,7 +1,6 @@
 // Encode: the script of a term file, or its refusal.
 pub mod assertions;
 pub mod inputs;
-pub mod names;
 pub mod print;
 pub mod start;
 
@@ -9,7 +8,7 @@ use progress::Progress;
 use term_check::Filled;
 use writer::Written;
 ghost use Rattle.encoder.specs.Promise.{Encodes};
-ghost use Rattle.encoder.specs.Ending.{Refuses, Finishes, Closes, EncodesRecords};
+ghost use Rattle.encoder.specs.Ending.{TurnsBack, Refuses, Finishes, Closes, EncodesRecords};
 
 // Encode's answer: the script's length, or a refusal's number and place.
 pub enum Encoded {
@@ -17,13 +16,20 @@ pub enum Encoded {
     Refused(u32, u32),
 }
 
+// Turns a file back: clears the script.
+fn turn_back(script: &mut [u8], number: u32, place: u32) -> Encoded
+    ensures { λ r. ⌜ TurnsBack (now (script .entry)) number place (now (script .exit)) r ⌝ }
+{
+    writer::clear(script, 0);
+    Encoded::Refused(number, place)
+}
+
 // Refuses: clears the script and the working memory.
 fn refuse(work: &mut [u32], script: &mut [u8], number: u32, place: u32) -> Encoded
     ensures { λ r. ⌜ Refuses (now (work .entry)) (now (script .entry)) number place (now (work .exit)) (now (script .exit)) r ⌝ }
 {
     writer::clear_words(work);
-    writer::clear(script, 0);
-    Encoded::Refused(number, place)
+    turn_back(script, number, place)
 }
 
 // Ends a script that is written up to a place: clears what is past it, and the working memory.
@@ -72,7 +78,6 @@ fn encode_records(
 {
     let k = index::capacity(file.len());
     let limit = script.len();
-    names::clear_names(work, k);
     let at = start::put_start(script, 0, limit);
     let p = Progress {
         at,
@@ -91,7 +96,7 @@ pub fn encode(file: &[u8], work: &mut [u32], script: &mut [u8]) -> Encoded
     ensures { λ r. ⌜ Encodes (now (file .entry)) (now (work .entry)) (now (script .entry)) (now (work .exit)) (now (script .exit)) r ⌝ }
 {
     match term_check::fill(file, work) {
-        Filled::Refused(n, place) => refuse(work, script, n, place),
+        Filled::Refused(n, place) => turn_back(script, n, place),
         Filled::Done(c) => {
             let k = index::capacity(file.len());
             positions::lists::make_lists(file, work, k, c.terms, c.types, c.enums);

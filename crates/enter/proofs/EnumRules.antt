@@ -11,7 +11,7 @@ use lib.ListN.{length}
 use Rattle.script_spec.specs.Base.{Bytes, isSome, lookup, ascending, empty}
 use Rattle.script_spec.specs.Fields.{enum}
 use Rattle.script_spec.specs.File.{TermFile, enums, members, earlier, rules, broken}
-use Rattle.index.specs.Cells.{store, enumOffset, enumPlace}
+use Rattle.index.specs.Cells.{store, enumOffset, enumPlace, enumList}
 use Rattle.index.specs.Standing.{entryAt}
 use Rattle.index.specs.Meaning.{Stands}
 use Rattle.index.proofs.Entered.{enum-entry}
@@ -77,14 +77,15 @@ module _ (file : Bytes) (work : List ℕ) (k count o place : ℕ) {a : Bool} (A 
       unfolding enumCount
       name-new l {f} I c room = ⊎-elim (λ K. absurd (omega (arith, K .hit .below))) (λ M. M) (E .go f I c room)
 
-      pub enum-entered : {work₁ work₂ : List ℕ} → a ≡ true → b ≡ true → count ≤ r → work₁ ≡ store work′ k enumOffset count o → work₂ ≡ store work₁ k enumPlace count place → Enters enumNamed enumCount file work work₂ k count o place Done
+      pub enum-entered : {work₁ work₂ work₃ : List ℕ} → a ≡ true → b ≡ true → count ≤ r → work₁ ≡ store work′ k enumOffset count o → work₂ ≡ store work₁ k enumPlace count place → work₃ ≡ store work₂ k enumList count 0
+          → Enters enumNamed enumCount file work work₃ k count o place Done
       unfolding enumCount enumNamed isSome
-      enum-entered h g l e₁ e₂ =
+      enum-entered h g l e₁ e₂ e₃ =
           record {
             go = λ f I c room here p s.
                 let M = name-new l I c room in
                 record {
                   kept = all-rules p s h g (sym (ap isSome (lookup-unnamed f name (λ n m q. M .miss .none n (omega arith) q)))) ∙ broken-later 11 _ refl ∙ none-broken;
-                  indexed = rw (e₂, e₁, c, here) (indexed-enum I room (rw (c, name-is p s) at M) s);
+                  indexed = rw (e₃, e₂, e₁, c, here) (indexed-enum I room (rw (c, name-is p s) at M) s);
                 };
           }

@@ -14,7 +14,7 @@ use Rattle.script_spec.specs.Base.{Bytes, isSome, place, placeFrom}
 use Rattle.script_spec.specs.Tree.{Tm, eqTy, typeOf, depth, node, forest, Bool·, nil}
 use Rattle.script_spec.specs.File.{TermFile, term, types, terms, typeAt, termAt, named, namedMark, earlier, Rule, rules, broken}
 use Rattle.script_spec.proofs.Laws.{eqTy-eq}
-use Rattle.index.specs.Cells.{cell, store, termOffset, termFirst, termType, termDepth, termPlace}
+use Rattle.index.specs.Cells.{cell, store, termOffset, termFirst, termType, termDepth, termPlace, note}
 use Rattle.index.specs.First.{orElse, first, firstType, InRange}
 use Rattle.index.specs.Rules.{greatest, limits, listRulesBy, rulesBy, typeBy, typeNamed}
 use Rattle.index.proofs.Renamed.{map-agree}
@@ -35,12 +35,12 @@ use Rattle.enter.proofs.FirstBroken.{broken-here, broken-later, none-br
 use Rattle.enter.specs.declared.Entered.{Entered}
 use Rattle.enter.specs.declared.Entered.the-variants.{Done, Broken}
 
-pub term-row-stored : (file : Bytes) (work : List ℕ) (k count o ty deep place : ℕ) {first : ℕ} {work₀ work₁ work₂ work₃ work₄ work₅ : List ℕ} → Enrols file work work₀ k termOffset termFirst 2 count o first
+pub term-row-stored : (file : Bytes) (work : List ℕ) (k count o ty deep place : ℕ) {first : ℕ} {work₀ work₁ work₂ work₃ work₄ work₅ work₆ : List ℕ} → Enrols file work work₀ k termOffset termFirst 2 count o first
     → work₁ ≡ store work₀ k termOffset count o → work₂ ≡ store work₁ k termFirst count first → work₃ ≡ store work₂ k termType count ty → work₄ ≡ store work₃ k termDepth count deep → work₅ ≡ store work₄ k termPlace count place
-    → StoresTerm file work work₅ k count o ty deep place
+    → work₆ ≡ store work₅ k note count 0 → StoresTerm file work work₆ k count o ty deep place
 unfolding termCount
-term-row-stored file work k count o ty deep place E e₁ e₂ e₃ e₄ e₅ =
-    record { go = λ f I c room t s below type-is type-first d p. rw (e₅, e₄, e₃, e₂, e₁, c, p) (indexed-term I room (rw c at E) s below type-is type-first d) }
+term-row-stored file work k count o ty deep place E e₁ e₂ e₃ e₄ e₅ e₆ =
+    record { go = λ f I c room t s below type-is type-first d few p. rw (e₆, e₅, e₄, e₃, e₂, e₁, c, p) (indexed-term I room (rw c at E) s below type-is type-first d few) }
 
 -- a memory that was left as it was
 module _ {file : Bytes} {work work′ : List ℕ} (left : work′ ≡ work) where
@@ -222,6 +222,6 @@ module _ {file : Bytes} {work : List ℕ} {k o n r : ℕ} (octets : Octets file)
                   let F = type-found I P ty (sought-some (sought I P) types ty (sought-is f I c P) g) in
                   record {
                     kept = listed g I c P ∙ broken-later 13 _ (rw (← c′, lt-ltb count 60000 d, ← q, le-leb (suc n) 256 (omega arith))) ∙ none-broken;
-                    indexed = S .go f I c′ room t s (F .below) (F .type-is) (F .type-first) (add-one n ∙ ap suc q ∙ term-depth I P) p;
+                    indexed = S .go f I c′ room t s (F .below) (F .type-is) (F .type-first) (add-one n ∙ ap suc q ∙ term-depth I P) (omega arith) p;
                   };
             }

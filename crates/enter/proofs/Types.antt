@@ -12,7 +12,7 @@ use lib.ListN.{length}
 use Rattle.script_spec.specs.Base.{Bytes, ifSome, ascending}
 use Rattle.script_spec.specs.Tree.{Ty, node, nil, attributes}
 use Rattle.script_spec.specs.File.{TermFile, type, types, rules, broken}
-use Rattle.index.specs.Cells.{store, typeOffset, typeFirst, typeDepth, typePlace}
+use Rattle.index.specs.Cells.{store, typeOffset, typeFirst, typeDepth, typePlace, typeList}
 use Rattle.index.specs.Rules.{greatest, limits, rulesBy}
 use Rattle.segments.proofs.Prints.{Octets}
 use Rattle.compare.specs.View.{viewed, numbers, segmentsAt}
@@ -27,11 +27,11 @@ use Rattle.enter.proofs.Parts.{TypeParts, type-parts, deepest, rules-by
 use Rattle.enter.proofs.FirstBroken.{broken-here, broken-later, none-broken}
 use Rattle.enter.specs.declared.Entered.the-variants.{Done, Broken}
 
-pub type-row-stored : (file : Bytes) (work : List ℕ) (k count o deep place : ℕ) {first : ℕ} {work₀ work₁ work₂ work₃ work₄ : List ℕ} → Enrols file work work₀ k typeOffset typeFirst 0 count o first
+pub type-row-stored : (file : Bytes) (work : List ℕ) (k count o deep place : ℕ) {first : ℕ} {work₀ work₁ work₂ work₃ work₄ work₅ : List ℕ} → Enrols file work work₀ k typeOffset typeFirst 0 count o first
     → work₁ ≡ store work₀ k typeOffset count o → work₂ ≡ store work₁ k typeFirst count first → work₃ ≡ store work₂ k typeDepth count deep → work₄ ≡ store work₃ k typePlace count place
-    → StoresType file work work₄ k count o deep place
+    → work₅ ≡ store work₄ k typeList count 0 → StoresType file work work₅ k count o deep place
 unfolding typeCount
-type-row-stored file work k count o deep place E e₁ e₂ e₃ e₄ = record { go = λ f I c room t s d p. rw (e₄, e₃, e₂, e₁, c, p) (indexed-type I room (rw c at E) s d) }
+type-row-stored file work k count o deep place E e₁ e₂ e₃ e₄ e₅ = record { go = λ f I c room t s d few p. rw (e₅, e₄, e₃, e₂, e₁, c, p) (indexed-type I room (rw c at E) s d few) }
 
 -- ---- the rules
 
@@ -77,6 +77,6 @@ module _ (file : Bytes) (work : List ℕ) (k count o place : ℕ) {b : Bool} (A 
               let q : n ≡ deepest work k typeDepth P = is ∙ deepest-is I P octets in
               record {
                 kept = ap broken (type-rules I P) ∙ broken-later 9 _ (ascends-is A P ∙ h) ∙ broken-later 13 _ (rw (← c, lt-ltb count 60000 g, ← q, le-leb (suc n) 256 (omega arith))) ∙ none-broken;
-                indexed = S .go f I c room t s (add-one n ∙ ap suc q ∙ type-depth I P) p;
+                indexed = S .go f I c room t s (add-one n ∙ ap suc q ∙ type-depth I P) (omega arith) p;
               };
         }

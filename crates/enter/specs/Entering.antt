@@ -41,4 +41,4 @@ pub record Enters {A : Type 0} (wrap : A → Named) (counted : TermFile → ℕ)
 
 -- the row of a type of this depth and place is stored
 pub record StoresType (file : Bytes) (work work′ : List ℕ) (k count o deep place : ℕ) : Type 0 where
-  pub go : (f : TermFile) → Indexed file f work k → count ≡ typeCount f → suc (length f) ≤ k → (t : Ty) → Stands file f (earlier f) o (type t) → deep ≡ depth t → place ≡ length f → Indexed file (f ++ (type t ∷ [])) work′ k
+  pub go : (f : TermFile) → Indexed file f work k → count ≡ typeCount f → suc (length f) ≤ k → (t : Ty) → Stands file f (earlier f) o (type t) → deep ≡ depth t → deep ≤ 256 → place ≡ length f → Indexed file (f ++ (type t ∷ [])) work′ k

@@ -20,7 +20,7 @@ termCount f = length (terms f)
 -- the row of a term of this type, depth and place is stored
 pub record StoresTerm (file : Bytes) (work work′ : List ℕ) (k count o ty deep place : ℕ) : Type 0 where
   pub go : (f : TermFile) → Indexed file f work k → count ≡ termCount f → suc (length f) ≤ k → (t : Tm) → Stands file f (earlier f) o (term t)
-      → ty < length (types f) → typeAt f ty ≡ typeOf t → firstType f ty ≡ ty → deep ≡ depth t → place ≡ length f → Indexed file (f ++ (term t ∷ [])) work′ k
+      → ty < length (types f) → typeAt f ty ≡ typeOf t → firstType f ty ≡ ty → deep ≡ depth t → deep ≤ 256 → place ≡ length f → Indexed file (f ++ (term t ∷ [])) work′ k
 
 -- a term at an offset is entered after the records f, of which there are `place`, among them `types` types and `count` terms
 pub record EntersTerm (file : Bytes) (work work′ : List ℕ) (k types count o place : ℕ) (r : Entered) : Type 0 where

@@ -4,7 +4,7 @@ use record_rules::members;
 ghost use Rattle.enter.specs.Entering.{Enters};
 ghost use Rattle.enter.specs.Enums.{enumNamed, enumCount};
 
-// Enters the enum at an offset and a place, of which there are `count` before it.
+// Enters the enum at an offset and a place, of which there are `count` before it, without a list of members.
 pub fn enter_enum(
     file: &[u8],
     work: &mut [u32],
@@ -24,6 +24,7 @@ pub fn enter_enum(
             }
             index::set(work, k, index::ENUM_OFFSET, count as usize, o);
             index::set(work, k, index::ENUM_PLACE, count as usize, place);
+            index::set(work, k, index::ENUM_LIST, count as usize, 0);
             return Entered::Done;
         }
         return Entered::Broken(10);

@@ -12,7 +12,7 @@ pub enum Entered {
     Broken(u32),
 }
 
-// Enters the function at an offset and a place, of which there are `count` before it.
+// Enters the function at an offset and a place, of which there are `count` before it, without a name.
 pub fn enter_fun(file: &[u8], work: &mut [u32], k: usize, count: u32, o: u32, place: u32) -> Entered
     ensures { λ r. ⌜ Enters func funCount (now (file .entry)) (now (work .entry)) (now (work .exit)) k count o place r ⌝ }
 {
@@ -29,10 +29,11 @@ pub fn enter_fun(file: &[u8], work: &mut [u32], k: usize, count: u32, o: u32, pl
     index::set(work, k, index::FUN_OFFSET, count as usize, o);
     index::set(work, k, index::FUN_FIRST, count as usize, first);
     index::set(work, k, index::FUN_PLACE, count as usize, place);
+    index::set(work, k, index::FUN_NAME, count as usize, 0);
     Entered::Done
 }
 
-// Stores the row of a type, with its depth and its place.
+// Stores the row of a type, with its depth and its place, and without a list of attributes.
 fn store_type(file: &[u8], work: &mut [u32], k: usize, count: u32, o: u32, depth: u32, place: u32)
     ensures { λ _. ⌜ StoresType (now (file .entry)) (now (work .entry)) (now (work .exit)) k count o depth place ⌝ }
 {
@@ -50,6 +51,7 @@ fn store_type(file: &[u8], work: &mut [u32], k: usize, count: u32, o: u32, depth
     index::set(work, k, index::TYPE_FIRST, count as usize, first);
     index::set(work, k, index::TYPE_DEPTH, count as usize, depth);
     index::set(work, k, index::TYPE_PLACE, count as usize, place);
+    index::set(work, k, index::TYPE_LIST, count as usize, 0);
 }
 
 // Enters the type at an offset and a place, of which there are `count` before it.

@@ -2,7 +2,8 @@
 use crate::Entered;
 ghost use Rattle.enter.specs.Terms.{StoresTerm, EntersTerm, EntersTyped};
 
-// Stores the row of a term at an offset, of which there are `count` before it, with the number of its type, its depth and its place.
+// Stores the row of a term at an offset, of which there are `count` before it, with the number of its type, its depth and its place, and without a
+// note.
 fn store_term(
     file: &[u8],
     work: &mut [u32],
@@ -30,6 +31,7 @@ fn store_term(
     index::set(work, k, index::TERM_TYPE, count as usize, ty);
     index::set(work, k, index::TERM_DEPTH, count as usize, depth);
     index::set(work, k, index::TERM_PLACE, count as usize, place);
+    index::set(work, k, index::NOTE, count as usize, 0);
 }
 
 // Enters a term, before which there are so many types and terms; `ty` is the number of its type, or `types` where that is not listed.

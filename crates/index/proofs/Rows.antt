@@ -11,7 +11,7 @@ use Rattle.script_spec.specs.Base.{Bytes}
 use Rattle.script_spec.specs.Tree.{typeOf, depth}
 use Rattle.script_spec.specs.Fields.{Earlier}
 use Rattle.script_spec.specs.File.{TermFile, Named, types, funs, terms, inputs, enums, typeAt, termAt, earlier}
-use Rattle.index.specs.Cells.{cell, typeOffset, typeFirst, typeDepth, funOffset, funFirst, termOffset, termFirst, termType, termDepth, enumOffset, termPlace, typePlace, funPlace, enumPlace, inputPlace, inputOffset, inputTerm, listRow}
+use Rattle.index.specs.Cells.{cell, typeOffset, typeFirst, typeDepth, funOffset, funFirst, termOffset, termFirst, termType, termDepth, enumOffset, termPlace, typePlace, funPlace, enumPlace, inputPlace, inputOffset, inputTerm, listRow, note, funName}
 use Rattle.index.specs.Names.{Names}
 use Rattle.index.specs.Lists.{Listed, Blank}
 use Rattle.index.specs.Meaning.{Stands, counted, inputAt, TypeRow, FunRow, TermRow, EnumRow, InputRow, Listings, Index, Depths}
@@ -32,12 +32,11 @@ pub listed-same : {body body′ : Bytes} {skip : ℕ} {names : List Bytes} {work
 listed-same e same L = rw e record { ordered = L .ordered; rows = λ j l. rw (same j l) (L .rows j l) }
 
 -- where no list is made, there is none to speak of
-pub listed-none : (file : Bytes) (f : TermFile) (work : List ℕ) (k : ℕ) → Blank (length (types f)) (length (funs f)) work k → length f ≤ k → Listings file f work k
-listed-none file f work k B fit =
-    let few = counts-together f in
+pub listed-none : (file : Bytes) (f : TermFile) (work : List ℕ) (k : ℕ) → Blank (length (types f)) (length (enums f)) work k → Listings file f work k
+listed-none file f work k B =
     record {
-      of-types = record { list = λ t base l e names a. absurd (let z : 0 ≡ suc base = sym (B .no-type-list t (omega arith)) ∙ e in omega arith) };
-      of-enums = record { list = λ t base l e names a. absurd (let z : 0 ≡ suc base = sym (B .no-enum-list t (omega arith)) ∙ e in omega arith) };
+      of-types = record { list = λ t base l e names a. absurd (let z : 0 ≡ suc base = sym (B .no-type-list t l) ∙ e in omega arith) };
+      of-enums = record { list = λ t base l e names a. absurd (let z : 0 ≡ suc base = sym (B .no-enum-list t l) ∙ e in omega arith) };
     }
 
 -- ---- old rows
@@ -117,7 +116,7 @@ module _ (file : Bytes) (f : TermFile) (r : Named) (k : ℕ) {work work′ : Lis
       → (length (enums f) < length (enums (f ++ (r ∷ []))) → EnumRow file (f ++ (r ∷ [])) work′ k (length (enums f)) (getD (enums (f ++ (r ∷ []))) (length (enums f)) ([], []) .0) (getD (enums (f ++ (r ∷ []))) (length (enums f)) ([], []) .1))
       → (length (inputs f) < length (inputs (f ++ (r ∷ []))) → InputRow file (f ++ (r ∷ [])) work′ k (length (inputs f)))
       → Names (f ++ (r ∷ [])) work′ k
-      → Blank (length (types (f ++ (r ∷ [])))) (length (funs (f ++ (r ∷ [])))) work′ k
+      → Blank (length (types (f ++ (r ∷ [])))) (length (enums (f ++ (r ∷ [])))) work′ k
       → Index file (f ++ (r ∷ [])) work′ k
   index-grown I room new-type new-fun new-term new-enum new-input names blank =
       record {
@@ -131,27 +130,39 @@ module _ (file : Bytes) (f : TermFile) (r : Named) (k : ℕ) {work work′ : Lis
         input-row = all-rows (inputs f) (inputs (f ++ (r ∷ []))) (InputRow file (f ++ (r ∷ [])) work′ k) (inputs-grown f r) (λ n l. input-kept n l (I .input-row n l)) new-input;
         fit = fit-grown;
         names = names;
-        listed = listed-none file (f ++ (r ∷ [])) work′ k blank fit-grown;
+        listed = listed-none file (f ++ (r ∷ [])) work′ k blank;
       }
     where
       fit-grown : length (f ++ (r ∷ [])) ≤ k
       fit-grown = rw length-append (omega arith)
 
-  pub depths-grown : Depths file f work k
-      → (length (types f) < length (types (f ++ (r ∷ []))) → cell work′ k typeDepth (length (types f)) ≡ depth (typeAt (f ++ (r ∷ [])) (length (types f))))
-      → (length (terms f) < length (terms (f ++ (r ∷ []))) → cell work′ k termDepth (length (terms f)) ≡ depth (termAt (f ++ (r ∷ [])) (length (terms f))))
-      → Blank (length (types (f ++ (r ∷ [])))) (length (funs (f ++ (r ∷ [])))) work′ k
-      → Depths file (f ++ (r ∷ [])) work′ k
+  -- what check has of a new type, function and term beside its row
+  pub record NewDepths : Type 0 where
+    pub type-depth : length (types f) < length (types (f ++ (r ∷ []))) → cell work′ k typeDepth (length (types f)) ≡ depth (typeAt (f ++ (r ∷ [])) (length (types f)))
+    pub type-free : length (types f) < length (types (f ++ (r ∷ []))) → cell work′ k typeDepth (length (types f)) ≤ 256
+    pub fun-free : length (funs f) < length (funs (f ++ (r ∷ []))) → cell work′ k funName (length (funs f)) ≤ 256
+    pub term-depth : length (terms f) < length (terms (f ++ (r ∷ []))) → cell work′ k termDepth (length (terms f)) ≡ depth (termAt (f ++ (r ∷ [])) (length (terms f)))
+    pub term-free : length (terms f) < length (terms (f ++ (r ∷ []))) → cell work′ k termDepth (length (terms f)) ≤ 256
+    pub no-note : length (terms f) < length (terms (f ++ (r ∷ []))) → cell work′ k note (length (terms f)) ≡ 0
+
+  pub depths-grown : Depths file f work k → NewDepths → Blank (length (types (f ++ (r ∷ [])))) (length (enums (f ++ (r ∷ [])))) work′ k → Depths file (f ++ (r ∷ [])) work′ k
   unfolding used
-  depths-grown D new-type new-term blank =
+  depths-grown D new blank =
       record {
         blank = blank;
         type-depth =
             all-rows (types f) (types (f ++ (r ∷ []))) (λ n. cell work′ k typeDepth n ≡ depth (typeAt (f ++ (r ∷ [])) n)) (types-grown f r)
-            (λ n l. U .same typeDepth n l ∙ D .type-depth n l ∙ ap depth (sym (types-kept f r .name-kept n l))) new-type;
+            (λ n l. U .same typeDepth n l ∙ D .type-depth n l ∙ ap depth (sym (types-kept f r .name-kept n l))) (new .type-depth);
         term-depth =
             all-rows (terms f) (terms (f ++ (r ∷ []))) (λ n. cell work′ k termDepth n ≡ depth (termAt (f ++ (r ∷ [])) n)) (terms-grown f r)
-            (λ n l. U .same termDepth n l ∙ D .term-depth n l ∙ ap depth (sym (terms-kept f r .name-kept n l))) new-term;
+            (λ n l. U .same termDepth n l ∙ D .term-depth n l ∙ ap depth (sym (terms-kept f r .name-kept n l))) (new .term-depth);
+        no-note = all-rows (terms f) (terms (f ++ (r ∷ []))) (λ n. cell work′ k note n ≡ 0) (terms-grown f r) (λ n l. U .same note n l ∙ D .no-note n l) (new .no-note);
+        unnamed =
+            record {
+              types-free = all-rows (types f) (types (f ++ (r ∷ []))) (λ n. cell work′ k typeDepth n ≤ 256) (types-grown f r) (λ n l. rw (U .same typeDepth n l) (D .unnamed .types-free n l)) (new .type-free);
+              funs-free = all-rows (funs f) (funs (f ++ (r ∷ []))) (λ n. cell work′ k funName n ≤ 256) (funs-grown f r) (λ n l. rw (U .same funName n l) (D .unnamed .funs-free n l)) (new .fun-free);
+              terms-free = all-rows (terms f) (terms (f ++ (r ∷ []))) (λ n. cell work′ k termDepth n ≤ 256) (terms-grown f r) (λ n l. rw (U .same termDepth n l) (D .unnamed .terms-free n l)) (new .term-free);
+            };
       }
 
 -- ---- counts that fit

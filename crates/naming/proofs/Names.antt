@@ -8,7 +8,7 @@ use Prim.Native.Nat.{ℕ, zero, suc, _+_, _-_, _*_, _≤_, _<_}
 use native.Mathlib.Numerals.{add-one}
 use native.Mathlib.Decide.{ℕ-discrete}
 use native.Mathlib.Omega.{arith}
-use borrow.Author.Tests.{ne-eqb}
+use borrow.Author.Tests.{ne-eqb, lt-ltb, le-ltb}
 use lib.ListN.{length}
 use Rattle.script_spec.specs.Base.{Bytes, bytes, place}
 use Rattle.script_spec.specs.Tree.{eqTy}
@@ -19,13 +19,13 @@ use Rattle.script_spec.specs.Walk.{State, start, enterType, enterFun, enterTerm
 use Rattle.index.specs.Cells.{placed, cell, store, typeFirst, funFirst, termFirst}
 use Rattle.index.specs.First.{firstType, firstFun, firstTerm}
 use Rattle.index.specs.Standing.{bodyAt}
-use Rattle.index.specs.Meaning.{Index}
+use Rattle.index.specs.Meaning.{Index, Unnamed}
 use Rattle.index.proofs.Names.{names-same}
 use Rattle.index.proofs.Cells.{shared, Apart, length-store, cell-store-same, cell-store-apart}
 use Rattle.index.proofs.Growth.{counts-together}
 use Rattle.index.proofs.Rows.{listed-same, types-fit, funs-fit, terms-fit}
 use Rattle.index.proofs.Firsts.{FirstEqual, Equality, first-below, first-types, first-funs, first-terms, equal-types, equal-funs, equal-terms}
-use Rattle.naming.specs.Naming.{typeName, funName, termName, isName, hasNames, nameAt, placeOf, Table, Numbers, Kept}
+use Rattle.naming.specs.Naming.{typeName, funName, termName, isName, hasNames, nameIn, raised, nameStored, nameAt, placeOf, Table, Numbers, Kept}
 use Rattle.naming.proofs.Tables.{table-start, table-same, table-place, table-enter}
 
 -- ---- memories that differ in names alone
@@ -51,13 +51,14 @@ names-both column h = go (ℕ-discrete column typeName) (ℕ-discrete column fun
     go (no a) (no b) (yes e) = rw e (refl, refl)
     go (no a) (no b) (no c) = absurd (not-both (isName column) h (rw (ne-eqb column typeName a, ne-eqb column funName b, ne-eqb column termName c)))
 
-pub kept-store : (work : List ℕ) (k column i v : ℕ) → isName column ≡ true → Kept work (store work k column i v) k
+pub kept-store : (work : List ℕ) (k column i v : ℕ) → isName column ≡ true → Kept work (nameStored work k column i v) k
+unfolding nameStored
 kept-store work k column i v h =
     let both = names-both column h in
     record {
-      size = length-store work k column i v;
+      size = length-store work k column i (raised v);
       others = λ column′ i′ n.
-          cell-store-apart work k column i v column′ i′
+          cell-store-apart work k column i (raised v) column′ i′
           (record { other = λ e _. not-both (hasNames column′) (ap hasNames (sym e) ∙ both .0) n; facing = λ e _. not-both (hasNames column′) (ap hasNames (sym e) ∙ both .1) n });
     }
 
@@ -96,28 +97,45 @@ module _ {file : Bytes} {f : TermFile} {work work′ : List ℕ} {k : ℕ} (K : 
 
 -- ---- a store
 
+-- a name is read back as it was stored
+raised-name : (v : ℕ) → v < 4294967040 → raised v - 256 ≡ v
+unfolding raised placed
+raised-name v h = rw (lt-ltb v 4294967040 h) (omega arith)
+
+name-same : (work : List ℕ) (k column i v : ℕ) → 12 * k ≤ length work → column < 24 → i < k → v < 4294967040 → nameIn (nameStored work k column i v) k column i ≡ v
+unfolding nameIn nameStored
+name-same work k column i v fits c l small = ap (λ (m : ℕ). m - 256) (cell-store-same work k column i (raised v) (record { fits = fits; column-is = c; index-is = l })) ∙ raised-name v small
+
+name-apart : (work : List ℕ) (k column i v column′ j : ℕ) → Apart k column i column′ j → nameIn (nameStored work k column i v) k column′ j ≡ nameIn work k column′ j
+unfolding nameIn nameStored
+name-apart work k column i v column′ j A = ap (λ (m : ℕ). m - 256) (cell-store-apart work k column i (raised v) column′ j A)
+
 module _ {A : Type 0} {eq : A → A → Bool} {count : ℕ} {name : ℕ → A} {first : ℕ → ℕ} (F : FirstEqual count name first) where
   -- the record n is entered, and one more than the table's length is stored at the number of its first equal record
   table-stored : (E : Equality eq) (work : List ℕ) (k column : ℕ) {table : List A} → 12 * k ≤ length work → column < 24 → (shared column ≡ column → ⊥) → count ≤ k → (n v : ℕ) → n < count
-      → Table eq count name first (cell work k column) table → cell work k column (first n) ≡ 0 → v ≡ length table + 1
-      → Table eq count name first (cell (store work k column (first n) v) k column) (table ++ (name n ∷ []))
-  table-stored E work k column {table} fits c own le n v l t z e =
-      table-enter E F (cell (store work k column (first n) v) k column) n l t z
-      (cell-store-same work k column (first n) v (record { fits = fits; column-is = c; index-is = omega (arith, first-below F n l) }) ∙ e ∙ add-one (length table))
-      (λ j h. cell-store-apart work k column (first n) v column j (record { other = λ _ q. h (sym q); facing = λ q _. own q }))
+      → Table eq count name first (nameIn work k column) table → nameIn work k column (first n) ≡ 0 → v ≡ length table + 1 → v < 4294967040
+      → Table eq count name first (nameIn (nameStored work k column (first n) v) k column) (table ++ (name n ∷ []))
+  table-stored E work k column {table} fits c own le n v l t z e small =
+      table-enter E F (nameIn (nameStored work k column (first n) v) k column) n l t z
+      (name-same work k column (first n) v fits c (omega (arith, first-below F n l)) small ∙ e ∙ add-one (length table))
+      (λ j h. name-apart work k column (first n) v column j (record { other = λ _ q. h (sym q); facing = λ q _. own q }))
 
   -- a store of what is no entry of the table
   table-beside : (work : List ℕ) (k column column′ i v : ℕ) {table : List A} → ((j : ℕ) → j < count → Apart k column′ i column j)
-      → Table eq count name first (cell work k column) table → Table eq count name first (cell (store work k column′ i v) k column) table
-  table-beside work k column column′ i v apart t = table-same F (cell (store work k column′ i v) k column) (λ j l. cell-store-apart work k column′ i v column j (apart j l)) t
+      → Table eq count name first (nameIn work k column) table → Table eq count name first (nameIn (nameStored work k column′ i v) k column) table
+  table-beside work k column column′ i v apart t = table-same F (nameIn (nameStored work k column′ i v) k column) (λ j l. name-apart work k column′ i v column j (apart j l)) t
 
 -- ---- the tables of a state
 
--- the start of the walk, over columns of zeros
-pub numbers-start : (f : TermFile) (work : List ℕ) (k : ℕ)
-    → ((i : ℕ) → cell work k typeName i ≡ 0) → ((i : ℕ) → cell work k funName i ≡ 0) → ((i : ℕ) → cell work k termName i ≡ 0) → Numbers f work k start
-unfolding start
-numbers-start f work k ty fn tm = record { type-table = table-start _ ty; fun-table = table-start _ fn; term-table = table-start _ tm }
+-- the start of the walk, where no record has a name
+pub numbers-start : {file : Bytes} (f : TermFile) (work : List ℕ) (k : ℕ) → Unnamed file f work k → Numbers f work k start
+unfolding start nameIn
+numbers-start f work k N =
+    record {
+      type-table = table-start (first-types f) _ (λ i l. omega (arith, N .types-free i l));
+      fun-table = table-start (first-funs f) _ (λ i l. omega (arith, N .funs-free i l));
+      term-table = table-start (first-terms f) _ (λ i l. omega (arith, N .terms-free i l));
+    }
 
 -- commands are in no table
 pub numbers-write : {f : TermFile} {work : List ℕ} {k : ℕ} {S : State} (cs : List Command) → Numbers f work k S → Numbers f work k (write cs S)
@@ -125,56 +143,59 @@ unfolding write
 numbers-write cs N = record { type-table = N .type-table; fun-table = N .fun-table; term-table = N .term-table }
 
 module _ {file : Bytes} {f : TermFile} {work : List ℕ} {k : ℕ} {S : State} (I : Index file f work k) (N : Numbers f work k S) (n v : ℕ) where
-  pub numbers-type : n < length (types f) → cell work k typeName (firstType f n) ≡ 0 → v ≡ length (S .types) + 1
-      → Numbers f (store work k typeName (firstType f n) v) k (enterType (typeAt f n) S)
+  pub numbers-type : n < length (types f) → nameIn work k typeName (firstType f n) ≡ 0 → v ≡ length (S .types) + 1 → v < 4294967040
+      → Numbers f (nameStored work k typeName (firstType f n) v) k (enterType (typeAt f n) S)
   unfolding enterType shared placed
-  numbers-type l z e =
+  numbers-type l z e small =
       let few = counts-together f in
       let fit = I .fit in
       let below = first-below (first-types f) n l in
       record {
-        type-table = table-stored (first-types f) equal-types work k typeName (I .fits) (omega arith) (λ q. omega arith) (types-fit I) n v l (N .type-table) z e;
+        type-table = table-stored (first-types f) equal-types work k typeName (I .fits) (omega arith) (λ q. omega arith) (types-fit I) n v l (N .type-table) z e small;
         fun-table = table-beside (first-funs f) work k funName typeName (firstType f n) v (λ j h. record { other = λ e q. omega arith; facing = λ e q. omega arith }) (N .fun-table);
         term-table = table-beside (first-terms f) work k termName typeName (firstType f n) v (λ j h. record { other = λ e q. omega arith; facing = λ e q. omega arith }) (N .term-table);
       }
 
-  pub numbers-fun : n < length (funs f) → cell work k funName (firstFun f n) ≡ 0 → v ≡ length (S .funs) + 1
-      → Numbers f (store work k funName (firstFun f n) v) k (enterFun (funAt f n) S)
+  pub numbers-fun : n < length (funs f) → nameIn work k funName (firstFun f n) ≡ 0 → v ≡ length (S .funs) + 1 → v < 4294967040
+      → Numbers f (nameStored work k funName (firstFun f n) v) k (enterFun (funAt f n) S)
   unfolding enterFun shared placed
-  numbers-fun l z e =
+  numbers-fun l z e small =
       let few = counts-together f in
       let fit = I .fit in
       let below = first-below (first-funs f) n l in
       record {
         type-table = table-beside (first-types f) work k typeName funName (firstFun f n) v (λ j h. record { other = λ e q. omega arith; facing = λ e q. omega arith }) (N .type-table);
-        fun-table = table-stored (first-funs f) equal-funs work k funName (I .fits) (omega arith) (λ q. omega arith) (funs-fit I) n v l (N .fun-table) z e;
+        fun-table = table-stored (first-funs f) equal-funs work k funName (I .fits) (omega arith) (λ q. omega arith) (funs-fit I) n v l (N .fun-table) z e small;
         term-table = table-beside (first-terms f) work k termName funName (firstFun f n) v (λ j h. record { other = λ e q. omega arith; facing = λ e q. omega arith }) (N .term-table);
       }
 
-  pub numbers-term : n < length (terms f) → cell work k termName (firstTerm f n) ≡ 0 → v ≡ length (S .terms) + 1
-      → Numbers f (store work k termName (firstTerm f n) v) k (enterTerm (termAt f n) S)
+  pub numbers-term : n < length (terms f) → nameIn work k termName (firstTerm f n) ≡ 0 → v ≡ length (S .terms) + 1 → v < 4294967040
+      → Numbers f (nameStored work k termName (firstTerm f n) v) k (enterTerm (termAt f n) S)
   unfolding enterTerm shared placed
-  numbers-term l z e =
+  numbers-term l z e small =
+      let few = counts-together f in
+      let fit = I .fit in
+      let below = first-below (first-terms f) n l in
       record {
         type-table = table-beside (first-types f) work k typeName termName (firstTerm f n) v (λ j h. record { other = λ e q. omega arith; facing = λ e q. omega arith }) (N .type-table);
         fun-table = table-beside (first-funs f) work k funName termName (firstTerm f n) v (λ j h. record { other = λ e q. omega arith; facing = λ e q. omega arith }) (N .fun-table);
-        term-table = table-stored (first-terms f) equal-terms work k termName (I .fits) (omega arith) (λ q. omega arith) (terms-fit I) n v l (N .term-table) z e;
+        term-table = table-stored (first-terms f) equal-terms work k termName (I .fits) (omega arith) (λ q. omega arith) (terms-fit I) n v l (N .term-table) z e small;
       }
 
 -- ---- names by numbers of records
 
 module _ {file : Bytes} {f : TermFile} {work : List ℕ} {k : ℕ} (I : Index file f work k) (n : ℕ) where
-  pub nameAt-type : n < length (types f) → nameAt work k typeFirst typeName n ≡ cell work k typeName (firstType f n)
+  pub nameAt-type : n < length (types f) → nameAt work k typeFirst typeName n ≡ nameIn work k typeName (firstType f n)
   unfolding nameAt
-  nameAt-type l = ap (cell work k typeName) (I .type-row n l .first)
+  nameAt-type l = ap (nameIn work k typeName) (I .type-row n l .first)
 
-  pub nameAt-fun : n < length (funs f) → nameAt work k funFirst funName n ≡ cell work k funName (firstFun f n)
+  pub nameAt-fun : n < length (funs f) → nameAt work k funFirst funName n ≡ nameIn work k funName (firstFun f n)
   unfolding nameAt
-  nameAt-fun l = ap (cell work k funName) (I .fun-row n l .first)
+  nameAt-fun l = ap (nameIn work k funName) (I .fun-row n l .first)
 
-  pub nameAt-term : n < length (terms f) → nameAt work k termFirst termName n ≡ cell work k termName (firstTerm f n)
+  pub nameAt-term : n < length (terms f) → nameAt work k termFirst termName n ≡ nameIn work k termName (firstTerm f n)
   unfolding nameAt
-  nameAt-term l = ap (cell work k termName) (I .term-row n l .first)
+  nameAt-term l = ap (nameIn work k termName) (I .term-row n l .first)
 
   module _ {S : State} (N : Numbers f work k S) where
     pub place-type : n < length (types f) → place (eqTy (typeAt f n)) (S .types) ≡ placeOf (nameAt work k typeFirst typeName n)
@@ -187,6 +208,32 @@ module _ {file : Bytes} {f : TermFile} {work : List ℕ} {k : ℕ} (I : Index fi
     pub name-term : n < length (terms f) → names S .term (termAt f n) ≡ numbered (bytes "t") (placeOf (nameAt work k termFirst termName n))
     unfolding names
     name-term l = ap (numbered (bytes "t")) (table-place (N .term-table) n l ∙ ap placeOf (sym (nameAt-term l)))
+
+-- ---- what the functions return
+
+module _ (work : List ℕ) (k first column n : ℕ) {at v : ℕ} (a : at ≡ cell work k first n) (e : v ≡ cell work k column at) where
+  is-entry : v ≡ cell work k column (cell work k first n)
+  is-entry = e ∙ ap (cell work k column) a
+
+  pub no-name : v < 256 → 0 ≡ nameAt work k first column n
+  unfolding nameAt nameIn
+  no-name h = omega (arith, is-entry)
+
+  pub some-name : v - 256 ≡ nameAt work k first column n
+  unfolding nameAt nameIn
+  some-name = ap (λ (m : ℕ). m - 256) is-entry
+
+pub raised-fits : (v : ℕ) → v < 4294967040 → v + 256 ≡ raised v
+unfolding raised placed
+raised-fits v h = rw (lt-ltb v 4294967040 h)
+
+pub raised-past : (v : ℕ) → 4294967040 ≤ v → 0 ≡ raised v
+unfolding raised placed
+raised-past v h = rw (le-ltb v 4294967040 h)
+
+pub stored-name : (work : List ℕ) (k first column n v : ℕ) {work′ : List ℕ} {at r : ℕ} → at ≡ cell work k first n → r ≡ raised v → work′ ≡ store work k column at r → work′ ≡ nameStored work k column (cell work k first n) v
+unfolding nameStored
+stored-name work k first column n v a q e = rw (← a, ← q) e
 
 -- ---- writing a name
 

@@ -55,10 +55,10 @@ module _ {A : Type 0} (p : A → Bool) where
 
 -- ---- free entries
 
-free-all : (column : ℕ → ℕ) (k : ℕ) → ((i : ℕ) → column i ≡ 0) → free column k ≡ k
+free-all : (column : ℕ → ℕ) (k : ℕ) → ((i : ℕ) → i < k → column i ≡ 0) → free column k ≡ k
 unfolding free oneIfFree
 free-all column zero h = refl
-free-all column (suc k) h = rw (h k, free-all column k h) (omega arith)
+free-all column (suc k) h = rw (h k (omega arith), free-all column k (λ i l. h i (omega arith))) (omega arith)
 
 free-same : (column column′ : ℕ → ℕ) (k : ℕ) → ((i : ℕ) → i < k → column′ i ≡ column i) → free column′ k ≡ free column k
 unfolding free
@@ -80,9 +80,9 @@ free-taken column column′ i v (suc k) l z s h = go (ℕ-discrete k i) (λ m. f
 
 module _ {A : Type 0} {eq : A → A → Bool} {count : ℕ} {name : ℕ → A} {first : ℕ → ℕ} where
   -- the empty table
-  pub table-start : (column : ℕ → ℕ) → ((i : ℕ) → column i ≡ 0) → Table eq count name first column []
+  pub table-start : FirstEqual count name first → (column : ℕ → ℕ) → ((i : ℕ) → i < count → column i ≡ 0) → Table eq count name first column []
   unfolding place num
-  table-start column h = record { place-is = λ n l. h (first n); taken = omega (arith, free-all column count h) }
+  table-start F column h = record { place-is = λ n l. h (first n) (first-below F n l); taken = omega (arith, free-all column count h) }
 
   -- a column that has the same entries for the records
   pub table-same : FirstEqual count name first → {column : ℕ → ℕ} {table : List A} (column′ : ℕ → ℕ) → ((i : ℕ) → i < count → column′ i ≡ column i)

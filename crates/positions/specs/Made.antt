@@ -10,7 +10,7 @@ use Rattle.script_spec.specs.File as records
 use Rattle.script_spec.specs.File.{TermFile, types, enums}
 use Rattle.index.specs.Cells.{cell, store, Apart, typeOffset, enumOffset, hash, enumList, typeList, listRow}
 use Rattle.index.specs.Lists.{textSize, ListsOf}
-use Rattle.index.specs.Meaning.{used, HasAttributes, HasMembers, Index}
+use Rattle.index.specs.Meaning.{used, HasAttributes, HasMembers, Index, Unnamed}
 
 -- every record type's attributes and every enum's members ascend
 pub record Ascends (f : TermFile) : Type 0 where
@@ -81,6 +81,11 @@ pub record Known (file : Bytes) (f : TermFile) (k terms : ℕ) (work : List ℕ)
   pub ascends : Ascends f
   pub terms-are : terms ≡ length (records.terms f)
 
+-- the memory with all lists is still the index of the records, and has a name of none that had no name before
+pub record Relisted (file : Bytes) (f : TermFile) (k : ℕ) (work₀ work : List ℕ) : Type 0 where
+  pub index : Index file f work k
+  pub unnamed : Unnamed file f work₀ k → Unnamed file f work k
+
 module _ (file : Bytes) (k terms : ℕ) where
   -- the list of the type t, after those of the types before it
   pub record ListsType (t next : ℕ) (work : List ℕ) (next′ : ℕ) (work′ : List ℕ) : Type 0 where
@@ -96,8 +101,8 @@ module _ (file : Bytes) (k terms : ℕ) where
 
   pub record ListsEnums (count next : ℕ) (work work′ : List ℕ) : Type 0 where
     pub go : (f : TermFile) (work₀ : List ℕ) → Known file f k terms work₀ → count ≡ length (enums f) → Listing file f k work₀ (length (types f)) 0 next work
-        → Index file f work′ k
+        → Relisted file f k work₀ work′
 
-  -- all lists: the memory is still the index of the records
+  -- all lists
   pub record MakesLists (ty en : ℕ) (work work′ : List ℕ) : Type 0 where
-    pub go : (f : TermFile) → Known file f k terms work → ty ≡ length (types f) → en ≡ length (enums f) → Index file f work′ k
+    pub go : (f : TermFile) → Known file f k terms work → ty ≡ length (types f) → en ≡ length (enums f) → Relisted file f k work work′

@@ -74,13 +74,13 @@ module _ {file : Bytes} {k many limit : ℕ} {ready : TermFile → Step → Type
   module _ {work′ : List ℕ} {out′ : Bytes} {p′ : Progress} where
     -- before a refusal the walk has gone to some state
     pub advances-went : Kept work work′ k → p .refused ≡ 0
-        → ((f : TermFile) (o : Bytes) (S : State) → Index file f work k → k + 1 < 2 ^ 32 → many ≡ length (enums f) → ready f (went S)
+        → ((f : TermFile) (o : Bytes) (S : State) → Index file f work k → k + 257 < 2 ^ 32 → many ≡ length (enums f) → ready f (went S)
         → Went f k limit o work out p S → Holds f k limit o work′ out′ p′ (walk f S))
         → Advances file k many limit ready walk work out p work′ out′ p′
     unfolding sticky
     advances-went K z h = record { kept = K; go = go }
       where
-        go : (f : TermFile) (o : Bytes) (x : Step) → Index file f work k → k + 1 < 2 ^ 32 → many ≡ length (enums f) → ready f x
+        go : (f : TermFile) (o : Bytes) (x : Step) → Index file f work k → k + 257 < 2 ^ 32 → many ≡ length (enums f) → ready f x
             → Holds f k limit o work out p x → Holds f k limit o work′ out′ p′ (sticky (walk f) x)
         go f o (went S) I small n r H = h f o S I small n r H
         go f o (stopped c t) I small n r H = let q = H .refused-is in let l = H .some-refused in absurd (omega arith)

@@ -47,5 +47,5 @@ module _ (f : TermFile) (k limit : ℕ) (o : Bytes) (work : List ℕ) (out : Byt
 pub record Advances (file : Bytes) (k many limit : ℕ) (ready : TermFile → Step → Type 0) (walk : TermFile → Walk)
     (work : List ℕ) (out : Bytes) (p : Progress) (work′ : List ℕ) (out′ : Bytes) (p′ : Progress) : Type 0 where
   pub kept : Kept work work′ k
-  pub go : (f : TermFile) (o : Bytes) (x : Step) → Index file f work k → k + 1 < 2 ^ 32 → many ≡ length (enums f) → ready f x
+  pub go : (f : TermFile) (o : Bytes) (x : Step) → Index file f work k → k + 257 < 2 ^ 32 → many ≡ length (enums f) → ready f x
       → Holds f k limit o work out p x → Holds f k limit o work′ out′ p′ (sticky (walk f) x)

@@ -11,7 +11,7 @@ use mathlib.Core.List.{List, [], _∷_}
 use borrow.Author.Count.{below-more}
 use lib.ListN.{length, getD, set, length-set}
 use Rattle.script_spec.specs.Base.{Bytes}
-use Rattle.index.specs.Cells.{placed, offset, cell, store, termFirst, funName}
+use Rattle.index.specs.Cells.{placed, offset, cell, store, termFirst, note}
 use Rattle.index.proofs.Cells.{shared, length-store, cell-store-same, cell-store-apart}
 use Rattle.repeats.specs.Repeats.{refAt, firstAt, noted, Noted, Notes, Clears, Repeated, Different, Earlier, Tells}
 use Rattle.repeats.specs.declared.Answer.the-variants.{Never, Once, Unknown}
@@ -40,29 +40,29 @@ module _ (work : List ℕ) (k : ℕ) (φ : ℕ → ℕ) where
   noted-length : (n : ℕ) → length (noted work k φ n) ≡ length work
   unfolding noted
   noted-length zero = refl
-  noted-length (suc n) = length-store (noted work k φ n) k funName (φ n) (suc n) ∙ noted-length n
+  noted-length (suc n) = length-store (noted work k φ n) k note (φ n) (suc n) ∙ noted-length n
 
   -- other columns are as they were
-  noted-other : (n column j : ℕ) → (funName ≡ column → ⊥) → (shared funName ≡ column → ⊥) → cell (noted work k φ n) k column j ≡ cell work k column j
+  noted-other : (n column j : ℕ) → (note ≡ column → ⊥) → (shared note ≡ column → ⊥) → cell (noted work k φ n) k column j ≡ cell work k column j
   unfolding noted
   noted-other zero column j h g = refl
-  noted-other (suc n) column j h g = cell-store-apart (noted work k φ n) k funName (φ n) (suc n) column j (record { other = λ e q. h e; facing = λ e q. g e }) ∙ noted-other n column j h g
+  noted-other (suc n) column j h g = cell-store-apart (noted work k φ n) k note (φ n) (suc n) column j (record { other = λ e q. h e; facing = λ e q. g e }) ∙ noted-other n column j h g
 
   -- a number that was noted has a note
   module _ (fits : 12 * k ≤ length work) where
-    has-note : (i n : ℕ) → i < n → ((j : ℕ) → j < n → φ j < k) → cell (noted work k φ n) k funName (φ i) ≡ 0 → ⊥
+    has-note : (i n : ℕ) → i < n → ((j : ℕ) → j < n → φ j < k) → cell (noted work k φ n) k note (φ i) ≡ 0 → ⊥
     unfolding noted shared placed
     has-note i zero l below e = absurd (omega arith)
     has-note i (suc n) l below e = go (ℕ-discrete (φ n) (φ i)) (λ m. has-note i n m (λ j p. below j (omega arith)))
       where
-        here : cell (store (noted work k φ n) k funName (φ n) (suc n)) k funName (φ n) ≡ suc n
-        here = cell-store-same (noted work k φ n) k funName (φ n) (suc n) (record { fits = rw (noted-length n) fits; column-is = omega arith; index-is = below n (omega arith) })
+        here : cell (store (noted work k φ n) k note (φ n) (suc n)) k note (φ n) ≡ suc n
+        here = cell-store-same (noted work k φ n) k note (φ n) (suc n) (record { fits = rw (noted-length n) fits; column-is = omega arith; index-is = below n (omega arith) })
 
-        go : Dec (φ n ≡ φ i) → (i < n → cell (noted work k φ n) k funName (φ i) ≡ 0 → ⊥) → ⊥
+        go : Dec (φ n ≡ φ i) → (i < n → cell (noted work k φ n) k note (φ i) ≡ 0 → ⊥) → ⊥
         go (yes q) less = let z : suc n ≡ 0 = sym here ∙ rw (← q) at e in omega arith
         go (no q) less =
             less (lower i n l (λ p. q (ap φ (sym p))))
-            (sym (cell-store-apart (noted work k φ n) k funName (φ n) (suc n) funName (φ i) (record { other = λ a b. q b; facing = λ a b. omega arith })) ∙ e)
+            (sym (cell-store-apart (noted work k φ n) k note (φ n) (suc n) note (φ i) (record { other = λ a b. q b; facing = λ a b. omega arith })) ∙ e)
 
 -- no two numbers that were noted are equal
 pub noted-different : {work work′ : List ℕ} {k : ℕ} {φ : ℕ → ℕ} {n : ℕ} → Noted work work′ k φ n → Different φ n
@@ -70,7 +70,7 @@ noted-different {work} {k = k} {φ} {n} N =
     record {
       go = λ R.
           has-note work k φ (N .fits (omega (arith, R .below))) (R .first) (R .second) (R .ordered) (λ j l. N .below j (omega (arith, R .below)))
-          (ap (cell (noted work k φ (R .second)) k funName) (R .equal) ∙ N .free (R .second) (R .below));
+          (ap (cell (noted work k φ (R .second)) k note) (R .equal) ∙ N .free (R .second) (R .below));
     }
 
 -- what is read of the references is as it was
@@ -108,7 +108,7 @@ module _ {body : Bytes} {work : List ℕ} {k from count : ℕ} where
     pub noting-stop : Notes body work work₁ k from count i
     noting-stop = record { most = N .most; notes = N .notes }
 
-    pub noting-more : {f v : ℕ} {work₂ : List ℕ} → i < count → f ≡ firstAt body work₁ k from i → f < k → v ≡ cell work₁ k funName f → v ≡ 0 → work₂ ≡ store work₁ k funName f (i + 1)
+    pub noting-more : {f v : ℕ} {work₂ : List ℕ} → i < count → f ≡ firstAt body work₁ k from i → f < k → v ≡ cell work₁ k note f → v ≡ 0 → work₂ ≡ store work₁ k note f (i + 1)
         → Noting body work k from count work₂ (i + 1)
     unfolding noted
     noting-more {f} l e g q z s =
@@ -120,10 +120,10 @@ module _ {body : Bytes} {work : List ℕ} {k from count : ℕ} where
           notes =
               rw (add-one i)
               (record {
-                is = s ∙ ap (λ (w : List ℕ). store w k funName f (i + 1)) (N .notes .is) ∙ rw (same, add-one i);
+                is = s ∙ ap (λ (w : List ℕ). store w k note f (i + 1)) (N .notes .is) ∙ rw (same, add-one i);
                 fits = λ h. N .has;
                 below = λ j m. below-more (λ j. φ j < k) i (N .notes .below) (rw (← same) g) j (omega arith);
-                free = λ j m. below-more (λ j. cell (noted work k φ j) k funName (φ j) ≡ 0) i (N .notes .free) (rw (← N .notes .is, ← same) (sym q ∙ z)) j (omega arith);
+                free = λ j m. below-more (λ j. cell (noted work k φ j) k note (φ j) ≡ 0) i (N .notes .free) (rw (← N .notes .is, ← same) (sym q ∙ z)) j (omega arith);
               });
         }
 
@@ -144,18 +144,18 @@ module _ {body : Bytes} {work : List ℕ} {k from n : ℕ} where
     unfolding noted
     clearing-end h = record { go = λ work₀ N. let z : i ≡ 0 = omega arith in C .go work₀ N ∙ rw z }
 
-    pub clearing-more : {f : ℕ} {work₂ : List ℕ} → 0 < i → f ≡ firstAt body work₁ k from (i - 1) → work₂ ≡ store work₁ k funName f 0 → Clearing body work work₂ k from n (i - 1)
+    pub clearing-more : {f : ℕ} {work₂ : List ℕ} → 0 < i → f ≡ firstAt body work₁ k from (i - 1) → work₂ ≡ store work₁ k note f 0 → Clearing body work work₂ k from n (i - 1)
     unfolding noted
     clearing-more {f} l e s =
         record {
           most = omega (arith, C .most);
-          same-size = ap length s ∙ length-store work₁ k funName f 0 ∙ C .same-size;
+          same-size = ap length s ∙ length-store work₁ k note f 0 ∙ C .same-size;
           go = λ work₀ N.
               let φ = firstAt body work₀ k from in
               let z : i ≡ suc (i - 1) = omega arith in
               let is : work₁ ≡ noted work₀ k φ (suc (i - 1)) = C .go work₀ N ∙ ap (noted work₀ k φ) z in
               let same : f ≡ φ (i - 1) = e ∙ ap (λ (w : List ℕ). firstAt body w k from (i - 1)) is ∙ first-noted body work₀ k from φ (suc (i - 1)) (i - 1) in
-              s ∙ ap (λ (w : List ℕ). store w k funName f 0) is ∙ rw same (store-undone (noted work₀ k φ (i - 1)) k funName (φ (i - 1)) (suc (i - 1)) (N .free (i - 1) (omega (arith, C .most))));
+              s ∙ ap (λ (w : List ℕ). store w k note f 0) is ∙ rw same (store-undone (noted work₀ k φ (i - 1)) k note (φ (i - 1)) (suc (i - 1)) (N .free (i - 1) (omega (arith, C .most))));
         }
 
 -- ---- answers

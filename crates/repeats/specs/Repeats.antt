@@ -8,7 +8,7 @@ use lib.Dec.{leb}
 use lib.ListN.{length, take, drop}
 use Rattle.script_spec.specs.Base.{Bytes}
 use Rattle.script_spec.specs.Fields.{low}
-use Rattle.index.specs.Cells.{placed, cell, store, termFirst, funName}
+use Rattle.index.specs.Cells.{placed, cell, store, termFirst, note}
 use Rattle.repeats.specs.declared.Answer.{Answer}
 use Rattle.repeats.specs.declared.Answer.the-variants.{Never, Once, Unknown}
 
@@ -25,14 +25,14 @@ firstAt body work k from i = cell work k termFirst (refAt body from i)
 -- the memory with the first n of some numbers noted
 unfoldable pub noted : List ℕ → ℕ → (ℕ → ℕ) → ℕ → List ℕ
 noted work k φ zero = work
-noted work k φ (suc i) = store (noted work k φ i) k funName (φ i) (suc i)
+noted work k φ (suc i) = store (noted work k φ i) k note (φ i) (suc i)
 
 -- the first n of some numbers are noted, each at an entry that was empty
 pub record Noted (work work′ : List ℕ) (k : ℕ) (φ : ℕ → ℕ) (n : ℕ) : Type 0 where
   pub is : work′ ≡ noted work k φ n
   pub fits : 0 < n → 12 * k ≤ length work
   pub below : (i : ℕ) → i < n → φ i < k
-  pub free : (i : ℕ) → i < n → cell (noted work k φ i) k funName (φ i) ≡ 0
+  pub free : (i : ℕ) → i < n → cell (noted work k φ i) k note (φ i) ≡ 0
 
 -- the first equal numbers of the first n of so many references are noted
 pub record Notes (body : Bytes) (work work′ : List ℕ) (k from count n : ℕ) : Type 0 where

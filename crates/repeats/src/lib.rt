@@ -49,10 +49,10 @@ fn note(body: &[u8], work: &mut [u32], k: usize, from: usize, count: u32) -> u32
         if k <= f as usize {
             return i;
         }
-        if index::get(work, k, index::FUN_NAME, f as usize) != 0 {
+        if index::get(work, k, index::NOTE, f as usize) != 0 {
             return i;
         }
-        index::set(work, k, index::FUN_NAME, f as usize, i + 1);
+        index::set(work, k, index::NOTE, f as usize, i + 1);
         i += 1;
     }
     i
@@ -66,7 +66,7 @@ fn clear(body: &[u8], work: &mut [u32], k: usize, from: usize, n: u32)
     while 0 < i {
         i -= 1;
         let f = first_at(body, work, k, from, i);
-        index::set(work, k, index::FUN_NAME, f as usize, 0);
+        index::set(work, k, index::NOTE, f as usize, 0);
     }
 }
 
@@ -91,7 +91,7 @@ pub fn repeats(body: &[u8], work: &mut [u32], k: usize, from: usize, count: u32)
 {
     let n = note(body, work, k, from, count);
     let f = first_at(body, work, k, from, n);
-    let v = index::get(work, k, index::FUN_NAME, f as usize);
+    let v = index::get(work, k, index::NOTE, f as usize);
     clear(body, work, k, from, n);
     if n == count {
         return Answer::Never;

@@ -11,10 +11,9 @@ use Rattle.script_spec.specs.Base.{Bytes, collect}
 use Rattle.script_spec.specs.Tree.{Ty, Fun, Tm, typeOf, depth}
 use Rattle.script_spec.specs.Fields as fields
 use Rattle.script_spec.specs.File.{TermFile, Named, type, enum, func, term, input, types, funs, terms, inputs, enums, typeAt, termAt, earlier}
-use Rattle.index.specs.Cells.{placed, cell, store, typeOffset, typeFirst, typeDepth, funOffset, funFirst, termOffset, termFirst, termType, termDepth, enumOffset, hash, termPlace, typePlace, funPlace, enumPlace, inputPlace, inputOffset, inputTerm}
+use Rattle.index.specs.Cells.{placed, cell, store, typeOffset, typeFirst, typeDepth, funOffset, funFirst, termOffset, termFirst, termType, termDepth, enumOffset, hash, termPlace, typePlace, funPlace, enumPlace, inputPlace, inputOffset, inputTerm, enumList, typeList, note, funName}
 use Rattle.index.specs.First.{canonical, firstType}
 use Rattle.index.specs.Standing.{entryAt}
-use Rattle.index.specs.Lists.{Blank}
 use Rattle.index.specs.Meaning.{Stands}
 use Rattle.index.specs.Meaning as meaning
 use Rattle.index.proofs.Cells.{shared, cell-store-apart}
@@ -33,11 +32,11 @@ use Rattle.search.specs.Named.{NewName}
 use Rattle.search.proofs.Numbers.{entries-read, type-looks, fun-looks, term-looks, type-found, fun-found, term-found}
 use Rattle.search.proofs.Growth.{stored-untouched, stored-unlisted, enrolled-untouched, enrolled-unlisted, enrolled-stays, enrolled-fewer, enrolled-reached, types-kept, funs-kept, terms-kept, slots-grown}
 
--- a memory without lists and with empty slots is the index of no records
-pub indexed-none : (file : Bytes) (work : List ℕ) (k : ℕ) → 12 * k ≤ length work → k ≤ 1048576 → Blank 0 0 work k → ((i : ℕ) → cell work k hash i ≡ 0) → Indexed file [] work k
+-- a memory with empty slots is the index of no records
+pub indexed-none : (file : Bytes) (work : List ℕ) (k : ℕ) → 12 * k ≤ length work → k ≤ 1048576 → ((i : ℕ) → cell work k hash i ≡ 0) → Indexed file [] work k
 unfolding types funs terms collect
-indexed-none file work k fits small blank empty =
-    let I = rows.indexed-none file work k fits blank in
+indexed-none file work k fits small empty =
+    let I = rows.indexed-none file work k fits in
     record {
       index = I .index;
       depths = I .depths;
@@ -75,21 +74,22 @@ module _ {file : Bytes} {f : TermFile} {work : List ℕ} {k : ℕ} (I : Indexed 
   without : meaning.Indexed file f work k
   without = record { index = I .index; depths = I .depths }
 
-  pub indexed-type : {work₀ : List ℕ} {o m d : ℕ} {t : Ty} → Enrols file work work₀ k typeOffset typeFirst 0 (length (types f)) o m → Stands file f (earlier f) o (type t) → d ≡ depth t
-      → Indexed file (f ++ (type t ∷ [])) (store (store (store (store work₀ k typeOffset (length (types f)) o) k typeFirst (length (types f)) m) k typeDepth (length (types f)) d) k typePlace (length (types f)) (length f)) k
+  pub indexed-type : {work₀ : List ℕ} {o m d : ℕ} {t : Ty} → Enrols file work work₀ k typeOffset typeFirst 0 (length (types f)) o m → Stands file f (earlier f) o (type t) → d ≡ depth t → d ≤ 256
+      → Indexed file (f ++ (type t ∷ []))
+      (store (store (store (store (store work₀ k typeOffset (length (types f)) o) k typeFirst (length (types f)) m) k typeDepth (length (types f)) d) k typePlace (length (types f)) (length f)) k typeList (length (types f)) 0) k
   unfolding shared placed
-  indexed-type {work₀} {o} {m} {d} {t} E s deep =
+  indexed-type {work₀} {o} {m} {d} {t} E s deep shallow =
       let n = length (types f) in
-      let work′ = store (store (store (store work₀ k typeOffset n o) k typeFirst n m) k typeDepth n d) k typePlace n (length f) in
+      let work′ = store (store (store (store (store work₀ k typeOffset n o) k typeFirst n m) k typeDepth n d) k typePlace n (length f)) k typeList n 0 in
       let A = E .go f (s .entry) (entries file work k typeOffset) (type-looks (I .index) (I .searchable .type-slots) s) (omega (arith, few, counts-fewer f .types-fewer)) empty-left in
       let C = enrolled-untouched A f in
       let fits = I .index .fits in
       let S = type-stored f k work₀ (rw (C .same-size) fits) room o m d (length f) in
       let U = untouched-then C (S .untouched) in
       let same : (i : ℕ) → cell work′ k hash i ≡ cell work₀ k hash i
-      = λ i. slots-beside _ k typePlace n (length f) (λ e. omega arith) (λ e. omega arith) i ∙ slots-beside _ k typeDepth n d (λ e. omega arith) (λ e. omega arith) i ∙ slots-beside _ k typeFirst n m (λ e. omega arith) (λ e. omega arith) i
+      = λ i. slots-beside _ k typeList n 0 (λ e. omega arith) (λ e. omega arith) i ∙ slots-beside _ k typePlace n (length f) (λ e. omega arith) (λ e. omega arith) i ∙ slots-beside _ k typeDepth n d (λ e. omega arith) (λ e. omega arith) i ∙ slots-beside _ k typeFirst n m (λ e. omega arith) (λ e. omega arith) i
       ∙ slots-beside _ k typeOffset n o (λ e. omega arith) (λ e. omega arith) i in
-      let J = rows.indexed-type without room (record { untouched = U; unlisted = λ B. S .unlisted (enrolled-unlisted A B); offset-is = S .offset-is; first-is = S .first-is; depth-is = S .depth-is; place-is = S .place-is }) (enrolled-stays A fits work′ same) s (type-found (I .index) s (A .found)) deep in
+      let J = rows.indexed-type without room (record { untouched = U; unlisted = λ B. S .unlisted (enrolled-unlisted A B); offset-is = S .offset-is; first-is = S .first-is; depth-is = S .depth-is; place-is = S .place-is }) (enrolled-stays A fits work′ same) s (type-found (I .index) s (A .found)) deep shallow in
       let L = lists-type f t in
       record {
         index = J .index;
@@ -103,19 +103,20 @@ module _ {file : Bytes} {f : TermFile} {work : List ℕ} {k : ℕ} (I : Indexed 
       }
 
   pub indexed-func : {work₀ : List ℕ} {o m : ℕ} {g : Fun} → Enrols file work work₀ k funOffset funFirst 1 (length (funs f)) o m → Stands file f (earlier f) o (func g)
-      → Indexed file (f ++ (func g ∷ [])) (store (store (store work₀ k funOffset (length (funs f)) o) k funFirst (length (funs f)) m) k funPlace (length (funs f)) (length f)) k
+      → Indexed file (f ++ (func g ∷ []))
+      (store (store (store (store work₀ k funOffset (length (funs f)) o) k funFirst (length (funs f)) m) k funPlace (length (funs f)) (length f)) k funName (length (funs f)) 0) k
   unfolding shared placed
   indexed-func {work₀} {o} {m} {g} E s =
       let n = length (funs f) in
-      let work′ = store (store (store work₀ k funOffset n o) k funFirst n m) k funPlace n (length f) in
+      let work′ = store (store (store (store work₀ k funOffset n o) k funFirst n m) k funPlace n (length f)) k funName n 0 in
       let A = E .go f (s .entry) (entries file work k funOffset) (fun-looks (I .index) (I .searchable .fun-slots) s) (omega (arith, few, counts-fewer f .funs-fewer)) empty-left in
       let C = enrolled-untouched A f in
       let fits = I .index .fits in
       let S = fun-stored f k work₀ (rw (C .same-size) fits) room o m (length f) in
       let U = untouched-then C (S .untouched) in
       let same : (i : ℕ) → cell work′ k hash i ≡ cell work₀ k hash i
-      = λ i. slots-beside _ k funPlace n (length f) (λ e. omega arith) (λ e. omega arith) i ∙ slots-beside _ k funFirst n m (λ e. omega arith) (λ e. omega arith) i ∙ slots-beside _ k funOffset n o (λ e. omega arith) (λ e. omega arith) i in
-      let J = rows.indexed-func without room (record { untouched = U; unlisted = λ B. S .unlisted (enrolled-unlisted A B); offset-is = S .offset-is; first-is = S .first-is; place-is = S .place-is }) (enrolled-stays A fits work′ same) s (fun-found (I .index) s (A .found)) in
+      = λ i. slots-beside _ k funName n 0 (λ e. omega arith) (λ e. omega arith) i ∙ slots-beside _ k funPlace n (length f) (λ e. omega arith) (λ e. omega arith) i ∙ slots-beside _ k funFirst n m (λ e. omega arith) (λ e. omega arith) i ∙ slots-beside _ k funOffset n o (λ e. omega arith) (λ e. omega arith) i in
+      let J = rows.indexed-func without room (record { untouched = U; unlisted = λ B. S .unlisted (enrolled-unlisted A B); offset-is = S .offset-is; first-is = S .first-is; place-is = S .place-is; name-is = S .name-is }) (enrolled-stays A fits work′ same) s (fun-found (I .index) s (A .found)) in
       let L = lists-func f g in
       record {
         index = J .index;
@@ -129,22 +130,22 @@ module _ {file : Bytes} {f : TermFile} {work : List ℕ} {k : ℕ} (I : Indexed 
       }
 
   pub indexed-term : {work₀ : List ℕ} {o m τ d : ℕ} {t : Tm} → Enrols file work work₀ k termOffset termFirst 2 (length (terms f)) o m → Stands file f (earlier f) o (term t)
-      → τ < length (types f) → typeAt f τ ≡ typeOf t → firstType f τ ≡ τ → d ≡ depth t
+      → τ < length (types f) → typeAt f τ ≡ typeOf t → firstType f τ ≡ τ → d ≡ depth t → d ≤ 256
       → Indexed file (f ++ (term t ∷ []))
-      (store (store (store (store (store work₀ k termOffset (length (terms f)) o) k termFirst (length (terms f)) m) k termType (length (terms f)) τ) k termDepth (length (terms f)) d) k termPlace (length (terms f)) (length f)) k
+      (store (store (store (store (store (store work₀ k termOffset (length (terms f)) o) k termFirst (length (terms f)) m) k termType (length (terms f)) τ) k termDepth (length (terms f)) d) k termPlace (length (terms f)) (length f)) k note (length (terms f)) 0) k
   unfolding shared placed
-  indexed-term {work₀} {o} {m} {τ} {d} {t} E s below type-is type-first deep =
+  indexed-term {work₀} {o} {m} {τ} {d} {t} E s below type-is type-first deep shallow =
       let n = length (terms f) in
-      let work′ = store (store (store (store (store work₀ k termOffset n o) k termFirst n m) k termType n τ) k termDepth n d) k termPlace n (length f) in
+      let work′ = store (store (store (store (store (store work₀ k termOffset n o) k termFirst n m) k termType n τ) k termDepth n d) k termPlace n (length f)) k note n 0 in
       let A = E .go f (s .entry) (entries file work k termOffset) (term-looks (I .index) (I .searchable .term-slots) s) (omega (arith, few, counts-fewer f .terms-fewer)) empty-left in
       let C = enrolled-untouched A f in
       let fits = I .index .fits in
       let S = term-stored f k work₀ (rw (C .same-size) fits) room o m τ d (length f) in
       let U = untouched-then C (S .untouched) in
       let same : (i : ℕ) → cell work′ k hash i ≡ cell work₀ k hash i
-      = λ i. slots-beside _ k termPlace n (length f) (λ e. omega arith) (λ e. omega arith) i ∙ slots-beside _ k termDepth n d (λ e. omega arith) (λ e. omega arith) i ∙ slots-beside _ k termType n τ (λ e. omega arith) (λ e. omega arith) i ∙ slots-beside _ k termFirst n m (λ e. omega arith) (λ e. omega arith) i
+      = λ i. slots-beside _ k note n 0 (λ e. omega arith) (λ e. omega arith) i ∙ slots-beside _ k termPlace n (length f) (λ e. omega arith) (λ e. omega arith) i ∙ slots-beside _ k termDepth n d (λ e. omega arith) (λ e. omega arith) i ∙ slots-beside _ k termType n τ (λ e. omega arith) (λ e. omega arith) i ∙ slots-beside _ k termFirst n m (λ e. omega arith) (λ e. omega arith) i
       ∙ slots-beside _ k termOffset n o (λ e. omega arith) (λ e. omega arith) i in
-      let J = rows.indexed-term without room (record { untouched = U; unlisted = λ B. S .unlisted (enrolled-unlisted A B); offset-is = S .offset-is; first-is = S .first-is; type-is = S .type-is; depth-is = S .depth-is; place-is = S .place-is }) (enrolled-stays A fits work′ same) s (term-found (I .index) s (A .found)) below type-is type-first deep in
+      let J = rows.indexed-term without room (record { untouched = U; unlisted = λ B. S .unlisted (enrolled-unlisted A B); offset-is = S .offset-is; first-is = S .first-is; type-is = S .type-is; depth-is = S .depth-is; place-is = S .place-is; note-is = S .note-is }) (enrolled-stays A fits work′ same) s (term-found (I .index) s (A .found)) below type-is type-first deep shallow in
       let L = lists-term f t in
       record {
         index = J .index;
@@ -158,18 +159,18 @@ module _ {file : Bytes} {f : TermFile} {work : List ℕ} {k : ℕ} (I : Indexed 
       }
 
   pub indexed-enum : {work₀ : List ℕ} {o r : ℕ} {name : Bytes} {members : List Bytes} → NewName work work₀ k f (length (enums f)) name r → Stands file f (earlier f) o (enum name members)
-      → Indexed file (f ++ (enum name members ∷ [])) (store (store work₀ k enumOffset (length (enums f)) o) k enumPlace (length (enums f)) (length f)) k
+      → Indexed file (f ++ (enum name members ∷ [])) (store (store (store work₀ k enumOffset (length (enums f)) o) k enumPlace (length (enums f)) (length f)) k enumList (length (enums f)) 0) k
   unfolding shared placed
   indexed-enum {work₀} {o} {r} {name} {members} N s =
       let n = length (enums f) in
       let T = N .stored in
-      let work′ = store (store work₀ k enumOffset n o) k enumPlace n (length f) in
+      let work′ = store (store (store work₀ k enumOffset n o) k enumPlace n (length f)) k enumList n 0 in
       let C = stored-untouched T f in
       let fits = I .index .fits in
       let S = enum-stored f k work₀ (rw (C .same-size) fits) room o (length f) in
       let U = untouched-then C (S .untouched) in
       let same : (i : ℕ) → cell work′ k hash i ≡ cell work₀ k hash i
-      = λ i. slots-beside _ k enumPlace n (length f) (λ e. omega arith) (λ e. omega arith) i ∙ slots-beside work₀ k enumOffset n o (λ e. omega arith) (λ e. omega arith) i in
+      = λ i. slots-beside _ k enumList n 0 (λ e. omega arith) (λ e. omega arith) i ∙ slots-beside _ k enumPlace n (length f) (λ e. omega arith) (λ e. omega arith) i ∙ slots-beside work₀ k enumOffset n o (λ e. omega arith) (λ e. omega arith) i in
       let stays : Stays (cell work k hash) (cell work′ k hash) = record { same = λ i g. same i ∙ stored-stays fits T .same i g } in
       let L = lists-enum f name members in
       let new : Reached (nameHome k) k (cell work′ k hash) 3 (suc n) (enumName (f ++ (enum name members ∷ []))) n

@@ -32,14 +32,14 @@ use Rattle.search.proofs.Numbers.{type-at, fun-at, term-at}
 pub stored-untouched : {work work₀ : List ℕ} {k b v : ℕ} → Stored work work₀ k b v → (f : TermFile) → Untouched f k work work₀
 stored-untouched {work} {k = k} {b} {v} S f = rw (S .is) (untouched-slot f k work (slot k b (S .distance)) v (slot-inside k b (S .distance) (S .inside) (S .near)))
 
-pub stored-unlisted : {work work₀ : List ℕ} {k b v ty fn : ℕ} → Stored work work₀ k b v → Blank ty fn work k → Blank ty fn work₀ k
+pub stored-unlisted : {work work₀ : List ℕ} {k b v ty en : ℕ} → Stored work work₀ k b v → Blank ty en work k → Blank ty en work₀ k
 stored-unlisted {k = k} {b} {v} S B = rw (S .is) (blank-slot B (slot k b (S .distance)) v)
 
 module _ {work work₀ : List ℕ} {k firsts kind count r : ℕ} {f : TermFile} {x : Entry} {ε : ℕ → Entry} (E : Enrolled work work₀ k firsts kind count r f x ε) where
   pub enrolled-untouched : (g : TermFile) → Untouched g k work work₀
   enrolled-untouched g = ⊎-elim (λ h. rw (h .0) (untouched-refl g k work)) (λ S. stored-untouched S g) (E .kept)
 
-  pub enrolled-unlisted : {ty fn : ℕ} → Blank ty fn work k → Blank ty fn work₀ k
+  pub enrolled-unlisted : {ty en : ℕ} → Blank ty en work k → Blank ty en work₀ k
   enrolled-unlisted B = ⊎-elim (λ h. rw (h .0) B) (λ S. stored-unlisted S B) (E .kept)
 
   module _ (fits : 12 * k ≤ length work) where

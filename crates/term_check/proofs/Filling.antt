@@ -7,8 +7,10 @@ use mathlib.Core.List.{List, [], _∷_, _++_}
 use lib.ListN.{length, replicate}
 use Rattle.script_spec.specs.Base.{Bytes, collect}
 use Rattle.script_spec.specs.File.{TermFile, types, funs, terms, enums, inputs}
+use Rattle.index.specs.Cells.{cell, emptied, hash}
+use Rattle.index.proofs.Columns.{cell-emptied}
 use Rattle.term_check.specs.Promise.{countsOf, together, Fills}
-use Rattle.term_check.specs.Clearing.{Refusing, Prepared}
+use Rattle.term_check.specs.Clearing.{Refusing}
 use Rattle.term_check.specs.Stepping.{Stepped, Stepping, Steps}
 use Rattle.term_check.specs.declared.Counts.{Counts}
 use Rattle.term_check.specs.declared.Filled.{Filled}
@@ -38,9 +40,11 @@ pub record Going (file : Bytes) (size : ℕ) (work : List ℕ) (at : ℕ) (c : C
   pub reached : Reached file size records work at c
   pub same-size : length work ≡ size
 
-pub going-start : (file : Bytes) (work : List ℕ) → length file ≤ 1048576 → 2 * length file ≤ length work → Prepared work (length file / 6) → Going file (length work) work 0 (record { types = 0; funs = 0; terms = 0; enums = 0; inputs = 0 })
+pub going-start : (file : Bytes) (work₀ work : List ℕ) {k : ℕ} → k ≡ length file / 6 → length file ≤ 1048576 → 2 * length file ≤ length work → work ≡ emptied work₀ k hash → Going file (length work) work 0 (record { types = 0; funs = 0; terms = 0; enums = 0; inputs = 0 })
 unfolding countsOf types funs terms enums inputs collect
-going-start file work g h P = record { records = []; reached = reached-start file work _ g h P refl; same-size = refl }
+going-start file work₀ work {k} e g h z =
+    let empty : (i : ℕ) → cell work (length file / 6) hash i ≡ 0 = λ i. rw (← e, z) (cell-emptied work₀ k hash (omega arith) i) in
+    record { records = []; reached = reached-start file work _ g h empty refl; same-size = refl }
 
 module _ {file : Bytes} {size : ℕ} {work : List ℕ} {at : ℕ} {c : Counts} (G : Going file size work at c) where
   pub going-end : (work₀ : List ℕ) → length work₀ ≡ size → length file ≤ at → Fills file work₀ work (fill.Done c)

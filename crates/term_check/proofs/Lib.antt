@@ -7,6 +7,5 @@ pub mod FirstByte
 pub mod Following
 pub mod Over
 pub mod Stepping
-pub mod Preparing
 pub mod Filling
 pub mod Checking

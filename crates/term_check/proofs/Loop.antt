@@ -8,10 +8,10 @@ use lib.ListN.{length, drop, replicate, length-append}
 use Rattle.script_spec.specs.Base.{Bytes}
 use Rattle.script_spec.specs.Fields.{bad}
 use Rattle.script_spec.specs.File.{TermFile, nextRecord}
+use Rattle.index.specs.Cells.{cell, hash}
 use Rattle.index.proofs.Cells.{capacity-fits}
 use Rattle.search.proofs.Entered.{indexed-none}
 use Rattle.term_check.specs.Promise.{countsOf, Accepts, Refuses}
-use Rattle.term_check.specs.Clearing.{Prepared}
 use Rattle.term_check.specs.Stepping.{Before, Stepped}
 use Rattle.term_check.specs.declared.Counts.{Counts}
 use Rattle.term_check.proofs.Records.{Rest, rest-start, rest-end, rest-bad, rest-got, checked-long, checked-narrow, checked-records}
@@ -23,13 +23,13 @@ pub record Reached (file : Bytes) (size : ℕ) (f : TermFile) (work : List ℕ) 
   pub rest : Rest file f at
   pub within : at ≤ length file
 
-pub reached-start : (file : Bytes) (work : List ℕ) (c : Counts) → length file ≤ 1048576 → 2 * length file ≤ length work → Prepared work (length file / 6) → c ≡ countsOf [] → Reached file (length work) [] work 0 c
-reached-start file work c short room P e =
+pub reached-start : (file : Bytes) (work : List ℕ) (c : Counts) → length file ≤ 1048576 → 2 * length file ≤ length work → ((i : ℕ) → cell work (length file / 6) hash i ≡ 0) → c ≡ countsOf [] → Reached file (length work) [] work 0 c
+reached-start file work c short room empty e =
     record {
       before =
           record {
             short = short;
-            indexed = indexed-none file work (length file / 6) (omega (arith, capacity-fits (length file))) (omega (arith, capacity-fits (length file))) (P .no-lists) (P .no-slots);
+            indexed = indexed-none file work (length file / 6) (omega (arith, capacity-fits (length file))) (omega (arith, capacity-fits (length file))) empty;
             counts = e;
             places = omega arith;
           };
@@ -54,6 +54,7 @@ module _ {file : Bytes} {size : ℕ} {f : TermFile} {work : List ℕ} {at : ℕ}
         records = f;
         accepts = rw e (checked-records file size (R .before .short) (R .room) ∙ rest-end (R .rest) h);
         index = R .before .indexed .index;
+        unnamed = R .before .indexed .depths .unnamed;
         counts = R .before .counts;
       }
 

@@ -6,7 +6,7 @@ use mathlib.Core.List.{List}
 use lib.ListN.{length, replicate}
 use Rattle.script_spec.specs.Base.{Bytes, Answer, accepted, refused}
 use Rattle.script_spec.specs.File.{TermFile, types, funs, terms, enums, inputs, checked}
-use Rattle.index.specs.Meaning.{Index}
+use Rattle.index.specs.Meaning.{Index, Unnamed}
 use Rattle.term_check.specs.declared.Checked.{Checked}
 use Rattle.term_check.specs.declared.Checked.the-variants as check
 use Rattle.term_check.specs.declared.Counts.{Counts}
@@ -35,11 +35,12 @@ countsOf f = record { types = length (types f); funs = length (funs f); terms = 
 abbrev pub together : Counts → ℕ
 together c = c .types + c .funs + c .terms + c .enums + c .inputs
 
--- the file is accepted, the memory at exit is the index of its records, and these are their counts
+-- the file is accepted, the memory at exit is the index of its records, of which none has a name, and these are their counts
 pub record Accepts (file : Bytes) (work work′ : List ℕ) (c : Counts) : Type 0 where
   pub records : TermFile
   pub accepts : checked file (length work) ≡ accepted records
   pub index : Index file records work′ (length file / 6)
+  pub unnamed : Unnamed file records work′ (length file / 6)
   pub counts : c ≡ countsOf records
 
 -- the file is refused by this number at this place, and the memory at exit is all zero

@@ -5,7 +5,7 @@ pub mod step;
 
 use kinds::Step;
 ghost use Rattle.term_check.specs.Promise.{Fills, Checks};
-ghost use Rattle.term_check.specs.Clearing.{Prepared, Refusing, Accepting};
+ghost use Rattle.term_check.specs.Clearing.{Refusing, Accepting};
 
 // Check's answer: acceptance, or a refusal's number and place.
 pub enum Checked {
@@ -36,18 +36,8 @@ fn refuse(work: &mut [u32], n: u32, place: u32) -> Filled
     Filled::Refused(n, place)
 }
 
-// Clears the columns that are read before they are written: the slots, and those at whose ends the lists of texts and the notes of
-// references are.
-fn prepare(work: &mut [u32], k: usize)
-    ensures { λ _. ⌜ Prepared (now (work .exit)) k ⌝ }
-{
-    index::clear_column(work, k, index::HASH);
-    index::clear_column(work, k, index::TYPE_FIRST);
-    index::clear_column(work, k, index::FUN_FIRST);
-    index::clear_column(work, k, index::TYPE_DEPTH)
-}
-
-// Enters the records of a file one after the other; the memory is their index, or all zero where one is refused.
+// Enters the records of a file one after the other; the memory is their index, or all zero where one is refused. Only the slots of the
+// hash table are read before they are written, and so emptied first.
 pub fn fill(file: &[u8], work: &mut [u32]) -> Filled
     ensures { λ r. ⌜ Fills (now (file .entry)) (now (work .entry)) (now (work .exit)) r ⌝ }
 {
@@ -57,7 +47,7 @@ pub fn fill(file: &[u8], work: &mut [u32]) -> Filled
     if work.len() < 2 * file.len() {
         return refuse(work, 2, 0);
     }
-    prepare(work, index::capacity(file.len()));
+    index::clear_column(work, index::capacity(file.len()), index::HASH);
     let mut at = 0;
     let mut c = Counts {
         types: 0,

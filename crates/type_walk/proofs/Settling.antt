@@ -135,7 +135,7 @@ pub passes-settled : {file : Bytes} {k many limit t : ℕ} {work : List ℕ} {ou
 unfolding typeReady sticky
 passes-settled {file} {k} {many} {limit} {t} {work} {out} {p} P h = record { kept = kept-refl work k; go = go }
   where
-    go : (f : TermFile) (o : Bytes) (x : Step) → Index file f work k → k + 1 < 2 ^ 32 → many ≡ length (enums f) → typeReady t f x
+    go : (f : TermFile) (o : Bytes) (x : Step) → Index file f work k → k + 257 < 2 ^ 32 → many ≡ length (enums f) → typeReady t f x
         → Holds f k limit o work out p x → Holds f k limit o work out p (sticky (typeWalk t f) x)
     go f o (went S) I small n R H = subst (Holds f k limit o work out p) (sym (P .go h f S I (H .numbers) R)) H
     go f o (stopped c u) I small n R H = H

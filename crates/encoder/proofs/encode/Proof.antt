@@ -7,7 +7,7 @@ use Rattle.encoder.proofs.encode.Statement.{statement}
 use Rattle.encoder.proofs.encode.Tie as tie
 
 returns : tie.Need-returns
-returns c = encodes-refused _ _ _ c.before.before.before.before.before.before.before.before.before.before.before.before.fill.ensures (c.before.before.before.before.before.before.before.before.before.before.before.before.fill.kept .1 .0) c.before.before.before.before.before.before.before.before.n.given.1 c.before.before.before.before.refuse.ensures
+returns c = encodes-refused _ _ _ c.before.before.before.before.before.before.before.before.before.fill.ensures c.before.before.before.before.before.n.given.1 c.before.before.turn-back.ensures
 
 returns-2 : tie.Need-returns-2
 returns-2 c = encodes-accepted _ _ _ c.before.before.before.before.before.before.before.before.before.before.before.before.before.before.before.before.before.fill.ensures (c.before.before.before.before.before.before.before.before.before.before.before.before.before.before.before.before.before.fill.kept .1 .0) c.before.before.before.before.before.before.before.before.before.before.before.before.before.c.given.1 c.before.before.before.before.before.before.before.before.before.before.before.capacity.ensures refl refl refl refl c.before.before.before.before.before.before.before.before.before.make-lists.ensures (c.before.before.before.before.before.before.before.before.before.make-lists.kept .1 .0) c.before.before.before.before.encode-records.ensures

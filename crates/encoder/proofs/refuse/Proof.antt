@@ -1,12 +1,11 @@
 -- `encoder::refuse` meets its contract: all is zeroed.
 -- Assumes nothing.
-use Rattle.encoder.proofs.EndLaws.{refuses-cleared}
 use borrow.Author.Needs.{needs}
 use Rattle.encoder.proofs.refuse.Statement.{statement}
 use Rattle.encoder.proofs.refuse.Tie as tie
 
 returns : tie.Need-returns
-returns c = refuses-cleared _ _ _ _ (search needs) c.before.before.clear.ensures
+returns c = record { cleared = c.before.before.before.before.before.before.clear-words.ensures; gives = c.before.before.turn-back.ensures }
 
 pub refuse-spec : {M : Type 1} → statement M
 refuse-spec =

@@ -22,13 +22,13 @@ returns-2 : tie.Need-returns-2 Inv-loop μ-loop
 returns-2 c = fills-narrow _ (omega arith) c.before.before.before.before.if2.taken c.before.before.refuse2.ensures
 
 loop-holds : tie.Need-loop-holds Inv-loop μ-loop
-loop-holds c = going-start _ _ (omega arith) (omega (arith, c.before.before.prepare.kept .0)) (rw (← c.before.before.before.capacity.ensures) c.before.before.prepare.ensures)
+loop-holds c = going-start _ _ _ c.before.before.before.capacity.ensures (omega arith) (omega (arith, c.before.before.clear-column.kept .0)) c.before.before.clear-column.ensures
 
 same-length-3 : tie.Need-same-length-3 Inv-loop μ-loop
-same-length-3 c = c.before.before.refuse3.kept .0 ∙ c.before.before.before.before.before.before.before.before.before.before.step.kept .1 .0 ∙ c.before.before.before.before.before.before.before.before.before.before.before.before.before.loop.inv .same-size ∙ c.before.before.before.before.before.before.before.before.before.before.before.before.before.before.before.before.prepare.kept .0
+same-length-3 c = c.before.before.refuse3.kept .0 ∙ c.before.before.before.before.before.before.before.before.before.before.step.kept .1 .0 ∙ c.before.before.before.before.before.before.before.before.before.before.before.before.before.loop.inv .same-size ∙ c.before.before.before.before.before.before.before.before.before.before.before.before.before.before.before.before.clear-column.kept .0
 
 returns-3 : tie.Need-returns-3 Inv-loop μ-loop
-returns-3 c = going-bad c.before.before.before.before.before.before.before.before.before.before.before.before.before.loop.inv c.before.before.before.before.before.before.before.before.before.before.step.ensures _ (sym (c.before.before.before.before.before.before.before.before.before.before.before.before.before.before.before.before.prepare.kept .0)) c.before.before.before.before.before.before.before.before.before.before.before.before.loop-test.taken (c.before.before.before.before.before.before.n.given.1) (c.before.before.before.before.before.before.before.before.before.before.step.kept .1 .0) c.before.before.before.next-place.ensures c.before.before.refuse3.ensures
+returns-3 c = going-bad c.before.before.before.before.before.before.before.before.before.before.before.before.before.loop.inv c.before.before.before.before.before.before.before.before.before.before.step.ensures _ (sym (c.before.before.before.before.before.before.before.before.before.before.before.before.before.before.before.before.clear-column.kept .0)) c.before.before.before.before.before.before.before.before.before.before.before.before.loop-test.taken (c.before.before.before.before.before.before.n.given.1) (c.before.before.before.before.before.before.before.before.before.before.step.kept .1 .0) c.before.before.before.next-place.ensures c.before.before.refuse3.ensures
 
 loop-less : tie.Need-loop-less Inv-loop μ-loop
 loop-less c = omega (arith, going-further c.before.before.before.before.before.before.before.before.loop.inv c.before.before.before.before.before.step.ensures (c.before.to.given.1))
@@ -37,10 +37,10 @@ loop-again : tie.Need-loop-again Inv-loop μ-loop
 loop-again c = going-on c.before.before.before.before.before.before.before.before.loop.inv c.before.before.before.before.before.step.ensures (c.before.to.given.1) (c.before.before.before.before.before.step.kept .1 .0)
 
 same-length-4 : tie.Need-same-length-4 Inv-loop μ-loop
-same-length-4 c = c.before.loop.inv .same-size ∙ c.before.before.before.before.prepare.kept .0
+same-length-4 c = c.before.loop.inv .same-size ∙ c.before.before.before.before.clear-column.kept .0
 
 returns-4 : tie.Need-returns-4 Inv-loop μ-loop
-returns-4 c = going-end c.before.loop.inv _ (sym (c.before.before.before.before.prepare.kept .0)) (omega arith)
+returns-4 c = going-end c.before.loop.inv _ (sym (c.before.before.before.before.clear-column.kept .0)) (omega arith)
 
 pub fill-spec : {M : Type 1} → statement M
 fill-spec =
