@@ -1,15 +1,16 @@
 //! Check: the answers of the cases, damaged files, the limits, and lent memory that comes back zero.
 mod cases;
 
-use cases::{and, borders, cases, record, refusal, text, word};
+use cases::{and, borders, cases, record, refusal, text, used_memory, word};
 use sakyelbo::{check, check_with, work_entries, Refusal, LONGEST_FILE};
 
-/// Checks a file with memory that is not zero and stands between other memory: it comes back zero, and the other memory as it was.
+/// Checks a file with memory that is used and stands between other memory: it comes back zero, and the other memory as it was.
 fn check_lent(file: &[u8], entries: usize) -> Result<(), Refusal> {
-    let mut memory = vec![0xa5a5_a5a5; entries + 8];
+    let used = used_memory(entries + 8);
+    let mut memory = used.clone();
     let answer = check_with(file, &mut memory[4..4 + entries]);
     assert!(memory[4..4 + entries].iter().all(|&w| w == 0));
-    assert!(memory[..4].iter().chain(&memory[4 + entries..]).all(|&w| w == 0xa5a5_a5a5));
+    assert!(memory[..4] == used[..4] && memory[4 + entries..] == used[4 + entries..]);
     answer
 }
 

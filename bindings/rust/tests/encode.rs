@@ -1,7 +1,7 @@
 //! Encode: the vectors, damaged files, the room for a script, and lent memory that comes back zero.
 mod cases;
 
-use cases::{answer, cases, path};
+use cases::{answer, cases, path, used_memory};
 use sakyelbo::{check, encode, encode_with, work_entries, Refusal};
 use std::fs;
 
@@ -19,14 +19,15 @@ fn vectors(folder: &str, ending: &str) -> Vec<(String, Vec<u8>, Vec<u8>)> {
     found
 }
 
-/// Encodes a file with memory that is not zero and stands between other memory: working memory comes back zero, as do the bytes behind
-/// the script, or all of them after a refusal; the other memory is as it was.
+/// Encodes a file with memory that is used and stands between other memory: working memory comes back zero, as do the bytes behind the
+/// script, or all of them after a refusal; the other memory is as it was.
 fn encode_lent(file: &[u8], entries: usize, room: usize) -> Result<Vec<u8>, Refusal> {
-    let mut memory = vec![0xa5a5_a5a5; entries + 8];
+    let used = used_memory(entries + 8);
+    let mut memory = used.clone();
     let mut bytes = vec![0xa5; room + 8];
     let answer = encode_with(file, &mut memory[4..4 + entries], &mut bytes[4..4 + room]);
     assert!(memory[4..4 + entries].iter().all(|&w| w == 0));
-    assert!(memory[..4].iter().chain(&memory[4 + entries..]).all(|&w| w == 0xa5a5_a5a5));
+    assert!(memory[..4] == used[..4] && memory[4 + entries..] == used[4 + entries..]);
     assert!(bytes[..4].iter().chain(&bytes[4 + room..]).all(|&b| b == 0xa5));
     let size = answer.unwrap_or(0);
     assert!(bytes[4 + size..4 + room].iter().all(|&b| b == 0));
