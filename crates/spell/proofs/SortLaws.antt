@@ -30,7 +30,7 @@ use Rattle.entry.specs.Types.{typeSaid, TypeAt, PartAt}
 use Rattle.entry.specs.declared.types.TypeEntry.{TypeEntry}
 use Rattle.entry.specs.declared.types.TypeEntry.the-variants as entry
 use Rattle.entry.proofs.Rows.{type-stands}
-use Rattle.entry.proofs.TypeEntries.{under, type-option, type-set, type-at}
+use Rattle.entry.proofs.TypeEntries.{under, type-bool, type-option, type-set, type-at}
 use Rattle.spell.specs.Sorts.{overMark, overSaid, OverAt, opened, plainSort, SpellsSort}
 use Rattle.spell.specs.declared.sorts.Over.{Over}
 use Rattle.spell.specs.declared.sorts.Over.the-variants as over
@@ -38,6 +38,10 @@ use Rattle.spell.specs.declared.sorts.Over.the-variants as over
 -- ---- what a type stands over
 
 module _ (file : Bytes) (o : ℕ) {l : ℕ} (i : l ≡ getD (markAt file o) 1 0) where
+  pub over-truth : l ≡ 66 → OverAt file o over.Truth
+  unfolding overSaid typeSaid bytes
+  over-truth h = record { go = λ m rs g. let x = type-at i refl (under h type-bool) .go m rs g in cc }
+
   pub over-set : {n : ℕ} → l ≡ 67 → PartAt file o n → OverAt file o (over.Part true n)
   unfolding overSaid overMark typeSaid bytes
   over-set h P = record { go = λ m rs g. let x = type-at i refl (under h (type-set refl)) .go m rs g in let e : m ≡ Set· = cc in (e, P .set rs (rw e at g)) }
@@ -101,7 +105,21 @@ unfolding overMark opened sort sorts sortFrom headed spaced joined forest bytes
 over-sort f S true p = refl
 over-sort f S false p = refl
 
+-- the type of truth values
+truth-sort : (f : TermFile) (S : State) (rs : List ℕ) → plainSort entry.Bool 0 ≡ sort (names S) (node Bool· (forest (map (typeAt f) rs)))
+unfolding plainSort sort sortFrom
+truth-sort f S rs = refl
+
 module _ {file : Bytes} {work : List ℕ} {k t : ℕ} {x : Over} (B : OverAt file (cell work k typeOffset t) x) where
+  pub spells-truth : {limit at q : ℕ} {y z : Bytes} → x ≡ over.Truth → Appends limit y at z q (plainSort entry.Bool 0) → SpellsSort file work k t limit y at z q
+  unfolding overSaid
+  spells-truth told A = record {
+    go = λ f S I N l.
+        type-stands (I .type-row t l .stands) (λ m rs reads below tree.
+        let b : m ≡ Bool· = subst (OverAt file (cell work k typeOffset t)) told B .go m rs reads in
+        says (truth-sort f S rs ∙ ap (sort (names S)) (rw b at tree)) A);
+  }
+
   pub spells-plain : {r : TypeEntry} {name limit at q : ℕ} {y z : Bytes} → x ≡ over.Nothing → TypeAt file (cell work k typeOffset t) r → name ≡ nameAt work k typeFirst typeName t
       → Appends limit y at z q (plainSort r name) → SpellsSort file work k t limit y at z q
   unfolding treeOf overSaid

@@ -7,7 +7,7 @@ use mathlib.Core.List.{List, [], _∷_}
 use mathlib.Core.Option.{some}
 use lib.ListN.{length}
 use Rattle.script_spec.specs.Base.{Bytes, bytes}
-use Rattle.script_spec.specs.Tree.{TypeMark, Option·, Set·}
+use Rattle.script_spec.specs.Tree.{TypeMark, Bool·, Option·, Set·}
 use Rattle.script_spec.specs.Fields.{type}
 use Rattle.script_spec.specs.File.{TermFile, types, typeAt}
 use Rattle.script_spec.specs.Spelling.{sort, extName, bitVecSort}
@@ -30,6 +30,7 @@ overMark false = Option·
 -- what a type's record has where the type stands over this
 unfoldable pub overSaid : TypeMark → List ℕ → Over → Type 0
 overSaid m rs (over.Part set n) = (m ≡ overMark set) × (rs ≡ n ∷ [])
+overSaid m rs over.Truth = m ≡ Bool·
 overSaid m rs over.Nothing = (set : Bool) → m ≡ overMark set → ⊥
 
 -- a record that is a type at an offset of a file stands over this

@@ -9,9 +9,10 @@ ghost use Rattle.naming.specs.Naming.{nameAt, typeName};
 ghost use Rattle.entry.specs.Types.{extTypeOf, TypeAt};
 ghost use Rattle.spell.specs.Sorts.{OverAt, opened, plainSort, SpellsSort};
 
-// What a type stands over: the part of a set, or else of an option, by its number.
+// What a type stands over: the part of a set, or else of an option, by its number; the type of truth values is told apart.
 pub enum Over {
     Part(bool, u32),
+    Truth,
     Nothing,
 }
 
@@ -21,6 +22,7 @@ fn stands_over(file: &[u8], work: &[u32], k: usize, t: u32) -> Over
 {
     let offset = index::get(work, k, index::TYPE_OFFSET, entry::wide(t));
     match entry::letter_at(file, offset) {
+        b'B' => Over::Truth,
         b'C' => Over::Part(true, entry::types::part_at(file, offset)),
         b'O' => Over::Part(false, entry::types::part_at(file, offset)),
         _ => Over::Nothing,
@@ -101,6 +103,7 @@ pub fn put_sort(
         ⌜ SpellsSort (now (file .entry)) (now (work .entry)) k t limit (now (out .entry)) at (now (out .exit)) r ⌝ }
 {
     match stands_over(file, work, k, t) {
+        Over::Truth => put_plain_sort(out, at, limit, TypeEntry::Bool, 0),
         Over::Nothing => {
             let ty = type_at(file, work, k, t);
             put_plain_sort(out, at, limit, ty, type_name(work, k, t))

@@ -1,7 +1,7 @@
 -- `spell::sorts::put_sort` meets its contract: by recursion on the number, which falls from a type to its part.
 -- Assumes nothing.
 use Rattle.script_spec.specs.Base.{bytes}
-use Rattle.spell.proofs.SortLaws.{spells-plain, spells-never, spells-over}
+use Rattle.spell.proofs.SortLaws.{spells-truth, spells-plain, spells-never, spells-over}
 use native.Mathlib.Omega.{arith}
 use borrow.Author.Needs.{needs}
 use Prim.Native.Nat.{ℕ, _<_}
@@ -30,7 +30,7 @@ put-sort-below t =
     and 3 put-sort-kinds.ps (falls 3 put-sort-kinds.ps _<_ μ-put-sort t) put-sort.Pre
 
 abbrev put-sort-claims : ℕ → put-sort-lts.Claims
-put-sort-claims t = (stands-over-reads.Asked, stands-over-reads.Learnt, type-at-reads.Asked, type-at-reads.Learnt, type-name-reads.Asked, type-name-reads.Learnt, put-plain-sort-reads.Asked, put-plain-sort-reads.Learnt, put-opened-reads.Asked, put-opened-reads.Learnt, put-sort-below t, put-sort.Post, put-byte-reads.Asked, put-byte-reads.Learnt)
+put-sort-claims t = (stands-over-reads.Asked, stands-over-reads.Learnt, put-plain-sort-reads.Asked, put-plain-sort-reads.Learnt, type-at-reads.Asked, type-at-reads.Learnt, type-name-reads.Asked, type-name-reads.Learnt, put-opened-reads.Asked, put-opened-reads.Learnt, put-sort-below t, put-sort.Post, put-byte-reads.Asked, put-byte-reads.Learnt)
 
 put-sort-stands-over-requires : (t : ℕ) → put-sort-lts.Need-stands-over-requires (put-sort-claims t) (put-sort-at t) put-sort.Post
 put-sort-stands-over-requires t c κs = search needs
@@ -38,14 +38,20 @@ put-sort-stands-over-requires t c κs = search needs
 put-sort-enum-told : (t : ℕ) → put-sort-lts.Need-enum-told (put-sort-claims t) (put-sort-at t) put-sort.Post
 put-sort-enum-told t c = search needs
 
+put-sort-put-plain-sort-requires : (t : ℕ) → put-sort-lts.Need-put-plain-sort-requires (put-sort-claims t) (put-sort-at t) put-sort.Post
+put-sort-put-plain-sort-requires t c κs = search needs
+
+put-sort-enum-told-2 : (t : ℕ) → put-sort-lts.Need-enum-told-2 (put-sort-claims t) (put-sort-at t) put-sort.Post
+put-sort-enum-told-2 t c = search needs
+
 put-sort-type-at-requires : (t : ℕ) → put-sort-lts.Need-type-at-requires (put-sort-claims t) (put-sort-at t) put-sort.Post
 put-sort-type-at-requires t c κs = search needs
 
 put-sort-type-name-requires : (t : ℕ) → put-sort-lts.Need-type-name-requires (put-sort-claims t) (put-sort-at t) put-sort.Post
 put-sort-type-name-requires t c κs = search needs
 
-put-sort-put-plain-sort-requires : (t : ℕ) → put-sort-lts.Need-put-plain-sort-requires (put-sort-claims t) (put-sort-at t) put-sort.Post
-put-sort-put-plain-sort-requires t c κs = search needs
+put-sort-put-plain-sort-requires-2 : (t : ℕ) → put-sort-lts.Need-put-plain-sort-requires-2 (put-sort-claims t) (put-sort-at t) put-sort.Post
+put-sort-put-plain-sort-requires-2 t c κs = search needs
 
 put-sort-enum-known-set : (t : ℕ) → put-sort-lts.Need-enum-known-set (put-sort-claims t) (put-sort-at t) put-sort.Post
 put-sort-enum-known-set t c = search needs
@@ -66,23 +72,31 @@ put-sort-same-length : (t : ℕ) → put-sort-lts.Need-same-length (put-sort-cla
 put-sort-same-length t c = search needs
 
 put-sort-returns-2 : (t : ℕ) → put-sort-lts.Need-returns-2 (put-sort-claims t) (put-sort-at t) put-sort.Post
-put-sort-returns-2 t c = spells-plain c.before.before.before.before.before.before.before.before.stands-over.ensures c.before.before.before.before.before.before.enum-told.given.1 c.before.before.before.before.before.type-at.ensures c.before.before.before.type-name.ensures c.before.before.put-plain-sort.ensures
+put-sort-returns-2 t c = spells-truth c.before.before.before.before.before.before.stands-over.ensures c.before.before.before.before.enum-told.given.1 c.before.before.put-plain-sort.ensures
 
 put-sort-same-length-2 : (t : ℕ) → put-sort-lts.Need-same-length-2 (put-sort-claims t) (put-sort-at t) put-sort.Post
 put-sort-same-length-2 t c = search needs
 
 put-sort-returns-3 : (t : ℕ) → put-sort-lts.Need-returns-3 (put-sort-claims t) (put-sort-at t) put-sort.Post
+put-sort-returns-3 t c = spells-plain c.before.before.before.before.before.before.before.before.stands-over.ensures c.before.before.before.before.before.before.enum-told2.given.1 c.before.before.before.before.before.type-at.ensures c.before.before.before.type-name.ensures c.before.before.put-plain-sort2.ensures
+
+put-sort-same-length-3 : (t : ℕ) → put-sort-lts.Need-same-length-3 (put-sort-claims t) (put-sort-at t) put-sort.Post
+put-sort-same-length-3 t c = search needs
+
+put-sort-returns-4 : (t : ℕ) → put-sort-lts.Need-returns-4 (put-sort-claims t) (put-sort-at t) put-sort.Post
 unfolding bytes
-put-sort-returns-3 t c = spells-over c.before.before.before.before.before.before.before.before.before.before.before.before.before.before.before.before.stands-over.ensures c.before.before.before.before.before.before.before.before.before.before.before.before.before.before.set.given.1 c.before.before.before.before.before.before.before.before.before.before.put-opened.ensures c.before.before.before.before.before.before.put-sort.ensures c.before.before.put-byte.ensures
+put-sort-returns-4 t c = spells-over c.before.before.before.before.before.before.before.before.before.before.before.before.before.before.before.before.stands-over.ensures c.before.before.before.before.before.before.before.before.before.before.before.before.before.before.set.given.1 c.before.before.before.before.before.before.before.before.before.before.put-opened.ensures c.before.before.before.before.before.before.put-sort.ensures c.before.before.put-byte.ensures
 
 pub +put-sort-spec : {M : Type 1} → statement M
 +put-sort-spec = close μ-put-sort λ t. put-sort-lts.spec (put-sort-claims t) (put-sort-at t)
     put-sort.Post
     (put-sort-stands-over-requires t)
     (put-sort-enum-told t)
+    (put-sort-put-plain-sort-requires t)
+    (put-sort-enum-told-2 t)
     (put-sort-type-at-requires t)
     (put-sort-type-name-requires t)
-    (put-sort-put-plain-sort-requires t)
+    (put-sort-put-plain-sort-requires-2 t)
     (put-sort-enum-known-set t)
     (put-sort-returns t)
     (put-sort-put-opened-requires t)
@@ -92,3 +106,5 @@ pub +put-sort-spec : {M : Type 1} → statement M
     (put-sort-returns-2 t)
     (put-sort-same-length-2 t)
     (put-sort-returns-3 t)
+    (put-sort-same-length-3 t)
+    (put-sort-returns-4 t)
