@@ -1,6 +1,6 @@
 -- The hash of a record: a number below 2 ^ 32 that its mark and its segments are mixed into, one after the other.
 -- Assumes nothing.
-use Prim.Native.Nat.{ℕ}
+use Prim.Native.Nat.{ℕ, _+_, _*_}
 use mathlib.Core.List.{List, [], _∷_, map}
 use Rattle.script_spec.specs.Base.{Bytes}
 use Rattle.index.specs.Standing.{markAt}
@@ -9,10 +9,14 @@ use Rattle.segments.specs.Segment.{Segment}
 use Rattle.compare.specs.View.{kindOf, numberOf, bytesOf, viewed, segmentsAt}
 use Rattle.compare.specs.declared.View.the-variants.{First}
 
--- a hash with the kind, the number and the bytes of each segment
+-- a hash with the kind and the number of a segment
+unfoldable pub mixedSegment : ℕ → ℕ → ℕ → ℕ
+mixedSegment h kind number = mixed h (65599 * kind + number)
+
+-- with the kind, the number and the bytes of each segment
 unfoldable pub mixedSegments : ℕ → List Segment → ℕ
 mixedSegments h [] = h
-mixedSegments h (x ∷ l) = mixedSegments (mixedBytes (mixed (mixed h (kindOf (x ∷ []))) (numberOf (x ∷ []))) (bytesOf (x ∷ []))) l
+mixedSegments h (x ∷ l) = mixedSegments (mixedBytes (mixedSegment h (kindOf (x ∷ [])) (numberOf (x ∷ []))) (bytesOf (x ∷ []))) l
 
 -- the hash of a mark and segments
 unfoldable pub hashed : Bytes → List Segment → ℕ

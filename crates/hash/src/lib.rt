@@ -1,6 +1,6 @@
 // A hash of a record: its mark and its body, references by the numbers of first equal records; and of a type that is not at hand.
 ghost use mathlib.Core.Path.{_≡_};
-ghost use Prim.Native.Nat.{_+_, _≤_};
+ghost use Prim.Native.Nat.{_+_, _≤_, _<_};
 ghost use mathlib.Core.List.{[], _∷_, map};
 ghost use lib.ListN.{length, take, drop};
 ghost use Rattle.segments.specs.Segment.{plain, typeRef};
@@ -10,7 +10,7 @@ ghost use Rattle.segments.specs.Printed.{lowBytes};
 ghost use Rattle.compare.specs.View.{viewed, segmentsAt};
 ghost use Rattle.compare.specs.declared.View.the-variants.{First, Listed};
 ghost use Rattle.index.specs.Names.{mixed, mixedBytes};
-ghost use Rattle.hash.specs.Hash.{mixedSegments, recordHash, typeHash};
+ghost use Rattle.hash.specs.Hash.{mixedSegment, mixedSegments, recordHash, typeHash};
 use compare::Seen;
 use compare::View;
 use compare::shape::Shape;
@@ -45,17 +45,26 @@ pub fn mix_bytes(h: u32, s: &[u8]) -> u32
     x
 }
 
+// A hash with the kind and the number of a segment mixed in.
+fn mix_reference(h: u32, kind: u32, number: u32) -> u32
+    requires { ⌜ kind < 256 ⌝ }
+    ensures { λ r. ⌜ r ≡ mixedSegment h kind number ⌝ }
+{
+    let n = 65599 * kind as u64 + number as u64;
+    let sum = h as u64 + n + 1;
+    (sum * 1540483477 % 4294967296) as u32
+}
+
 // A hash with the first segment of a walk mixed in.
 fn mix_seen(body: &[u8], s: Seen, h: u32) -> u32
-    requires { ⌜ s .start + s .size ≤ length (now body) ⌝ }
-    ensures { λ r. ⌜ r ≡ mixedBytes (mixed (mixed h (s .kind)) (s .number)) (take (s .size) (drop (s .start) (now (body .entry)))) ⌝ }
+    requires { ⌜ (s .kind < 256) × (s .start + s .size ≤ length (now body)) ⌝ }
+    ensures { λ r. ⌜ r ≡ mixedBytes (mixedSegment h (s .kind) (s .number)) (take (s .size) (drop (s .start) (now (body .entry)))) ⌝ }
 {
     let a = s.start;
     let n = s.size;
     let e = a + n;
-    let x = mix(h, s.kind);
-    let y = mix(x, s.number);
-    mix_bytes(y, &body[a..e])
+    let x = mix_reference(h, s.kind, s.number);
+    mix_bytes(x, &body[a..e])
 }
 
 // A hash with what is ahead of a walk mixed in, in a view.
@@ -74,17 +83,9 @@ fn mix_ahead(body: &[u8], w: Walk, work: &[u32], k: usize, view: View, h: u32) -
     }
 }
 
-// A hash with the kind and the number of a reference mixed in.
-fn mix_reference(h: u32, kind: u32, number: u32) -> u32
-    ensures { λ r. ⌜ r ≡ mixed (mixed h kind) number ⌝ }
-{
-    let x = mix(h, kind);
-    mix(x, number)
-}
-
 // A hash with bytes mixed in as a segment.
 fn mix_plain(h: u32, s: &[u8]) -> u32
-    ensures { λ r. ⌜ r ≡ mixedBytes (mixed (mixed h 1) 0) (now (s .entry)) ⌝ }
+    ensures { λ r. ⌜ r ≡ mixedBytes (mixedSegment h 1 0) (now (s .entry)) ⌝ }
 {
     let x = mix_reference(h, 1, 0);
     mix_bytes(x, s)
@@ -163,11 +164,11 @@ fn mark_hash(letter: u8) -> u32
 
 // The hash of a type's mark and of the kind and the number of its only segment.
 fn sole_hash(letter: u8, kind: u32, number: u32) -> u32
-    ensures { λ r. ⌜ r ≡ mixed (mixed (mixed (mixed 0 84) letter) kind) number ⌝ }
+    requires { ⌜ kind < 256 ⌝ }
+    ensures { λ r. ⌜ r ≡ mixedSegment (mixed (mixed 0 84) letter) kind number ⌝ }
 {
     let h = mark_hash(letter);
-    let x = mix(h, kind);
-    mix(x, number)
+    mix_reference(h, kind, number)
 }
 
 // The hash of a type of this mark that has no fields.

@@ -7,7 +7,7 @@ use lib.ListN.{length}
 use Rattle.segments.specs.Machine.{ahead}
 use Rattle.compare.specs.View.{viewed}
 use Rattle.hash.specs.Hash.{mixedSegments}
-use Rattle.hash.proofs.Mixed.{segments-end, segments-next}
+use Rattle.hash.proofs.Mixed.{seen-small, segments-end, segments-next}
 use borrow.Author.Needs.{needs}
 use Rattle.hash.proofs.mix_ahead.Statement.{statement}
 use Rattle.hash.proofs.mix_ahead.Tie as tie
@@ -25,7 +25,7 @@ returns : tie.Need-returns Inv-loop μ-loop
 returns c = segments-end c.before.before.head.ensures c.before.before.before.loop.y c.if1.taken ∙ c.before.before.before.loop.inv
 
 mix-seen-requires : tie.Need-mix-seen-requires Inv-loop μ-loop
-mix-seen-requires c κs = c.before.before.head.ensures.within
+mix-seen-requires c κs = (seen-small c.before.before.head.ensures, c.before.before.head.ensures.within)
 
 loop-less : tie.Need-loop-less Inv-loop μ-loop
 loop-less c = c.before.before.before.before.head.ensures.fewer (omega (arith, c.before.before.if1.left))

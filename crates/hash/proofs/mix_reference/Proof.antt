@@ -1,13 +1,14 @@
--- The kind, and then the number.
+-- The number, the sums and the product fit in 64 bits, and the rest in 32.
 -- Assumes nothing.
-use mathlib.Core.Path.{refl}
-use Rattle.hash.proofs.Mixed.{then-mixed}
 use borrow.Author.Needs.{needs}
+use Rattle.index.specs.Names.{mixed}
+use Rattle.hash.specs.Hash.{mixedSegment}
 use Rattle.hash.proofs.mix_reference.Statement.{statement}
 use Rattle.hash.proofs.mix_reference.Tie as tie
 
 returns : tie.Need-returns
-returns c = then-mixed c.before.mix.ensures refl c.mix2.ensures
+unfolding mixedSegment mixed
+returns c = search needs
 
 pub mix-reference-spec : {M : Type 1} → statement M
-mix-reference-spec = tie.close (tie.spec (λ c κs. search needs) (λ c κs. search needs) returns)
+mix-reference-spec = tie.close (tie.spec (λ c. search needs) (λ c. search needs) (λ c. search needs) (λ c. search needs) (λ c. search needs) (λ c. search needs) returns)

@@ -1,4 +1,4 @@
--- The kind, the number, and then the bytes.
+-- The kind and the number, and then the bytes.
 -- Assumes nothing.
 use Rattle.hash.proofs.Mixed.{part-mixed}
 use borrow.Author.Needs.{needs}
@@ -7,11 +7,11 @@ use Rattle.hash.proofs.mix_seen.Tie as tie
 
 returns : tie.Need-returns
 returns c =
-    let args = c.before.before.before.before.before.args in
-    part-mixed _ args.body.now (args.s .start) (args.s .size) _ _ c.before.before.before.mix.ensures c.before.before.mix2.ensures c.mix-bytes.ensures
+    let args = c.before.before.before.before.args in
+    part-mixed _ args.body.now (args.s .start) (args.s .size) _ _ c.before.before.mix-reference.ensures c.mix-bytes.ensures
 
 pub mix-seen-spec : {M : Type 1} → statement M
 mix-seen-spec =
     tie.close
-    (tie.spec (λ c. search needs) (λ c κs. search needs) (λ c κs. search needs) (λ c. search needs) (λ c. search needs) (λ c. search needs) (λ c κs. search needs)
+    (tie.spec (λ c. search needs) (λ c κs. search needs) (λ c. search needs) (λ c. search needs) (λ c. search needs) (λ c κs. search needs)
     returns)

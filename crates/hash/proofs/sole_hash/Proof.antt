@@ -1,13 +1,12 @@
--- The mark, the kind and the number.
+-- The mark, and then the kind and the number.
 -- Assumes nothing.
-use mathlib.Core.Path.{refl}
-use Rattle.hash.proofs.Mixed.{then-mixed}
+use Rattle.hash.proofs.Mixed.{then-segment}
 use borrow.Author.Needs.{needs}
 use Rattle.hash.proofs.sole_hash.Statement.{statement}
 use Rattle.hash.proofs.sole_hash.Tie as tie
 
 returns : tie.Need-returns
-returns c = then-mixed (then-mixed c.before.before.mark-hash.ensures refl c.before.mix.ensures) refl c.mix2.ensures
+returns c = then-segment _ _ c.before.mark-hash.ensures c.mix-reference.ensures
 
 pub sole-hash-spec : {M : Type 1} → statement M
-sole-hash-spec = tie.close (tie.spec (λ c κs. search needs) (λ c κs. search needs) (λ c κs. search needs) returns)
+sole-hash-spec = tie.close (tie.spec (λ c κs. search needs) (λ c κs. search needs) returns)
