@@ -1,15 +1,17 @@
--- What is left to mix in, one byte or one segment at a time.
+-- What is left to mix in, four bytes, one byte or one segment at a time.
 -- Assumes nothing.
-use Prim.Native.Nat.{ℕ, _+_, _-_, _≤_, _<_}
+use Prim.Native.Nat.{ℕ, suc, _+_, _*_, _-_, _≤_, _<_}
 use native.Mathlib.Omega.{arith}
 use native.Mathlib.Numerals.{add-one}
 use mathlib.Core.Path.{_≡_, refl, sym, ap, _∙_}
 use mathlib.Core.List.{List, [], _∷_, map}
-use lib.ListN.{length, take, drop, getD, drop-of-length-le}
-use lib.Seq.{drop-cons}
+use lib.ListN.{length, take, drop, getD, length-drop, drop-of-length-le}
+use lib.Seq.{drop-cons, drop-drop}
 use Rattle.script_spec.specs.Base.{Bytes}
+use Rattle.script_spec.specs.Fields.{low}
 use Rattle.segments.specs.Segment.{Segment, plain, typeRef, funRef, termRef}
 use Rattle.segments.specs.Machine.{ahead}
+use Rattle.segments.specs.Printed.{lowBytes}
 use Rattle.compare.specs.View.{kindOf, numberOf, bytesOf, after, Sees}
 use Rattle.compare.specs.declared.Seen.{Seen}
 use Rattle.index.specs.Names.{mixed, mixedBytes}
@@ -23,13 +25,37 @@ then-mixed e q r = rw (← e, ← q) r
 
 -- ---- bytes
 
-pub bytes-next : (h : ℕ) (s : Bytes) (i : ℕ) {b r : ℕ} → i < length s → b ≡ getD s i 0 → r ≡ mixed h b → mixedBytes r (drop (i + 1) s) ≡ mixedBytes h (drop i s)
+-- four bytes, and then others
+mixed-four : (h : ℕ) (s : Bytes) → 4 ≤ length s → mixedBytes (mixed h (low (take 4 s))) (drop 4 s) ≡ mixedBytes h s
+unfolding mixedBytes low
+mixed-four h [] l = absurd (omega arith)
+mixed-four h (a ∷ []) l = absurd (omega arith)
+mixed-four h (a ∷ b ∷ []) l = absurd (omega arith)
+mixed-four h (a ∷ b ∷ c ∷ []) l = absurd (omega arith)
+mixed-four h (a ∷ b ∷ c ∷ d ∷ s) l = let last : d + 0 ≡ d = omega arith in ap (λ (n : ℕ). mixedBytes (mixed h (a + 256 * (b + 256 * (c + 256 * n)))) s) last
+
+-- one byte, and then up to two others
+mixed-one : (h b : ℕ) (s : Bytes) → length s < 3 → mixedBytes (mixed h b) s ≡ mixedBytes h (b ∷ s)
 unfolding mixedBytes
-bytes-next h s i l e q = rw (q, e, add-one i, drop-cons s i 0 l)
+mixed-one h b [] l = refl
+mixed-one h b (c ∷ []) l = refl
+mixed-one h b (c ∷ d ∷ []) l = refl
+mixed-one h b (c ∷ d ∷ e ∷ s) l = absurd (omega arith)
+
+pub bytes-four : (h : ℕ) (s : Bytes) (i : ℕ) {n r : ℕ} → i + 4 ≤ length s → n ≡ low (take 4 (drop i s)) → r ≡ mixed h n → mixedBytes r (drop (i + 4) s) ≡ mixedBytes h (drop i s)
+bytes-four h s i l e q = rw (q, e, ← drop-drop 4 i s) (mixed-four h (drop i s) (omega (arith, length-drop i s)))
+
+pub bytes-next : (h : ℕ) (s : Bytes) (i : ℕ) {b r : ℕ} → i < length s → length s < i + 4 → b ≡ getD s i 0 → r ≡ mixed h b → mixedBytes r (drop (i + 1) s) ≡ mixedBytes h (drop i s)
+bytes-next h s i l m e q = rw (q, e, add-one i, drop-cons s i 0 l) (mixed-one h (getD s i 0) (drop (suc i) s) (omega (arith, length-drop (suc i) s)))
 
 pub bytes-end : (h : ℕ) (s : Bytes) (i : ℕ) → length s ≤ i → h ≡ mixedBytes h (drop i s)
 unfolding mixedBytes
 bytes-end h s i l = rw (drop-of-length-le s {i = i} l)
+
+-- the four bytes of a number
+pub number-mixed : (h n : ℕ) → n < 4294967296 → mixed h n ≡ mixedBytes h (lowBytes 4 n)
+unfolding mixedBytes lowBytes
+number-mixed h n l = ap (mixed h) (omega arith)
 
 -- the bytes of a part, by its start and size
 pub part-mixed : (h : ℕ) (s : Bytes) (a n : ℕ) {x r : ℕ} (kind number : ℕ) → x ≡ mixedSegment h kind number → r ≡ mixedBytes x (take (a + n - a) (drop a s))

@@ -3,6 +3,7 @@ ghost use mathlib.Core.Path.{_≡_};
 ghost use Prim.Native.Nat.{_+_, _≤_, _<_};
 ghost use mathlib.Core.List.{[], _∷_, map};
 ghost use lib.ListN.{length, take, drop};
+ghost use Rattle.script_spec.specs.Fields.{low};
 ghost use Rattle.segments.specs.Segment.{plain, typeRef};
 ghost use Rattle.segments.specs.declared.Item.the-variants.{Term};
 ghost use Rattle.segments.specs.Machine.{ahead, items};
@@ -19,7 +20,7 @@ use segments::Word;
 
 // A byte as a word.
 fn wide(b: u8) -> u32
-    ensures { λ r. ⌜ r ≡ b ⌝ }
+    ensures { λ r. ⌜ (r ≡ b) × (r < 256) ⌝ }
 {
     b as u32
 }
@@ -32,17 +33,43 @@ fn mix(h: u32, n: u32) -> u32
     (sum * 1540483477 % 4294967296) as u32
 }
 
+// The four bytes at a place as a number, low byte first.
+fn number_at(s: &[u8], at: usize) -> u32
+    requires { ⌜ at + 4 ≤ length (now s) ⌝ }
+    ensures { λ r. ⌜ r ≡ low (take 4 (drop at (now (s .entry)))) ⌝ }
+{
+    let b0 = wide(s[at]);
+    let b1 = wide(s[at + 1]);
+    let b2 = wide(s[at + 2]);
+    let b3 = wide(s[at + 3]);
+    b0 + 256 * (b1 + 256 * (b2 + 256 * b3))
+}
+
+// A hash with the bytes from a place on mixed in, of which there are up to three.
+fn mix_last(h: u32, s: &[u8], from: usize) -> u32
+    requires { ⌜ length (now s) < from + 4 ⌝ }
+    ensures { λ r. ⌜ r ≡ mixedBytes h (drop from (now (s .entry))) ⌝ }
+{
+    let mut x = h;
+    let mut i = from;
+    while i < s.len() {
+        x = mix(x, wide(s[i]));
+        i += 1;
+    }
+    x
+}
+
 // A hash with some bytes mixed in.
 pub fn mix_bytes(h: u32, s: &[u8]) -> u32
     ensures { λ r. ⌜ r ≡ mixedBytes h (now (s .entry)) ⌝ }
 {
     let mut x = h;
     let mut i = 0;
-    while i < s.len() {
-        x = mix(x, wide(s[i]));
-        i += 1;
+    while i + 4 <= s.len() {
+        x = mix(x, number_at(s, i));
+        i += 4;
     }
-    x
+    mix_last(x, s, i)
 }
 
 // A hash with the kind and the number of a segment mixed in.
@@ -197,14 +224,8 @@ pub fn code_hash(letter: u8, code: u8) -> u32
 pub fn number_hash(letter: u8, n: u32) -> u32
     ensures { λ r. ⌜ r ≡ typeHash letter (plain (lowBytes 4 n) ∷ []) ⌝ }
 {
-    let a = n / 256;
-    let b = a / 256;
-    let c = b / 256;
-    let w = sole_hash(letter, 1, 0);
-    let x = mix(w, n % 256);
-    let y = mix(x, a % 256);
-    let z = mix(y, b % 256);
-    mix(z, c % 256)
+    let h = sole_hash(letter, 1, 0);
+    mix(h, n)
 }
 
 // The hash of the type of the record term at an offset.

@@ -35,10 +35,13 @@ pub record Reached {A : Type 0} (home : A → ℕ) (k : ℕ) (column : ℕ → �
 unfoldable pub mixed : ℕ → ℕ → ℕ
 mixed h n = (h + n + 1) * 1540483477 % 4294967296
 
--- with some bytes
+-- with some bytes: four at a time as one number, low byte first, and the last up to three one by one
 unfoldable pub mixedBytes : ℕ → Bytes → ℕ
 mixedBytes h [] = h
-mixedBytes h (b ∷ s) = mixedBytes (mixed h b) s
+mixedBytes h (b ∷ []) = mixed h b
+mixedBytes h (b ∷ c ∷ []) = mixed (mixed h b) c
+mixedBytes h (b ∷ c ∷ d ∷ []) = mixed (mixed (mixed h b) c) d
+mixedBytes h (b ∷ c ∷ d ∷ e ∷ s) = mixedBytes (mixed h (b + 256 * (c + 256 * (d + 256 * e)))) s
 
 -- the home slot of an enum, by the hash of its name
 unfoldable pub nameHome : ℕ → Bytes → ℕ

@@ -10,7 +10,7 @@ use Rattle.hash.proofs.code_hash.Tie as tie
 
 returns : tie.Need-returns
 unfolding typeHash hashed mixedSegments mixedBytes kindOf numberOf bytesOf
-returns c = then-mixed c.before.before.sole-hash.ensures c.before.wide.ensures c.mix.ensures
+returns c = then-mixed c.before.before.sole-hash.ensures c.before.wide.ensures.0 c.mix.ensures
 
 pub code-hash-spec : {M : Type 1} → statement M
 code-hash-spec = tie.close (tie.spec (λ c κs. search needs) (λ c κs. search needs) (λ c κs. search needs) returns)
