@@ -1,16 +1,17 @@
 -- The home slot of a record by the hash of the record at its offset, that of a name, and a store from a home slot on.
 -- Assumes nothing.
 use mathlib.Core.Path.{_≡_, refl, sym, ap, _∙_}
-use Prim.Native.Nat.{ℕ, _%_}
-use native.Mathlib.Nat.{mod-lt}
+use Prim.Native.Nat.{ℕ, _*_, _/_, _≤_, _<_}
+use native.Mathlib.Nat.{mul-le-mul-right, div-add-mod'}
 use native.Mathlib.Omega.{arith}
+use borrow.Author.Tests.{lt-ltb, le-ltb}
 use mathlib.Core.List.{List, map}
 use mathlib.Core.Option.{some}
 use Rattle.script_spec.specs.Base.{Bytes}
 use Rattle.script_spec.specs.Tree.{Var, BoolLit, BitVecLit, StringLit, Entity, ExtLit, None, Some, Set, Record, App}
 use Rattle.script_spec.specs.Fields.{Entry, type, enum, func, term, input}
 use Rattle.script_spec.specs.File.{TermFile, earlier}
-use Rattle.index.specs.Cells.{cell, store, hash, typeFirst, funFirst, termFirst}
+use Rattle.index.specs.Cells.{placed, cell, store, hash, typeFirst, funFirst, termFirst}
 use Rattle.index.specs.First.{renamed, renumbered, canonical, InRange}
 use Rattle.index.specs.Standing.{markAt, bodyAt, entryAt}
 use Rattle.index.specs.Meaning.{Index}
@@ -27,9 +28,9 @@ use Rattle.record_rules.specs.Marks.{termBytes, markOf}
 use Rattle.record_rules.proofs.Marks.{entry-mark}
 use Rattle.index.specs.Names.{mixedBytes}
 use Rattle.hash.specs.Hash.{hashed, recordHash}
-use Rattle.index.specs.Names.{slot, nameHome}
+use Rattle.index.specs.Names.{slot, scaled, nameHome}
 use Rattle.slots.specs.Slots.{homeOf}
-use Rattle.slots.specs.Storing.{Home, NameHome, FirstEmpty, Stores}
+use Rattle.slots.specs.Storing.{Scales, Home, NameHome, FirstEmpty, Stores}
 use Rattle.slots.proofs.Ring.{empties-some, empty-near}
 
 pub mark-canonical : (f : TermFile) (x : Entry) → markOf (canonical f x) ≡ markOf x
@@ -64,27 +65,34 @@ module _ {file : Bytes} {work : List ℕ} {k : ℕ} (o : ℕ) (octets : Octets f
       ap (map (viewed work k First)) (segmentsAt-shown file o octets reads) ∙ viewed-first work k (segmentsOf x)
       ∙ segmentsOf-renumbered (cell work k typeFirst) (cell work k funFirst) (cell work k termFirst) x ∙ ap segmentsOf numbers-are
 
-  home-is : recordHash file work k o % k ≡ homeOf k (canonical f x)
+  home-is : scaled k (recordHash file work k o) ≡ homeOf k (canonical f x)
   unfolding recordHash homeOf
-  home-is = ap (λ (m : Bytes). hashed m (map (viewed work k First) (segmentsAt file o)) % k) mark-is ∙ ap (λ (l : List Segment). hashed (markOf (canonical f x)) l % k) segments-are
+  home-is = ap (λ (m : Bytes). scaled k (hashed m (map (viewed work k First) (segmentsAt file o)))) mark-is ∙ ap (λ (l : List Segment). scaled k (hashed (markOf (canonical f x)) l)) segments-are
 
 -- ---- what the functions return
 
-module _ {file : Bytes} (work : List ℕ) {k : ℕ} (o : ℕ) where
-  pub home-none : k ≡ 0 → Home file work k o 0
-  home-none e = record { inside = λ h. h; is = λ f x I reads in-range h. absurd (omega arith) }
+-- a hash that is scaled is below the number of slots
+module _ (k h : ℕ) (small : k < 4294967296) (hash-small : h < 4294967296) where
+  most : h * k ≤ 4294967295 * k
+  most = mul-le-mul-right {m = h} {n = 4294967295} k (omega arith)
 
-  pub home-found : {h b : ℕ} → Octets file → h ≡ recordHash file work k o → b ≡ h % k → Home file work k o b
-  home-found {h} octets e q =
-      record { inside = λ p. rw q (mod-lt h p); is = λ f x I reads in-range p. q ∙ ap (λ (m : ℕ). m % k) e ∙ home-is o octets I reads in-range }
+  pub product-fits : h * k < 18446744073709551616
+  product-fits = omega (arith, most)
 
-module _ {k : ℕ} {name : Bytes} where
-  pub name-home-none : k ≡ 0 → NameHome k name 0
-  name-home-none e = record { inside = λ h. h; is = λ h. absurd (omega arith) }
+  pub scales : Scales k h (h * k / 4294967296)
+  unfolding scaled placed
+  scales = record { is = rw (lt-ltb k 4294967296 small); inside = λ p. omega (arith, most, div-add-mod' (h * k) 4294967296) }
 
-  pub name-home-found : {h b : ℕ} → h ≡ mixedBytes 0 name → b ≡ h % k → NameHome k name b
-  unfolding nameHome
-  name-home-found {h} e q = record { inside = λ p. rw q (mod-lt h p); is = λ p. q ∙ ap (λ (m : ℕ). m % k) e }
+pub scales-past : (k h : ℕ) → 4294967296 ≤ k → Scales k h 0
+unfolding scaled placed
+scales-past k h l = record { is = rw (le-ltb k 4294967296 l); inside = λ p. p }
+
+pub home-found : {file : Bytes} (work : List ℕ) {k : ℕ} (o : ℕ) {h b : ℕ} → Octets file → h ≡ recordHash file work k o → Scales k h b → Home file work k o b
+home-found work {k} o octets e S = record { inside = S .inside; is = λ f x I reads in-range p. S .is ∙ ap (scaled k) e ∙ home-is o octets I reads in-range }
+
+pub name-home-found : {k : ℕ} {name : Bytes} {h b : ℕ} → h ≡ mixedBytes 0 name → Scales k h b → NameHome k name b
+unfolding nameHome
+name-home-found {k} e S = record { inside = S .inside; is = λ p. S .is ∙ ap (scaled k) e }
 
 pub stored-there : {work work′ : List ℕ} {k b d s v : ℕ} → FirstEmpty k (cell work k hash) b d → s ≡ slot k b d → work′ ≡ store work k hash s v → Stores work work′ k b v
 stored-there {k = k} F e q =

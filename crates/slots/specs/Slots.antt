@@ -1,6 +1,6 @@
 -- What the slots of the hash table hold: for each type, function and term an equal one, which is met on the way from its home slot.
 -- Assumes nothing.
-use Prim.Native.Nat.{ℕ, zero, suc, _+_, _%_, _≤_, _<_}
+use Prim.Native.Nat.{ℕ, zero, suc, _+_, _≤_, _<_}
 use mathlib.Core.List.{List}
 use mathlib.Core.Option.{Option, none, some}
 use lib.ListN.{length}
@@ -10,7 +10,7 @@ use Rattle.script_spec.specs.File.{TermFile, types, funs, terms}
 use Rattle.index.specs.Cells.{cell, typeOffset, funOffset, termOffset, hash}
 use Rattle.index.specs.First.{canonical}
 use Rattle.index.specs.Standing.{entryAt}
-use Rattle.index.specs.Names.{Reached}
+use Rattle.index.specs.Names.{scaled, Reached}
 use Rattle.segments.specs.Printed.{segmentsOf}
 use Rattle.record_rules.specs.Marks.{markOf}
 use Rattle.hash.specs.Hash.{hashed}
@@ -29,7 +29,7 @@ empties column (suc n) = oneIfEmpty (column n) + empties column n
 
 -- the home slot of an entry, by the hash of its mark and segments
 unfoldable pub homeOf : ℕ → Entry → ℕ
-homeOf k x = hashed (markOf x) (segmentsOf x) % k
+homeOf k x = scaled k (hashed (markOf x) (segmentsOf x))
 
 -- ---- what they hold
 

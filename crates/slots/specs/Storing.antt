@@ -11,8 +11,13 @@ use Rattle.index.specs.Cells.{cell, store, hash}
 use Rattle.index.specs.First.{canonical, InRange}
 use Rattle.index.specs.Standing.{entryAt}
 use Rattle.index.specs.Meaning.{Index}
-use Rattle.index.specs.Names.{slot, nameHome}
+use Rattle.index.specs.Names.{slot, scaled, nameHome}
 use Rattle.slots.specs.Slots.{empties, homeOf}
+
+-- b is the home slot of a hash, of k slots
+pub record Scales (k h b : ℕ) : Type 0 where
+  pub is : b ≡ scaled k h
+  pub inside : 0 < k → b < k
 
 -- b is the home slot of the entry at an offset, of k slots
 pub record Home (file : Bytes) (work : List ℕ) (k o b : ℕ) : Type 0 where

@@ -3,7 +3,7 @@ ghost use mathlib.Core.Path.{_≡_};
 ghost use Prim.Native.Nat.{_<_, _-_, _/_};
 ghost use Rattle.index.specs.Cells.{cell, hash};
 ghost use Rattle.index.specs.Names.{slot, codeOf};
-ghost use Rattle.slots.specs.Storing.{Home, NameHome, FirstEmpty, Stores};
+ghost use Rattle.slots.specs.Storing.{Scales, Home, NameHome, FirstEmpty, Stores};
 
 // What a slot holds for the record of a kind with number n, 0 where it does not fit.
 pub fn code(n: u32, kind: u32) -> u32
@@ -39,26 +39,28 @@ pub fn slot(k: usize, b: usize, d: usize) -> usize
     d - (k - b)
 }
 
+// The slot from which a record of a hash is looked for: the hash scaled from 2^32 to k.
+pub fn scale(k: usize, h: u32) -> usize
+    ensures { λ r. ⌜ Scales k h r ⌝ }
+{
+    if k < 4294967296 {
+        return h as usize * k / 4294967296;
+    }
+    0
+}
+
 // The slot from which the record at an offset is looked for.
 pub fn home(file: &[u8], work: &[u32], k: usize, o: usize) -> usize
     ensures { λ r. ⌜ Home (now (file .entry)) (now (work .entry)) k o r ⌝ }
 {
-    if k == 0 {
-        return 0;
-    }
-    let h = hash::record_hash(file, work, k, o) as usize;
-    h % k
+    scale(k, hash::record_hash(file, work, k, o))
 }
 
 // The slot from which the enum of a name is looked for.
 pub fn name_home(name: &[u8], k: usize) -> usize
     ensures { λ r. ⌜ NameHome k (now (name .entry)) r ⌝ }
 {
-    if k == 0 {
-        return 0;
-    }
-    let h = hash::mix_bytes(0, name) as usize;
-    h % k
+    scale(k, hash::mix_bytes(0, name))
 }
 
 // How many steps after slot b the first empty slot is, or k where none is empty.

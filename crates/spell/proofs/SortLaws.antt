@@ -106,12 +106,12 @@ over-sort f S true p = refl
 over-sort f S false p = refl
 
 -- the type of truth values
-truth-sort : (f : TermFile) (S : State) (rs : List ℕ) → plainSort entry.Bool 0 ≡ sort (names S) (node Bool· (forest (map (typeAt f) rs)))
-unfolding plainSort sort sortFrom
+truth-sort : (f : TermFile) (S : State) (rs : List ℕ) → bytes "Bool" ≡ sort (names S) (node Bool· (forest (map (typeAt f) rs)))
+unfolding sort sortFrom
 truth-sort f S rs = refl
 
 module _ {file : Bytes} {work : List ℕ} {k t : ℕ} {x : Over} (B : OverAt file (cell work k typeOffset t) x) where
-  pub spells-truth : {limit at q : ℕ} {y z : Bytes} → x ≡ over.Truth → Appends limit y at z q (plainSort entry.Bool 0) → SpellsSort file work k t limit y at z q
+  pub spells-truth : {limit at q : ℕ} {y z : Bytes} → x ≡ over.Truth → Appends limit y at z q (bytes "Bool") → SpellsSort file work k t limit y at z q
   unfolding overSaid
   spells-truth told A = record {
     go = λ f S I N l.

@@ -2,6 +2,7 @@
 use entry::types::ExtType;
 use entry::types::TypeEntry;
 ghost use mathlib.Core.Path.{_≡_};
+ghost use Rattle.script_spec.specs.Base.{bytes};
 ghost use Rattle.script_spec.specs.Spelling.{extName};
 ghost use Rattle.writer.specs.Writing.{Appends};
 ghost use Rattle.index.specs.Cells.{cell, typeOffset, typeFirst};
@@ -41,12 +42,19 @@ fn put_ext_name(out: &mut [u8], at: usize, limit: usize, x: ExtType) -> usize
     }
 }
 
+// The sort of truth values.
+fn put_truth(out: &mut [u8], at: usize, limit: usize) -> usize
+    ensures { λ r. ⌜ Appends limit (now (out .entry)) at (now (out .exit)) r (bytes "Bool") ⌝ }
+{
+    writer::put_at(out, at, limit, b"Bool")
+}
+
 // The sort of a type that stands over no part; `name` stands for its name in memory.
 fn put_plain_sort(out: &mut [u8], at: usize, limit: usize, ty: TypeEntry, name: u32) -> usize
     ensures { λ r. ⌜ Appends limit (now (out .entry)) at (now (out .exit)) r (plainSort ty name) ⌝ }
 {
     match ty {
-        TypeEntry::Bool => writer::put_at(out, at, limit, b"Bool"),
+        TypeEntry::Bool => put_truth(out, at, limit),
         TypeEntry::String => writer::put_at(out, at, limit, b"String"),
         TypeEntry::BitVec(n) => bitvec::spelling::put_bitvec_sort(out, at, limit, n),
         TypeEntry::Option(_) => at,
@@ -103,7 +111,7 @@ pub fn put_sort(
         ⌜ SpellsSort (now (file .entry)) (now (work .entry)) k t limit (now (out .entry)) at (now (out .exit)) r ⌝ }
 {
     match stands_over(file, work, k, t) {
-        Over::Truth => put_plain_sort(out, at, limit, TypeEntry::Bool, 0),
+        Over::Truth => put_truth(out, at, limit),
         Over::Nothing => {
             let ty = type_at(file, work, k, t);
             put_plain_sort(out, at, limit, ty, type_name(work, k, t))

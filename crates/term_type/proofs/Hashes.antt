@@ -2,7 +2,7 @@
 -- Assumes nothing.
 use mathlib.Core.Path.{_≡_, refl, sym, ap, _∙_}
 use mathlib.Core.Logic.{_⊎_, inl, inr, ⊎-elim}
-use Prim.Native.Nat.{ℕ, _%_}
+use Prim.Native.Nat.{ℕ}
 use native.Mathlib.Omega.{arith}
 use mathlib.Core.Bool.{true, false}
 use mathlib.Core.List.{List, [], _∷_, map}
@@ -27,7 +27,9 @@ use Rattle.compare.specs.declared.View.the-variants.{Listed}
 use Rattle.compare.proofs.Listed.{segmentsAt-shown, named-listed}
 use Rattle.record_rules.specs.Marks.{datatypeBytes, typeBytes, markOf}
 use Rattle.hash.specs.Hash.{hashed, typeHash}
+use Rattle.index.specs.Names.{scaled}
 use Rattle.slots.specs.Slots.{homeOf}
+use Rattle.slots.specs.Storing.{Scales}
 use Rattle.term_type.specs.Sought.{typeLetter, widthAt, valueCode, partAt, PartOf, Seeks}
 use Rattle.term_type.specs.Probed.{TypeHash, TypeHome}
 use Rattle.term_type.proofs.Letters.{over, letterOf, Sized}
@@ -144,14 +146,10 @@ module _ {file : Bytes} {work : List ℕ} {k o l mark : ℕ} (is : l ≡ getD (m
 
 -- ---- its home
 
-module _ {file : Bytes} {work : List ℕ} {k o : ℕ} where
-  pub home-none : k ≡ 0 → TypeHome file work k o 0
-  home-none e = record { go = λ f t ps S h. absurd (omega arith) }
-
-  pub home-found : {h b : ℕ} → TypeHash file work k o h → b ≡ h % k → TypeHome file work k o b
-  unfolding homeOf canonical renumbered markOf segmentsOf
-  home-found H q =
-      record {
-        go = λ f t ps S p.
-            q ∙ ap (λ (m : ℕ). m % k) (H .go f t ps S ∙ ap (λ (ns : List ℕ). hashed (typeBytes t) (typeSegments t ns)) (map-agree (λ n h. S .index .type-row n h .first) ps (seeks-below S)));
-      }
+pub home-found : {file : Bytes} {work : List ℕ} {k o h b : ℕ} → TypeHash file work k o h → Scales k h b → TypeHome file work k o b
+unfolding homeOf canonical renumbered markOf segmentsOf
+home-found {k = k} H Z =
+    record {
+      go = λ f t ps S p.
+          Z .is ∙ ap (scaled k) (H .go f t ps S ∙ ap (λ (ns : List ℕ). hashed (typeBytes t) (typeSegments t ns)) (map-agree (λ n h. S .index .type-row n h .first) ps (seeks-below S)));
+    }

@@ -127,11 +127,7 @@ fn home(file: &[u8], work: &[u32], k: usize, o: usize, part: u32) -> usize
     requires { ⌜ PartOf (now file) (now work) k o part ⌝ }
     ensures { λ r. ⌜ TypeHome (now (file .entry)) (now (work .entry)) k o r ⌝ }
 {
-    if k == 0 {
-        return 0;
-    }
-    let h = type_hash(file, work, k, o, part) as usize;
-    h % k
+    slots::scale(k, type_hash(file, work, k, o, part))
 }
 
 // Whether a slot that holds v has a type that is that of the term at an offset.

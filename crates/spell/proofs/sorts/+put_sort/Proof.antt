@@ -12,6 +12,7 @@ use Rattle.spell.proofs.sorts.put_sort.Kinds as put-sort-kinds
 use Rattle.spell.proofs.sorts.+put_sort.Lts-put_sort as put-sort-lts
 use Rattle.spell.proofs.sorts.put_opened.Reads as put-opened-reads
 use Rattle.spell.proofs.sorts.put_plain_sort.Reads as put-plain-sort-reads
+use Rattle.spell.proofs.sorts.put_truth.Reads as put-truth-reads
 use Rattle.spell.proofs.sorts.stands_over.Reads as stands-over-reads
 use Rattle.spell.proofs.sorts.type_at.Reads as type-at-reads
 use Rattle.spell.proofs.sorts.type_name.Reads as type-name-reads
@@ -30,7 +31,7 @@ put-sort-below t =
     and 3 put-sort-kinds.ps (falls 3 put-sort-kinds.ps _<_ μ-put-sort t) put-sort.Pre
 
 abbrev put-sort-claims : ℕ → put-sort-lts.Claims
-put-sort-claims t = (stands-over-reads.Asked, stands-over-reads.Learnt, put-plain-sort-reads.Asked, put-plain-sort-reads.Learnt, type-at-reads.Asked, type-at-reads.Learnt, type-name-reads.Asked, type-name-reads.Learnt, put-opened-reads.Asked, put-opened-reads.Learnt, put-sort-below t, put-sort.Post, put-byte-reads.Asked, put-byte-reads.Learnt)
+put-sort-claims t = (stands-over-reads.Asked, stands-over-reads.Learnt, put-truth-reads.Asked, put-truth-reads.Learnt, type-at-reads.Asked, type-at-reads.Learnt, type-name-reads.Asked, type-name-reads.Learnt, put-plain-sort-reads.Asked, put-plain-sort-reads.Learnt, put-opened-reads.Asked, put-opened-reads.Learnt, put-sort-below t, put-sort.Post, put-byte-reads.Asked, put-byte-reads.Learnt)
 
 put-sort-stands-over-requires : (t : ℕ) → put-sort-lts.Need-stands-over-requires (put-sort-claims t) (put-sort-at t) put-sort.Post
 put-sort-stands-over-requires t c κs = search needs
@@ -38,8 +39,8 @@ put-sort-stands-over-requires t c κs = search needs
 put-sort-enum-told : (t : ℕ) → put-sort-lts.Need-enum-told (put-sort-claims t) (put-sort-at t) put-sort.Post
 put-sort-enum-told t c = search needs
 
-put-sort-put-plain-sort-requires : (t : ℕ) → put-sort-lts.Need-put-plain-sort-requires (put-sort-claims t) (put-sort-at t) put-sort.Post
-put-sort-put-plain-sort-requires t c κs = search needs
+put-sort-put-truth-requires : (t : ℕ) → put-sort-lts.Need-put-truth-requires (put-sort-claims t) (put-sort-at t) put-sort.Post
+put-sort-put-truth-requires t c κs = search needs
 
 put-sort-enum-told-2 : (t : ℕ) → put-sort-lts.Need-enum-told-2 (put-sort-claims t) (put-sort-at t) put-sort.Post
 put-sort-enum-told-2 t c = search needs
@@ -50,8 +51,8 @@ put-sort-type-at-requires t c κs = search needs
 put-sort-type-name-requires : (t : ℕ) → put-sort-lts.Need-type-name-requires (put-sort-claims t) (put-sort-at t) put-sort.Post
 put-sort-type-name-requires t c κs = search needs
 
-put-sort-put-plain-sort-requires-2 : (t : ℕ) → put-sort-lts.Need-put-plain-sort-requires-2 (put-sort-claims t) (put-sort-at t) put-sort.Post
-put-sort-put-plain-sort-requires-2 t c κs = search needs
+put-sort-put-plain-sort-requires : (t : ℕ) → put-sort-lts.Need-put-plain-sort-requires (put-sort-claims t) (put-sort-at t) put-sort.Post
+put-sort-put-plain-sort-requires t c κs = search needs
 
 put-sort-enum-known-set : (t : ℕ) → put-sort-lts.Need-enum-known-set (put-sort-claims t) (put-sort-at t) put-sort.Post
 put-sort-enum-known-set t c = search needs
@@ -72,13 +73,13 @@ put-sort-same-length : (t : ℕ) → put-sort-lts.Need-same-length (put-sort-cla
 put-sort-same-length t c = search needs
 
 put-sort-returns-2 : (t : ℕ) → put-sort-lts.Need-returns-2 (put-sort-claims t) (put-sort-at t) put-sort.Post
-put-sort-returns-2 t c = spells-truth c.before.before.before.before.before.before.stands-over.ensures c.before.before.before.before.enum-told.given.1 c.before.before.put-plain-sort.ensures
+put-sort-returns-2 t c = spells-truth c.before.before.before.before.before.before.stands-over.ensures c.before.before.before.before.enum-told.given.1 c.before.before.put-truth.ensures
 
 put-sort-same-length-2 : (t : ℕ) → put-sort-lts.Need-same-length-2 (put-sort-claims t) (put-sort-at t) put-sort.Post
 put-sort-same-length-2 t c = search needs
 
 put-sort-returns-3 : (t : ℕ) → put-sort-lts.Need-returns-3 (put-sort-claims t) (put-sort-at t) put-sort.Post
-put-sort-returns-3 t c = spells-plain c.before.before.before.before.before.before.before.before.stands-over.ensures c.before.before.before.before.before.before.enum-told2.given.1 c.before.before.before.before.before.type-at.ensures c.before.before.before.type-name.ensures c.before.before.put-plain-sort2.ensures
+put-sort-returns-3 t c = spells-plain c.before.before.before.before.before.before.before.before.stands-over.ensures c.before.before.before.before.before.before.enum-told2.given.1 c.before.before.before.before.before.type-at.ensures c.before.before.before.type-name.ensures c.before.before.put-plain-sort.ensures
 
 put-sort-same-length-3 : (t : ℕ) → put-sort-lts.Need-same-length-3 (put-sort-claims t) (put-sort-at t) put-sort.Post
 put-sort-same-length-3 t c = search needs
@@ -92,11 +93,11 @@ pub +put-sort-spec : {M : Type 1} → statement M
     put-sort.Post
     (put-sort-stands-over-requires t)
     (put-sort-enum-told t)
-    (put-sort-put-plain-sort-requires t)
+    (put-sort-put-truth-requires t)
     (put-sort-enum-told-2 t)
     (put-sort-type-at-requires t)
     (put-sort-type-name-requires t)
-    (put-sort-put-plain-sort-requires-2 t)
+    (put-sort-put-plain-sort-requires t)
     (put-sort-enum-known-set t)
     (put-sort-returns t)
     (put-sort-put-opened-requires t)

@@ -9,11 +9,11 @@ use Rattle.spell.proofs.sorts.put_plain_sort.Tie as tie
 
 returns : tie.Need-returns
 unfolding bytes plainSort
-returns c = says (rw c.before.before.before.before.before.enum-told.given.1) c.before.before.put-at.ensures
+returns c = says (rw c.before.before.before.before.enum-told.given.1) c.before.before.put-truth.ensures
 
 returns-2 : tie.Need-returns-2
 unfolding bytes plainSort
-returns-2 c = says (rw c.before.before.before.before.before.enum-told2.given.1) c.before.before.put-at2.ensures
+returns-2 c = says (rw c.before.before.before.before.before.enum-told2.given.1) c.before.before.put-at.ensures
 
 returns-3 : tie.Need-returns-3
 unfolding bytes plainSort
@@ -46,7 +46,7 @@ returns-9 c = says (rw c.enum-told7.given.1) nothing
 pub put-plain-sort-spec : {M : Type 1} → statement M
 put-plain-sort-spec =
     tie.close
-    (tie.spec (λ c. search needs) (λ c. search needs) (λ c κs. search needs) (λ c. search needs) (λ c. search needs) (λ c κs. search needs) (λ c. search needs) (λ c κs. search needs) (λ c. search needs) (λ c. search needs) (λ c. search needs) (λ c κs. search needs) (λ c. search needs) (λ c κs. search needs) (λ c. search needs) (λ c κs. search needs) (λ c. search needs) (λ c. search needs)
+    (tie.spec (λ c. search needs) (λ c κs. search needs) (λ c. search needs) (λ c. search needs) (λ c κs. search needs) (λ c. search needs) (λ c κs. search needs) (λ c. search needs) (λ c. search needs) (λ c. search needs) (λ c κs. search needs) (λ c. search needs) (λ c κs. search needs) (λ c. search needs) (λ c κs. search needs) (λ c. search needs) (λ c. search needs)
     returns (λ c. search needs)
     returns-2 (λ c. search needs)
     returns-3
