@@ -5,7 +5,7 @@ use Rattle.encoder.proofs.refuse.Statement.{statement}
 use Rattle.encoder.proofs.refuse.Tie as tie
 
 returns : tie.Need-returns
-returns c = record { cleared = c.before.before.before.before.before.before.clear-words.ensures; gives = c.before.before.turn-back.ensures }
+returns c = record { cleared = search needs; gives = c.before.before.turn-back.ensures }
 
 pub refuse-spec : {M : Type 1} → statement M
 refuse-spec =
