@@ -1,32 +1,14 @@
 //! The command `sakyelbo`.
 mod cases;
+mod commands;
 
 use cases::{answer, cases, path};
+use commands::{file, sakyelbo, Ran};
 use std::fs;
-use std::io::Write;
-use std::path::PathBuf;
-use std::process::{Command, Stdio};
 
-/// Runs the command: its exit status, standard output and standard error.
-fn run(args: &[&str], input: &[u8]) -> (i32, String, String) {
-    let mut child = Command::new(env!("CARGO_BIN_EXE_sakyelbo"))
-        .args(args)
-        .stdin(Stdio::piped())
-        .stdout(Stdio::piped())
-        .stderr(Stdio::piped())
-        .spawn()
-        .unwrap();
-    // A command that is not to read its input may have ended before this.
-    let _ = child.stdin.take().unwrap().write_all(input);
-    let done = child.wait_with_output().unwrap();
-    (done.status.code().unwrap(), String::from_utf8(done.stdout).unwrap(), String::from_utf8(done.stderr).unwrap())
-}
-
-/// A file of these bytes.
-fn file(name: &str, bytes: &[u8]) -> String {
-    let path = PathBuf::from(env!("CARGO_TARGET_TMPDIR")).join(name);
-    fs::write(&path, bytes).unwrap();
-    path.to_str().unwrap().to_string()
+/// Runs the command with these arguments.
+fn run(args: &[&str], input: &[u8]) -> Ran {
+    commands::run(&mut sakyelbo(args), input)
 }
 
 #[test]
