@@ -1,9 +1,8 @@
 // Checks term files, and writes a line for each: its name, and check's answer. The arguments name the first files; standard input has
 // the others, one after another.
+use check_file::Checked;
 use libc::STDIN_FILENO;
 use libc::STDOUT_FILENO;
-use term_check::Checked;
-ghost use Prim.Native.Nat.{_<_};
 
 fn show(answer: Checked) {
     match answer {
@@ -28,7 +27,7 @@ fn check_first(file: &[u8], size: usize, work: &mut [u32], entries: usize) {
     if work.len() < entries {
         return;
     }
-    show(term_check::check(&file[..size], &mut work[..entries]))
+    show(check_file::check(&file[..size], &mut work[..entries]))
 }
 
 // Checks the file of this name.
@@ -61,19 +60,9 @@ fn check_arguments(file: &mut [u8], work: &mut [u32]) {
     }
 }
 
-fn wide(b: u8) -> usize
-    ensures { λ r. ⌜ r < 256 ⌝ }
-{
-    b as usize
-}
-
 // The number in four bytes, low byte first.
 fn number(b: &[u8; 4]) -> usize {
-    let b0 = wide(b[0]);
-    let b1 = wide(b[1]);
-    let b2 = wide(b[2]);
-    let b3 = wide(b[3]);
-    b0 + 256 * (b1 + 256 * (b2 + 256 * b3))
+    read_field::word(b[0], b[1], b[2], b[3]) as usize
 }
 
 // The next number of standard input; none where it ends.

@@ -1,10 +1,10 @@
 -- The end of a script: refusals clear, a script that fits is given by its length, and encode's answer is that of the walk.
 -- Assumes nothing.
-use mathlib.Core.Path.{_≡_, refl, sym, ap, _∙_, subst}
+use mathlib.Core.Path.{_≡_, refl, sym, ap, _∙_}
 use Prim.Native.Nat.{ℕ, _+_, _-_}
 use native.Mathlib.Numerals.{unary-clauses}
 use native.Mathlib.Omega.{arith}
-use mathlib.Core.List.{List, [], _∷_, _++_}
+use mathlib.Core.List.{List, _++_}
 use lib.ListN.{length, take, replicate}
 use lib.Seq.{take-at}
 use Rattle.script_spec.specs.Base.{Bytes, Answer, accepted, refused}
@@ -12,10 +12,9 @@ use Rattle.script_spec.specs.File.{TermFile, members, inputs, checked}
 use Rattle.script_spec.specs.Command.{Command, script, fitting, left}
 use Rattle.script_spec.specs.Walk.{Step, went, stopped, start, names, encodeInputs, assertions, firstEqual, encoding, encoded}
 use Rattle.script_spec.proofs.Demand.{encoded-faithful}
-use Rattle.writer.specs.Writing.{laid, ceiling, Wrote, Appends, cleared, answer, lengthOf}
-use Rattle.writer.specs.Writing as writing
-use Rattle.writer.specs.declared.Written.{Written}
-use Rattle.writer.proofs.Laws.{laid-nil, finished}
+use Rattle.write_bytes.specs.Writing.{cleared, lengthOf}
+use Rattle.write_bytes.specs.Writing as writing
+use Rattle.write_bytes.proofs.Laws.{finished-line}
 use Rattle.encoder.specs.Promise.{encodedAs, Encodes}
 use Rattle.encoder.specs.Ending.{Gives, TurnsBack, Finishes, walked}
 use Rattle.encoder.specs.declared.Encoded.{Encoded}
@@ -33,25 +32,12 @@ turned-back x {y} n p e = record { says = refl; holds = zeros-from x y e }
 
 -- ---- the end of a script
 
--- bytes that were written from the start of a buffer
-none-before : (a : Bytes) → length a ≡ 0 → a ≡ []
-none-before [] e = refl
-none-before (b ∷ a) e = absurd (omega arith)
-
-from-buffer : {limit at : ℕ} {o x s : Bytes} → Wrote limit o x at s → Appends limit o 0 x at s
-from-buffer {limit} {at} {o} {x} {s} w = record {
-  go = λ o′ a v.
-      let none : a ≡ [] = none-before a (omega (arith, v .place)) in
-      let same : o ≡ o′ = v .holds ∙ ap (laid (ceiling limit) o′) none ∙ laid-nil (ceiling limit) o′ in
-      subst (λ (b : Bytes). Wrote limit o′ x at (b ++ s)) (sym none) (subst (λ (b : Bytes). Wrote limit b x at s) same w);
-}
-
 -- an answer of the writer as one of encode
 module _ (work : List ℕ) (x : Bytes) (at : ℕ) {work′ : List ℕ} {y : Bytes} (c : work′ ≡ replicate (length work) 0) where
-  pub finishes-by : (v : Written) (r : Encoded) → answer v ≡ encodedAs r → writing.Finishes x at y v → Finishes work x at work′ y r
-  finishes-by v r e F = record {
+  pub finishes-by : (a : Answer ℕ) (r : Encoded) → a ≡ encodedAs r → writing.Finishes x at y a → Finishes work x at work′ y r
+  finishes-by a r e F = record {
     cleared = c;
-    go = λ o s w. let L = finished (from-buffer w) F in record { says = sym e ∙ L .says; holds = L .holds };
+    go = λ o s w. let L = finished-line w F in record { says = sym e ∙ L .says; holds = L .holds };
   }
 
 -- ---- encode's answer

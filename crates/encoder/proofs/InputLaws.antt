@@ -1,7 +1,7 @@
 -- The walk over the inputs, one after the other: the first of them are encoded.
 -- Assumes nothing.
 use mathlib.Core.Path.{_≡_, refl, sym, ap, _∙_, subst}
-use Prim.Native.Nat.{ℕ, _+_, _^_, _<_, _≤_}
+use Prim.Native.Nat.{ℕ, _+_, _<_, _≤_}
 use native.Mathlib.Numerals.{add-one}
 use native.Mathlib.Omega.{arith}
 use mathlib.Core.List.{List, [], _∷_, _++_}
@@ -9,19 +9,21 @@ use lib.ListN.{length, take}
 use lib.Seq.{take-suc, take-all}
 use Rattle.script_spec.specs.Base.{Bytes}
 use Rattle.script_spec.specs.Tree.{Tm, Enums}
-use Rattle.script_spec.specs.File.{TermFile, enums, members, inputs, termAt}
+use Rattle.script_spec.specs.File.{TermFile, members, inputs, termAt}
 use Rattle.script_spec.specs.Walk.{Step, went, encodeTerm, encodeInputs}
 use Rattle.index.specs.Cells.{cell, inputTerm}
 use Rattle.index.specs.Meaning.{Index, inputAt}
-use Rattle.naming.specs.Naming.{Kept}
-use Rattle.naming.specs.Sticky.{sticky}
-use Rattle.naming.proofs.Names.{kept-refl, kept-trans, index-kept}
-use Rattle.naming.proofs.Sticky.{sticky-then, sticky-nothing}
-use Rattle.progress.specs.Progress.{Holds, Advances}
-use Rattle.progress.specs.declared.Progress.{Progress}
-use Rattle.term_step.specs.Steps.{termReady}
-use Rattle.term_walk.specs.Terms.{termWalk}
-use Rattle.encoder.specs.Inputs.{inputsReady, inputsWalk}
+use Rattle.index.specs.declared.Sizes.{Sizes}
+use Rattle.walk_names.specs.Naming.{Kept}
+use Rattle.walk_names.specs.Sticky.{sticky}
+use Rattle.walk_names.proofs.Names.{kept-refl, kept-trans, index-kept}
+use Rattle.walk_names.proofs.Sticky.{sticky-then, sticky-nothing}
+use Rattle.walk_names.specs.Progress.{Holds, Unmoved, Advances}
+use Rattle.walk_names.specs.declared.progress.Progress.{Progress}
+use Rattle.walk_names.proofs.Advancing.{unmoved-refl, unmoved-trans}
+use Rattle.walk_new.specs.Steps.{termReady}
+use Rattle.walk_terms.specs.Terms.{termWalk}
+use Rattle.encoder.specs.Inputs.{anyReady, inputsWalk}
 
 -- ---- inputs one after the other
 
@@ -45,51 +47,56 @@ inputs-more f i l = rw add-one (take-suc (inputs f) i _ l)
 
 -- ---- the walk
 
-module _ (file : Bytes) (k many count limit : ℕ) where
+module _ (file : Bytes) (sizes : Sizes) where
   -- the loop's invariant: the first inputs are encoded
   pub record Encoding (work : List ℕ) (out : Bytes) (p : Progress) (i : ℕ) (work′ : List ℕ) (out′ : Bytes) (p′ : Progress) : Type 0 where
-    pub kept : Kept work work′ k
+    pub kept : Kept work work′ (sizes .rows)
+    pub unmoved : (p .refused ≡ 0 → ⊥) → Unmoved work out p work′ out′ p′
     pub size : length out′ ≡ length out
-    pub most : i ≤ count
-    pub go : (f : TermFile) (o : Bytes) (x : Step) → Index file f work k → k + 257 < 2 ^ 32 → many ≡ length (enums f) → count ≡ length (inputs f)
-        → Holds f k limit o work out p x → Holds f k limit o work′ out′ p′ (sticky (encodeInputs (members f) (take i (inputs f))) x)
+    pub most : i ≤ sizes .inputs
+    pub go : (f : TermFile) (limit : ℕ) (o : Bytes) (x : Step) → Index file f work sizes
+        → Holds f (sizes .rows) limit o work out p x → Holds f (sizes .rows) limit o work′ out′ p′ (sticky (encodeInputs (members f) (take i (inputs f))) x)
 
   pub encoding-start : (work : List ℕ) (out : Bytes) (p : Progress) → Encoding work out p 0 work out p
   unfolding encodeInputs
   encoding-start work out p =
       record {
-        kept = kept-refl work k;
+        kept = kept-refl work (sizes .rows);
+        unmoved = λ h. unmoved-refl;
         size = refl;
         most = omega arith;
-        go = λ f o x I small m c H. subst (Holds f k limit o work out p) (sym (sticky-nothing x)) H;
+        go = λ f limit o x I H. subst (Holds f (sizes .rows) limit o work out p) (sym (sticky-nothing x)) H;
       }
 
   module _ {work work₁ work₂ : List ℕ} {out out₁ out₂ : Bytes} {p p₁ p₂ : Progress} {i n : ℕ} where
-    pub encoding-on : Encoding work out p i work₁ out₁ p₁ → i < count → n ≡ cell work₁ k inputTerm i
-        → Advances file k many limit (termReady n) (termWalk n) work₁ out₁ p₁ work₂ out₂ p₂ → length out₂ ≡ length out₁ → Encoding work out p (i + 1) work₂ out₂ p₂
+    pub encoding-on : Encoding work out p i work₁ out₁ p₁ → i < sizes .inputs → n ≡ cell work₁ (sizes .rows) inputTerm i
+        → Advances file sizes (termReady n) (termWalk n) work₁ out₁ p₁ work₂ out₂ p₂ → length out₂ ≡ length out₁ → Encoding work out p (i + 1) work₂ out₂ p₂
     unfolding termReady termWalk
     encoding-on E l e A s =
         record {
           kept = kept-trans (E .kept) (A .kept);
+          unmoved = λ h. let a = E .unmoved h in unmoved-trans a (A .unmoved (λ z. h (sym (ap (λ (q : Progress). q .refused) (a .progress)) ∙ z)));
           size = s ∙ E .size;
           most = omega arith;
-          go = λ f o x I small m c H.
-              let J : Index file f work₁ k = index-kept (E .kept) I in
-              let row = J .input-row i (omega arith) in
+          go = λ f limit o x I H.
+              let count = I .sizes-are .inputs-are in
+              let J : Index file f work₁ sizes = index-kept (E .kept) I in
+              let row = J .rows .input-row i (omega arith) in
               let y = sticky (encodeInputs (members f) (take i (inputs f))) x in
               let term-is : termAt f n ≡ inputAt f i = ap (termAt f) e ∙ row .is in
               let walks : sticky (encodeInputs (members f) (take (i + 1) (inputs f))) x ≡ sticky (encodeTerm (members f) (termAt f n)) y
               = ap (λ (ts : List Tm). sticky (encodeInputs (members f) ts) x) (inputs-more f i (omega arith)) ∙ encode-append (members f) (take i (inputs f)) (inputAt f i ∷ []) x
               ∙ encode-one (members f) (inputAt f i) y ∙ ap (λ (t : Tm). sticky (encodeTerm (members f) t) y) (sym term-is) in
-              subst (Holds f k limit o work₂ out₂ p₂) (sym walks) (A .go f o y J small m (rw e (row .below)) (E .go f o x I small m c H));
+              subst (Holds f (sizes .rows) limit o work₂ out₂ p₂) (sym walks) (A .go f limit o y J (rw e (row .below)) (E .go f limit o x I H));
         }
 
-  pub encoding-end : {work work′ : List ℕ} {out out′ : Bytes} {p p′ : Progress} {i : ℕ} → Encoding work out p i work′ out′ p′ → count ≤ i
-      → Advances file k many limit (inputsReady count) inputsWalk work out p work′ out′ p′
-  unfolding inputsReady inputsWalk
-  encoding-end {work} {work′} {out} {out′} {p} {p′} {i} E l = record {
+  pub encoding-end : {work work′ : List ℕ} {out out′ : Bytes} {p p′ : Progress} {i : ℕ} → Encoding work out p i work′ out′ p′ → sizes .inputs ≤ i
+      → Advances file sizes anyReady inputsWalk work out p work′ out′ p′
+  unfolding inputsWalk
+  encoding-end {work′ = work′} {out′ = out′} {p′ = p′} {i = i} E l = record {
     kept = E .kept;
-    go = λ f o x I small m c H.
-        let all : take i (inputs f) ≡ inputs f = take-all i (inputs f) (omega arith) in
-        subst (λ (ts : List Tm). Holds f k limit o work′ out′ p′ (sticky (encodeInputs (members f) ts) x)) all (E .go f o x I small m c H);
+    unmoved = E .unmoved;
+    go = λ f limit o x I r H.
+        let all : take i (inputs f) ≡ inputs f = take-all i (inputs f) (omega (arith, I .sizes-are .inputs-are)) in
+        subst (λ (ts : List Tm). Holds f (sizes .rows) limit o work′ out′ p′ (sticky (encodeInputs (members f) ts) x)) all (E .go f limit o x I H);
   }

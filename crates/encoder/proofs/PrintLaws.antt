@@ -14,9 +14,8 @@ use Rattle.script_spec.specs.Base.{Bytes, bytes, Answer, accepted, refused}
 use Rattle.script_spec.specs.Text.{digit, digits, decimal}
 use Rattle.script_spec.specs.Command.{fitting, left}
 use Rattle.script_spec.specs.Walk.{encoded, printed, termscript}
-use Rattle.writer.specs.Writing.{Appends, Leaves, Finishes, answer, lengthOf}
-use Rattle.writer.specs.declared.Written.{Written}
-use Rattle.writer.proofs.Laws.{fitting-within, finished}
+use Rattle.write_bytes.specs.Writing.{Wrote, Leaves, Finishes, lengthOf}
+use Rattle.write_bytes.proofs.Laws.{fitting-within, finished-line}
 use Rattle.encoder.specs.Promise.{encodedAs, Encodes}
 use Rattle.encoder.specs.Printing.{answered, written, Shows, PrintsRefusal, Prints}
 use Rattle.encoder.specs.declared.Encoded.{Encoded}
@@ -47,13 +46,18 @@ refusal-length n p h k = simp length-append (omega (arith, decimal-length n h, d
 
 -- ---- a refusal's line
 
+-- a refusal's line is not empty
+pub refusal-some : (n p : ℕ) → 0 < length (printed (refused n p))
+unfolding printed bytes
+refusal-some n p = simp length-append (omega arith)
+
 -- a line that was written from the start of a buffer, and ended
-module _ (x : Bytes) (n p : ℕ) {y z : Bytes} {end : ℕ} {v : Written} (h : n < 2 ^ 32) (k : p < 2 ^ 32)
-    (A : Appends (length x) x 0 y end (printed (refused n p))) (F : Finishes y end z v) where
-  pub refusal-shown : {r : ℕ} → r ≡ written (answer v) → PrintsRefusal x n p z r
+module _ (x : Bytes) (n p : ℕ) {y z : Bytes} {end : ℕ} {v : Answer ℕ} (h : n < 2 ^ 32) (k : p < 2 ^ 32)
+    (A : Wrote (length x) x y end (printed (refused n p))) (F : Finishes y end z v) where
+  pub refusal-shown : {r : ℕ} → r ≡ written v → PrintsRefusal x n p z r
   unfolding written lengthOf left
   refusal-shown {r} e =
-      let L : Leaves x z v (fitting (printed (refused n p)) (length x)) = finished A F in
+      let L : Leaves x z v (fitting (printed (refused n p)) (length x)) = finished-line A F in
       let size : r ≡ written (lengthOf (fitting (printed (refused n p)) (length x))) = e ∙ ap written (L .says) in
       record {
         shows = record { holds = L .holds; size = size };

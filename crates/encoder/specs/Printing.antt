@@ -9,7 +9,7 @@ use lib.ListN.{length, take, replicate}
 use Rattle.script_spec.specs.Base.{Bytes, Answer, accepted, refused}
 use Rattle.script_spec.specs.Command.{fitting, left}
 use Rattle.script_spec.specs.Walk.{encoded, printed, termscript}
-use Rattle.writer.specs.Writing.{lengthOf}
+use Rattle.write_bytes.specs.Writing.{lengthOf}
 
 -- the answer to a file of at most 8,192 bytes; a longer one is refused by 1
 unfoldable pub answered : Bytes → ℕ → ℕ → Answer Bytes

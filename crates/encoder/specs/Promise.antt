@@ -9,7 +9,7 @@ use Rattle.script_spec.specs.File.{TermFile, checked}
 use Rattle.script_spec.specs.Command.{left}
 use Rattle.script_spec.specs.Walk.{encoded}
 use Rattle.script_spec.specs.Faithful.{Faithful}
-use Rattle.writer.specs.Writing.{lengthOf}
+use Rattle.write_bytes.specs.Writing.{lengthOf}
 use Rattle.encoder.specs.declared.Encoded.{Encoded}
 use Rattle.encoder.specs.declared.Encoded.the-variants.{Script, Refused}
 

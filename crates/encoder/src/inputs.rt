@@ -1,27 +1,25 @@
 // The walk over the inputs of a file, in their order.
-use progress::Progress;
-ghost use Rattle.progress.specs.Progress.{Advances};
-ghost use Rattle.encoder.specs.Inputs.{inputsReady, inputsWalk};
+use index::Sizes;
+use walk_names::progress::Progress;
+ghost use Rattle.walk_names.specs.Progress.{Advances};
+ghost use Rattle.encoder.specs.Inputs.{anyReady, inputsWalk};
 
-// Encodes the inputs of an accepted file, of which there are `count`.
+// Encodes the inputs of an accepted file.
 pub fn encode_inputs(
     file: &[u8],
     work: &mut [u32],
-    k: usize,
-    many: u32,
-    count: u32,
+    sizes: Sizes,
     out: &mut [u8],
-    limit: usize,
     p: Progress,
 ) -> Progress
     ensures { λ r.
-        ⌜ Advances (now (file .entry)) k many limit (inputsReady count) inputsWalk (now (work .entry)) (now (out .entry)) p (now (work .exit)) (now (out .exit)) r ⌝ }
+        ⌜ Advances (now (file .entry)) sizes anyReady inputsWalk (now (work .entry)) (now (out .entry)) p (now (work .exit)) (now (out .exit)) r ⌝ }
 {
     let mut q = p;
     let mut i = 0;
-    while i < count {
-        let n = index::get(work, k, index::INPUT_TERM, i as usize);
-        q = term_walk::encode_term(file, work, k, many, out, limit, q, n);
+    while i < sizes.inputs {
+        let n = index::get(work, sizes.rows, index::INPUT_TERM, i as usize);
+        q = walk_terms::encode_term(file, work, sizes, out, q, n);
         i += 1;
     }
     q

@@ -4,9 +4,10 @@ pub mod inputs;
 pub mod print;
 pub mod start;
 
-use progress::Progress;
-use term_check::Filled;
-use writer::Written;
+use check_file::Filled;
+use index::Sizes;
+use walk_names::progress::Progress;
+use write_bytes::Written;
 ghost use Rattle.encoder.specs.Promise.{Encodes};
 ghost use Rattle.encoder.specs.Ending.{TurnsBack, Refuses, Finishes, Closes, EncodesRecords};
 
@@ -20,7 +21,7 @@ pub enum Encoded {
 fn turn_back(script: &mut [u8], number: u32, place: u32) -> Encoded
     ensures { λ r. ⌜ TurnsBack (now (script .entry)) number place (now (script .exit)) r ⌝ }
 {
-    writer::clear(script, 0);
+    write_bytes::clear(script, 0);
     Encoded::Refused(number, place)
 }
 
@@ -28,7 +29,7 @@ fn turn_back(script: &mut [u8], number: u32, place: u32) -> Encoded
 fn refuse(work: &mut [u32], script: &mut [u8], number: u32, place: u32) -> Encoded
     ensures { λ r. ⌜ Refuses (now (work .entry)) (now (script .entry)) number place (now (work .exit)) (now (script .exit)) r ⌝ }
 {
-    writer::clear_words(work);
+    write_bytes::clear_words(work);
     turn_back(script, number, place)
 }
 
@@ -36,71 +37,64 @@ fn refuse(work: &mut [u32], script: &mut [u8], number: u32, place: u32) -> Encod
 fn finish(memory: &mut [u32], script: &mut [u8], at: usize) -> Encoded
     ensures { λ r. ⌜ Finishes (now (memory .entry)) (now (script .entry)) at (now (memory .exit)) (now (script .exit)) r ⌝ }
 {
-    writer::clear_words(memory);
-    match writer::finish(script, at) {
+    write_bytes::clear_words(memory);
+    match write_bytes::finish(script, at) {
         Written::Length(n) => Encoded::Script(n),
-        Written::NotUtf8 => Encoded::Refused(6, 0),
         Written::NoRoom => Encoded::Refused(20, 0),
     }
 }
 
 // Ends the walk: its refusal, at the first record equal to the refused term; or the assertions.
-fn close(
-    file: &[u8],
-    work: &mut [u32],
-    k: usize,
-    many: u32,
-    inputs: u32,
-    script: &mut [u8],
-    limit: usize,
-    p: Progress,
-) -> Encoded
-    ensures { λ r. ⌜ Closes (now (file .entry)) k many inputs limit p (now (work .entry)) (now (script .entry)) (now (work .exit)) (now (script .exit)) r ⌝ }
+fn close(file: &[u8], work: &mut [u32], sizes: Sizes, script: &mut [u8], p: Progress) -> Encoded
+    ensures { λ r. ⌜ Closes (now (file .entry)) sizes p (now (work .entry)) (now (script .entry)) (now (work .exit)) (now (script .exit)) r ⌝ }
 {
     if p.refused != 0 {
-        let n = index::get(work, k, index::TERM_FIRST, entry::wide(p.term));
-        let place = index::get(work, k, index::TERM_PLACE, entry::wide(n));
+        let n = index::get(
+            work,
+            sizes.rows,
+            index::TERM_FIRST,
+            index_entry::records::wide(p.term),
+        );
+        let place = index::get(
+            work,
+            sizes.rows,
+            index::TERM_PLACE,
+            index_entry::records::wide(n),
+        );
         return refuse(work, script, p.refused, place);
     }
-    let at = assertions::put_assertions(file, work, k, many, inputs, script, p.at, limit);
+    let at = assertions::put_assertions(file, work, sizes, script, p.at, p.limit);
     finish(work, script, at)
 }
 
-// Encodes the records of an accepted file, whose index the working memory is, with so many enums and inputs.
-fn encode_records(
-    file: &[u8],
-    work: &mut [u32],
-    many: u32,
-    inputs: u32,
-    script: &mut [u8],
-) -> Encoded
-    ensures { λ r. ⌜ EncodesRecords (now (file .entry)) many inputs (now (work .entry)) (now (script .entry)) (now (work .exit)) (now (script .exit)) r ⌝ }
+// Encodes the records of an accepted file, whose index the working memory is.
+fn encode_records(file: &[u8], work: &mut [u32], sizes: Sizes, script: &mut [u8]) -> Encoded
+    ensures { λ r. ⌜ EncodesRecords (now (file .entry)) sizes (now (work .entry)) (now (script .entry)) (now (work .exit)) (now (script .exit)) r ⌝ }
 {
-    let k = index::capacity(file.len());
     let limit = script.len();
-    let at = start::put_start(script, 0, limit);
+    let at = start::put_start(script, limit);
     let p = Progress {
         at,
+        limit,
         types: 0,
         funs: 0,
         terms: 0,
         refused: 0,
         term: 0,
     };
-    let q = inputs::encode_inputs(file, work, k, many, inputs, script, limit, p);
-    close(file, work, k, many, inputs, script, limit, q)
+    let q = inputs::encode_inputs(file, work, sizes, script, p);
+    close(file, work, sizes, script, q)
 }
 
 // Encodes a term file: the script and zeros past it, or a refusal and zeros alone. The working memory is all zero afterwards.
 pub fn encode(file: &[u8], work: &mut [u32], script: &mut [u8]) -> Encoded
     ensures { λ r. ⌜ Encodes (now (file .entry)) (now (work .entry)) (now (script .entry)) (now (work .exit)) (now (script .exit)) r ⌝ }
 {
-    match term_check::fill(file, work) {
+    match check_file::fill(file, work) {
         Filled::Refused(n, place) => turn_back(script, n, place),
-        Filled::Done(c) => {
-            let k = index::capacity(file.len());
-            positions::lists::make_lists(file, work, k, c.terms, c.types, c.enums);
-            encode_records(file, work, c.enums, c.inputs, script)
+        Filled::Done(sizes) => {
+            walk_queries::lists::make_lists(file, work, sizes);
+            encode_records(file, work, sizes, script)
         }
     }
 }

@@ -1,16 +1,21 @@
 // What every script starts with.
+use smtlib_script::line::Word;
 ghost use Rattle.script_spec.specs.Command.{script};
 ghost use Rattle.script_spec.specs.Walk.{start};
-ghost use Rattle.writer.specs.Writing.{Appends};
+ghost use Rattle.write_bytes.specs.Writing.{Wrote};
 
-// Writes the declaration of the Option type.
-pub fn put_start(out: &mut [u8], at: usize, limit: usize) -> usize
-    ensures { λ r. ⌜ Appends limit (now (out .entry)) at (now (out .exit)) r (script (start .commands)) ⌝ }
+// Writes the declaration of the Option type as a line.
+pub fn put_start(rest: &mut [u8], room: usize) -> usize
+    ensures { λ r. ⌜ Wrote room (now (rest .entry)) (now (rest .exit)) r (script (start .commands)) ⌝ }
 {
-    writer::put_at(
-        out,
-        at,
-        limit,
-        b"(declare-datatype Option (par (X) (\n  (none)\n  (some (val X)))))\n",
+    if room == 0 {
+        return 1;
+    }
+    let a = smtlib_script::line::put_word(rest, 0, room, Word::DeclareDatatype);
+    write_bytes::put_at(
+        rest,
+        a,
+        room,
+        b"Option (par (X) (\n  (none)\n  (some (val X)))))\n",
     )
 }

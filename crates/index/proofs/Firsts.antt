@@ -13,15 +13,11 @@ use lib.ListN.{length, getD}
 use Rattle.script_spec.specs.Base.{place, placeFrom}
 use Rattle.script_spec.specs.Tree.{eqTy, eqFun, eqTm}
 use Rattle.script_spec.specs.File.{TermFile, types, funs, terms, typeAt, funAt, termAt}
-use Rattle.script_spec.proofs.Laws.{eqTy-eq, eqTy-refl, eqFun-eq, eqFun-refl, eqTm-eq, eqTm-refl, is-true}
+use Rattle.script_spec.proofs.Laws.{eqTy-eq, eqTy-refl, eqFun-eq, eqFun-refl, eqTm-eq, eqTm-refl, is-true, never-true}
 pub use Rattle.script_spec.proofs.Laws.{any-place}
 use Rattle.index.specs.First.{orElse, first, firstType, firstFun, firstTerm}
 
 -- ---- places
-
-is-no : (b : Bool) → (T b → ⊥) → b ≡ false
-is-no true h = absurd (h tt)
-is-no false h = refl
 
 -- the first place in xs that passes is no later than k
 record Found {A : Type 0} (p : A → Bool) (d : A) (xs : List A) (k : ℕ) : Type 0 where
@@ -53,7 +49,7 @@ module _ {A : Type 0} (p : A → Bool) (d : A) where
   pub place-none : (xs : List A) → ((k : ℕ) → k < length xs → T (p (getD xs k d)) → ⊥) → place p xs ≡ none
   unfolding place placeFrom
   place-none [] h = refl
-  place-none (x ∷ xs) h = rw (is-no (p x) (h zero (suc-le-suc zero-le)), place-none xs (λ k l. h (suc k) (suc-le-suc l)))
+  place-none (x ∷ xs) h = rw (never-true (p x) (h zero (suc-le-suc zero-le)), place-none xs (λ k l. h (suc k) (suc-le-suc l)))
 
 -- ---- numbers of first equal records
 

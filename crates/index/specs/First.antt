@@ -21,20 +21,22 @@ orElse n (some m) = m
 unfoldable pub first : {A : Type 0} → (A → A → Bool) → List A → A → ℕ
 first eq xs x = orElse zero (place (eq x) xs)
 
--- the number of the first record that is equal to the type, function or term with number n
+-- the number of the first record that is equal to the type with number n
 unfoldable pub firstType : TermFile → ℕ → ℕ
 firstType f n = first eqTy (types f) (typeAt f n)
 
+-- that of the function
 unfoldable pub firstFun : TermFile → ℕ → ℕ
 firstFun f n = first eqFun (funs f) (funAt f n)
 
+-- that of the term
 unfoldable pub firstTerm : TermFile → ℕ → ℕ
 firstTerm f n = first eqTm (terms f) (termAt f n)
 
 -- ---- entries
 
--- a mark with other names for its function and its type
 module _ {R R′ F F′ : Type 0} (types : R → R′) (funs : F → F′) where
+  -- an operator with another name for its function
   unfoldable pub renamedOp : Op F → Op F′
   renamedOp (Plain o) = Plain o
   renamedOp (Ext o) = Ext o
@@ -43,6 +45,7 @@ module _ {R R′ F F′ : Type 0} (types : R → R′) (funs : F → F′) where
   renamedOp (Uuf g) = Uuf (funs g)
   renamedOp (ZeroExtend n) = ZeroExtend n
 
+  -- a mark with other names for its type and its function
   unfoldable pub renamed : TermMark R F → TermMark R′ F′
   renamed (Var id ty) = Var id (types ty)
   renamed (BoolLit b) = BoolLit b
@@ -80,6 +83,7 @@ unfoldable pub Below : ℕ → List ℕ → Type 0
 Below count ns = All (λ n. n < count) ns
 
 module _ (e : Earlier) where
+  -- the reference of an operator is to an earlier record
   unfoldable pub OpInRange : Op ℕ → Type 0
   OpInRange (Plain o) = Unit {0}
   OpInRange (Ext o) = Unit {0}
@@ -88,6 +92,7 @@ module _ (e : Earlier) where
   OpInRange (Uuf n) = n < e .funs
   OpInRange (ZeroExtend n) = Unit {0}
 
+  -- the references of a mark are to earlier records
   unfoldable pub MarkInRange : TermMark ℕ ℕ → Type 0
   MarkInRange (Var id n) = n < e .types
   MarkInRange (BoolLit b) = Unit {0}

@@ -3,13 +3,13 @@ use crate::lines::line;
 
 fn decimal(n: u64) {
     let mut out = [0u8; 32];
-    let end = numeral::put_decimal(&mut out, 0, 32, n);
+    let end = write_numeral::put_decimal(&mut out, 0, 32, n);
     line(&out, end);
 }
 
 fn hex(n: u64) {
     let mut out = [0u8; 32];
-    let end = numeral::put_hex(&mut out, 0, 32, n);
+    let end = write_numeral::put_hex(&mut out, 0, 32, n);
     line(&out, end);
 }
 

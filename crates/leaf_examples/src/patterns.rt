@@ -3,7 +3,7 @@ use crate::lines::line;
 
 fn regex(p: &[u8]) {
     let mut out = [0u8; 128];
-    let n = pattern::put_pattern(&mut out, 0, 128, p);
+    let n = write_pattern::put_pattern(&mut out, 0, 128, p);
     line(&out, n);
 }
 

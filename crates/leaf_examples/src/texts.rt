@@ -3,7 +3,7 @@ use crate::lines::line;
 
 fn literal(s: &[u8]) {
     let mut out = [0u8; 128];
-    let n = text::put_literal(&mut out, 0, 128, s);
+    let n = write_text::put_literal(&mut out, 0, 128, s);
     line(&out, n);
 }
 
@@ -37,7 +37,7 @@ pub fn code_points() {
 
 fn id(s: &[u8]) {
     let mut out = [0u8; 128];
-    let n = text::put_debug(&mut out, 0, 128, s);
+    let n = write_text::put_debug(&mut out, 0, 128, s);
     line(&out, n);
 }
 
@@ -53,6 +53,6 @@ pub fn ids() {
 // Document 01, smtlib_script.rs: bytes 10 and 13 become spaces.
 pub fn comments() {
     let mut out = [0u8; 128];
-    let n = text::put_comment_text(&mut out, 0, 128, b"one\ntwo\r\nthree\\\"");
+    let n = write_text::put_comment_text(&mut out, 0, 128, b"one\ntwo\r\nthree\\\"");
     line(&out, n);
 }

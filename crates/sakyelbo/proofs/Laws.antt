@@ -11,14 +11,14 @@ use Rattle.script_spec.specs.File.{TermFile, checked}
 use Rattle.script_spec.specs.Command.{Command, commandWritten, left}
 use Rattle.script_spec.specs.Walk.{encoded}
 use Rattle.script_spec.proofs.Demand.{encoded-faithful}
-use Rattle.writer.specs.declared.Written.{Written}
-use Rattle.writer.specs.Writing.{answer, lengthOf}
-use Rattle.smtlib_script.specs.Writes.{Writes}
-use Rattle.term_check.specs.declared.Checked.{Checked}
-use Rattle.term_check.specs.Promise.{checkedAs, Checks}
+use Rattle.write_bytes.specs.Writing.{lengthOf}
+use Rattle.smtlib_script.specs.declared.commands.WrittenCommand.{WrittenCommand}
+use Rattle.smtlib_script.specs.Writes.{commandAnswer, Writes}
+use Rattle.check_file.specs.declared.Checked.{Checked}
+use Rattle.check_file.specs.Promise.{checkedAs, withoutRecords, Checks}
 use Rattle.encoder.specs.declared.Encoded.{Encoded}
 use Rattle.encoder.specs.Promise.{encodedAs, Encodes}
-use Rattle.sakyelbo.specs.Answers.{code, sizeOf, checkedCode, Says}
+use Rattle.sakyelbo.specs.Answers.{code, sizeOf, Says}
 use Rattle.sakyelbo.specs.Promise.{ChecksFile, EncodesFile, WritesCommand}
 use Rattle.sakyelbo.proofs.Numbers.{Numbered, checked-numbered, encoded-numbered, command-numbered}
 
@@ -32,11 +32,11 @@ pub says-refusal : {a : Answer ℕ} {n p r : ℕ} → a ≡ refused n p → r �
 unfolding code sizeOf
 says-refusal {r = r} e h = subst (λ (a : Answer ℕ). Says a 0 r) (sym e) (record { number = h; size = refl })
 
--- check's answer as a number is document 01's answer as one
-code-checkedAs : (a : Answer TermFile) → checkedCode (checkedAs a) ≡ code a
-unfolding checkedAs checkedCode code
-code-checkedAs (accepted f) = refl
-code-checkedAs (refused n p) = refl
+-- the number of an answer is that of the answer without its records
+code-withoutRecords : (a : Answer TermFile) → code (withoutRecords a) ≡ code a
+unfolding withoutRecords code
+code-withoutRecords (accepted f) = refl
+code-withoutRecords (refused n p) = refl
 
 -- ---- the number 0
 
@@ -70,9 +70,9 @@ module _ (w : Answer Bytes) (room : ℕ) {y : Bytes} {n r : ℕ} (S : Says (leng
 -- ---- promises
 
 -- check's promise
-pub checks-file : {file : Bytes} {work work′ : List ℕ} {c : Checked} {r : ℕ} → Checks file work work′ c → r ≡ checkedCode c → ChecksFile file work work′ r
+pub checks-file : {file : Bytes} {work work′ : List ℕ} {c : Checked} {r : ℕ} → Checks file work work′ c → r ≡ code (checkedAs c) → ChecksFile file work work′ r
 checks-file {file} {work} {r = r} k e =
-    let is : r ≡ code (checked file (length work)) = e ∙ (ap checkedCode (k .answer) ∙ code-checkedAs (checked file (length work))) in
+    let is : r ≡ code (checked file (length work)) = e ∙ (ap code (k .answer) ∙ code-withoutRecords (checked file (length work))) in
     record {
       answer = is;
       accepts = λ z. code-zero (checked file (length work)) (checked-numbered file (length work)) (sym is ∙ z);
@@ -80,7 +80,7 @@ checks-file {file} {work} {r = r} k e =
     }
 
 -- the promise of a call that writes a command
-pub writes-command : {c : Command} {x y : Bytes} {w : Written} {n r : ℕ} → Writes c x y w → Says (answer w) n r → WritesCommand c x y n r
+pub writes-command : {c : Command} {x y : Bytes} {w : WrittenCommand} {n r : ℕ} → Writes c x y w → Says (commandAnswer w) n r → WritesCommand c x y n r
 writes-command {c} {x} {n = n} {r = r} k s =
     let says : Says (lengthOf (commandWritten c (length x))) n r = subst (λ (a : Answer ℕ). Says a n r) (k .leaves .says) s in
     record { says = says; accepts = starts-zero (commandWritten c (length x)) (length x) says (k .leaves .holds) (command-numbered c (length x)); holds = k .leaves .holds }

@@ -20,6 +20,7 @@ use Rattle.script_spec.specs.Walk.{encoding, encoded}
 use Rattle.script_spec.specs.Faithful.{Every, every, also}
 use Rattle.script_spec.proofs.Lists.{every-append}
 use Rattle.script_spec.proofs.Demand.{encoding-refusal}
+use Rattle.script_spec.proofs.Laws.{either-way}
 use Rattle.sakyelbo.proofs.Readers.{OfField, five, six, seven, eight, Reading, read, refusal, Reads, mark-reads, reading-whole}
 
 -- a number from 1 to a greatest one
@@ -41,11 +42,6 @@ module _ {A : Type 0} where
 
   numbered-refusal : (greatest n p : ℕ) → Within greatest n → Numbered {A = A} greatest (refused n p)
   numbered-refusal greatest n p w = record { number = λ m q e. let h : n ≡ m = cc in record { least = omega arith; most = omega arith } }
-
--- what both branches have
-either-way : {A : Type 0} (P : A → Type 0) (x y : A) (b : Bool) → P x → P y → P (elim b [ false ↦ x | true ↦ y ])
-either-way P x y true h k = k
-either-way P x y false h k = h
 
 -- ---- rules
 

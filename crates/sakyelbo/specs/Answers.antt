@@ -3,8 +3,6 @@
 use mathlib.Core.Path.{_≡_}
 use Prim.Native.Nat.{ℕ, _+_, _*_}
 use Rattle.script_spec.specs.Base.{Answer, accepted, refused}
-use Rattle.term_check.specs.declared.Checked.{Checked}
-use Rattle.term_check.specs.declared.Checked.the-variants.{Accepted, Refused}
 
 -- an answer as one number
 unfoldable pub code : {A : Type 0} → Answer A → ℕ
@@ -15,11 +13,6 @@ code (refused n p) = n * 4294967296 + p
 unfoldable pub sizeOf : Answer ℕ → ℕ
 sizeOf (accepted n) = n
 sizeOf (refused n p) = 0
-
--- check's answer as one number
-unfoldable pub checkedCode : Checked → ℕ
-checkedCode Accepted = 0
-checkedCode (Refused n p) = n * 4294967296 + p
 
 -- a call that writes says an answer by a number r and a size n
 pub record Says (a : Answer ℕ) (n r : ℕ) : Type 0 where

@@ -9,7 +9,7 @@ use Rattle.script_spec.specs.File.{TermFile, checked}
 use Rattle.script_spec.specs.Command.{Command, commandWritten, left}
 use Rattle.script_spec.specs.Walk.{encoded}
 use Rattle.script_spec.specs.Faithful.{Faithful}
-use Rattle.writer.specs.Writing.{lengthOf}
+use Rattle.write_bytes.specs.Writing.{lengthOf}
 use Rattle.sakyelbo.specs.Answers.{code, Says}
 
 -- check's promise on a file, the memory at entry and at exit, and its answer

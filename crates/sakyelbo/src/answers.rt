@@ -1,12 +1,13 @@
 // Answers as numbers.
+use check_file::Checked;
 use encoder::Encoded;
-use term_check::Checked;
-use writer::Written;
+use smtlib_script::commands::WrittenCommand;
 ghost use mathlib.Core.Path.{_≡_};
 ghost use Prim.Native.Nat.{_+_, _*_};
-ghost use Rattle.writer.specs.Writing.{answer};
+ghost use Rattle.smtlib_script.specs.Writes.{commandAnswer};
 ghost use Rattle.encoder.specs.Promise.{encodedAs};
-ghost use Rattle.sakyelbo.specs.Answers.{checkedCode, Says};
+ghost use Rattle.check_file.specs.Promise.{checkedAs};
+ghost use Rattle.sakyelbo.specs.Answers.{code, Says};
 
 // A refusal as one number.
 fn refusal(number: u32, place: u32) -> u64
@@ -17,7 +18,7 @@ fn refusal(number: u32, place: u32) -> u64
 
 // Check's answer as one number.
 pub fn of_check(checked: Checked) -> u64
-    ensures { λ r. ⌜ r ≡ checkedCode checked ⌝ }
+    ensures { λ r. ⌜ r ≡ code (checkedAs checked) ⌝ }
 {
     match checked {
         Checked::Accepted => 0,
@@ -25,20 +26,20 @@ pub fn of_check(checked: Checked) -> u64
     }
 }
 
-// The answer of a call that writes: the length behind `size`, and the number.
-pub fn of_write(written: Written, size: &mut usize) -> u64
-    ensures { λ r. ⌜ Says (answer written) (now (size .exit)) r ⌝ }
+// The answer of a call that writes a command: the length behind `size`, and the number.
+pub fn of_command(written: WrittenCommand, size: &mut usize) -> u64
+    ensures { λ r. ⌜ Says (commandAnswer written) (now (size .exit)) r ⌝ }
 {
     match written {
-        Written::Length(n) => {
+        WrittenCommand::Length(n) => {
             *size = n;
             0
         }
-        Written::NotUtf8 => {
+        WrittenCommand::NotUtf8 => {
             *size = 0;
             refusal(6, 0)
         }
-        Written::NoRoom => {
+        WrittenCommand::NoRoom => {
             *size = 0;
             refusal(20, 0)
         }

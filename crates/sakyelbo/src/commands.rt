@@ -9,7 +9,7 @@ pub extern "C" fn sakyelbo_comment(comment: &[u8], out: &mut [u8], size: &mut us
     ensures { λ r. ⌜ WritesCommand (command.comment (now (comment .entry)))
         (now (out .entry)) (now (out .exit)) (now (size .exit)) r ⌝ }
 {
-    crate::answers::of_write(smtlib_script::comment(comment, out), size)
+    crate::answers::of_command(smtlib_script::commands::comment(comment, out), size)
 }
 
 // `(declare-datatype ID (CONSTRUCTORS))`, or `(declare-datatype ID (par (PARAMS) (CONSTRUCTORS)))`.
@@ -24,8 +24,8 @@ pub extern "C" fn sakyelbo_declare_datatype(
     ensures { λ r. ⌜ WritesCommand (command.declareDatatype (now (id .entry)) (map now (now (params .entry))) (map now (now (constructors .entry))))
         (now (out .entry)) (now (out .exit)) (now (size .exit)) r ⌝ }
 {
-    crate::answers::of_write(
-        smtlib_script::declare_datatype(id, params, constructors, out),
+    crate::answers::of_command(
+        smtlib_script::commands::declare_datatype(id, params, constructors, out),
         size,
     )
 }
@@ -41,7 +41,7 @@ pub extern "C" fn sakyelbo_declare_const(
     ensures { λ r. ⌜ WritesCommand (command.declareConst (now (id .entry)) (now (sort .entry)))
         (now (out .entry)) (now (out .exit)) (now (size .exit)) r ⌝ }
 {
-    crate::answers::of_write(smtlib_script::declare_const(id, sort, out), size)
+    crate::answers::of_command(smtlib_script::commands::declare_const(id, sort, out), size)
 }
 
 // `(declare-fun ID (ARGS) SORT)`.
@@ -56,7 +56,10 @@ pub extern "C" fn sakyelbo_declare_fun(
     ensures { λ r. ⌜ WritesCommand (command.declareFun (now (id .entry)) (map now (now (args .entry))) (now (sort .entry)))
         (now (out .entry)) (now (out .exit)) (now (size .exit)) r ⌝ }
 {
-    crate::answers::of_write(smtlib_script::declare_fun(id, args, sort, out), size)
+    crate::answers::of_command(
+        smtlib_script::commands::declare_fun(id, args, sort, out),
+        size,
+    )
 }
 
 // `(define-fun ID (ARGS) SORT BODY)`; an argument is a name of `names` with the sort at its place in `sorts`.
@@ -73,8 +76,8 @@ pub extern "C" fn sakyelbo_define_fun(
     ensures { λ r. ⌜ WritesCommand (command.defineFun (now (id .entry)) (zip (map now (now (names .entry))) (map now (now (sorts .entry)))) (now (sort .entry)) (now (body .entry)))
         (now (out .entry)) (now (out .exit)) (now (size .exit)) r ⌝ }
 {
-    crate::answers::of_write(
-        smtlib_script::define_fun(id, names, sorts, sort, body, out),
+    crate::answers::of_command(
+        smtlib_script::commands::define_fun(id, names, sorts, sort, body, out),
         size,
     )
 }
@@ -85,7 +88,7 @@ pub extern "C" fn sakyelbo_assert_that(body: &[u8], out: &mut [u8], size: &mut u
     ensures { λ r. ⌜ WritesCommand (command.assertThat (now (body .entry)))
         (now (out .entry)) (now (out .exit)) (now (size .exit)) r ⌝ }
 {
-    crate::answers::of_write(smtlib_script::assert_that(body, out), size)
+    crate::answers::of_command(smtlib_script::commands::assert_that(body, out), size)
 }
 
 // `(set-logic LOGIC)`.
@@ -94,7 +97,7 @@ pub extern "C" fn sakyelbo_set_logic(logic: &[u8], out: &mut [u8], size: &mut us
     ensures { λ r. ⌜ WritesCommand (command.setLogic (now (logic .entry)))
         (now (out .entry)) (now (out .exit)) (now (size .exit)) r ⌝ }
 {
-    crate::answers::of_write(smtlib_script::set_logic(logic, out), size)
+    crate::answers::of_command(smtlib_script::commands::set_logic(logic, out), size)
 }
 
 // `(set-option :OPTION VALUE)`.
@@ -108,7 +111,10 @@ pub extern "C" fn sakyelbo_set_option(
     ensures { λ r. ⌜ WritesCommand (command.setOption (now (option .entry)) (now (value .entry)))
         (now (out .entry)) (now (out .exit)) (now (size .exit)) r ⌝ }
 {
-    crate::answers::of_write(smtlib_script::set_option(option, value, out), size)
+    crate::answers::of_command(
+        smtlib_script::commands::set_option(option, value, out),
+        size,
+    )
 }
 
 // `(check-sat)`.
@@ -117,7 +123,7 @@ pub extern "C" fn sakyelbo_check_sat(out: &mut [u8], size: &mut usize) -> u64
     ensures { λ r. ⌜ WritesCommand command.checkSat
         (now (out .entry)) (now (out .exit)) (now (size .exit)) r ⌝ }
 {
-    crate::answers::of_write(smtlib_script::check_sat(out), size)
+    crate::answers::of_command(smtlib_script::commands::check_sat(out), size)
 }
 
 // `(get-model)`.
@@ -126,7 +132,7 @@ pub extern "C" fn sakyelbo_get_model(out: &mut [u8], size: &mut usize) -> u64
     ensures { λ r. ⌜ WritesCommand command.getModel
         (now (out .entry)) (now (out .exit)) (now (size .exit)) r ⌝ }
 {
-    crate::answers::of_write(smtlib_script::get_model(out), size)
+    crate::answers::of_command(smtlib_script::commands::get_model(out), size)
 }
 
 // `(reset)`.
@@ -135,7 +141,7 @@ pub extern "C" fn sakyelbo_reset(out: &mut [u8], size: &mut usize) -> u64
     ensures { λ r. ⌜ WritesCommand command.reset
         (now (out .entry)) (now (out .exit)) (now (size .exit)) r ⌝ }
 {
-    crate::answers::of_write(smtlib_script::reset(out), size)
+    crate::answers::of_command(smtlib_script::commands::reset(out), size)
 }
 
 // `(exit)`.
@@ -144,5 +150,5 @@ pub extern "C" fn sakyelbo_exit(out: &mut [u8], size: &mut usize) -> u64
     ensures { λ r. ⌜ WritesCommand command.exit
         (now (out .entry)) (now (out .exit)) (now (size .exit)) r ⌝ }
 {
-    crate::answers::of_write(smtlib_script::exit(out), size)
+    crate::answers::of_command(smtlib_script::commands::exit(out), size)
 }

@@ -10,7 +10,7 @@ ghost use Rattle.sakyelbo.specs.Promise.{ChecksFile, EncodesFile};
 pub extern "C" fn sakyelbo_check(file: &[u8], work: &mut [u32]) -> u64
     ensures { λ r. ⌜ ChecksFile (now (file .entry)) (now (work .entry)) (now (work .exit)) r ⌝ }
 {
-    answers::of_check(term_check::check(file, work))
+    answers::of_check(check_file::check(file, work))
 }
 
 // Encodes a file: the script and zeros past it, and its length behind `size`; or zeros alone. The memory is all zero afterwards.

@@ -1,5 +1,4 @@
 -- The examples, by subject.
-
 -- the marked examples: files, scripts, outcomes
 pub mod Records
 pub mod Lines

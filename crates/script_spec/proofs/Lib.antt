@@ -1,5 +1,4 @@
 -- The theorems about the definitions, by subject.
-
 -- laws of tests and lists, and a name for each module's definitions
 pub mod Laws
 pub mod Lists

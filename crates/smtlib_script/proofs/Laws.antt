@@ -13,10 +13,10 @@ use denote.Ref.{RefT, now}
 use Rattle.script_spec.specs.Base.{Bytes, refused, all, collect}
 use Rattle.script_spec.specs.Utf8.{isUtf8}
 use Rattle.script_spec.specs.Command.{Command, given, line, commandWritten}
-use Rattle.writer.specs.declared.Written.{Written}
-use Rattle.writer.specs.Writing.{Appends, Finishes, Leaves}
-use Rattle.writer.proofs.Laws.{finished}
-use Rattle.smtlib_script.specs.Writes.{Writes}
+use Rattle.write_bytes.specs.Writing.{Wrote, Finishes, Leaves}
+use Rattle.write_bytes.proofs.Laws.{finished-line}
+use Rattle.smtlib_script.specs.declared.commands.WrittenCommand.{WrittenCommand}
+use Rattle.smtlib_script.specs.Writes.{commandAnswer, Writes}
 
 not-true : (b : Bool) → not b ≡ true → b ≡ false
 not-true true h = absurd (false≢true h)
@@ -29,14 +29,14 @@ not-false false h = absurd (true≢false h)
 -- ---- the two ways out
 
 -- a text is not UTF-8
-pub refuses : {c : Command} {x y : Bytes} {r : Written} {b : Bool} → b ≡ all isUtf8 (given c) → not b ≡ true → Leaves x y r (refused 6 0) → Writes c x y r
+pub refuses : {c : Command} {x y : Bytes} {r : WrittenCommand} {b : Bool} → b ≡ all isUtf8 (given c) → not b ≡ true → Leaves x y (commandAnswer r) (refused 6 0) → Writes c x y r
 unfolding commandWritten
 refuses {b = b} e h l = record { leaves = rw (sym e ∙ not-true b h, commandWritten) l }
 
 -- all texts are UTF-8, and the command's line is written from the start of the buffer
-pub writes : {c : Command} {x y z : Bytes} {at : ℕ} {r : Written} {b : Bool} → b ≡ all isUtf8 (given c) → not b ≡ false → Appends (length x) x 0 y at (line c) → Finishes y at z r → Writes c x z r
+pub writes : {c : Command} {x y z : Bytes} {at : ℕ} {r : WrittenCommand} {b : Bool} → b ≡ all isUtf8 (given c) → not b ≡ false → Wrote (length x) x y at (line c) → Finishes y at z (commandAnswer r) → Writes c x z r
 unfolding commandWritten
-writes {b = b} e h f g = record { leaves = rw (sym e ∙ not-false b h, commandWritten) (finished f g) }
+writes {b = b} e h f g = record { leaves = rw (sym e ∙ not-false b h, commandWritten) (finished-line f g) }
 
 -- ---- the tests of a command's texts
 

@@ -11,7 +11,7 @@ pub fn are_utf8(texts: &[&[u8]]) -> bool
     let mut i = 0;
     while i < texts.len() {
         let t = texts[i];
-        if !utf8::is_utf8(t) {
+        if !read_utf8::is_utf8(t) {
             return false;
         }
         i += 1;

@@ -1,5 +1,5 @@
 // Writes each command once, and then a refusal of each kind, to standard output.
-use writer::Written;
+use smtlib_script::commands::WrittenCommand;
 
 // Writes the first n bytes.
 fn write_first(out: &[u8], n: usize) {
@@ -9,13 +9,13 @@ fn write_first(out: &[u8], n: usize) {
 }
 
 // Writes what a call left in its buffer, or its refusal.
-fn show(answer: Written, out: &[u8]) {
+fn show(answer: WrittenCommand, out: &[u8]) {
     match answer {
-        Written::Length(n) => write_first(out, n),
-        Written::NotUtf8 => {
+        WrittenCommand::Length(n) => write_first(out, n),
+        WrittenCommand::NotUtf8 => {
             io::write_all(1, b"refused 6 record 0\n");
         }
-        Written::NoRoom => {
+        WrittenCommand::NoRoom => {
             io::write_all(1, b"refused 20 record 0\n");
         }
     }
@@ -23,47 +23,47 @@ fn show(answer: Written, out: &[u8]) {
 
 // Commands without texts.
 fn plain(out: &mut [u8]) {
-    let a = smtlib_script::reset(out);
+    let a = smtlib_script::commands::reset(out);
     show(a, out);
-    let b = smtlib_script::check_sat(out);
+    let b = smtlib_script::commands::check_sat(out);
     show(b, out);
-    let c = smtlib_script::get_model(out);
+    let c = smtlib_script::commands::get_model(out);
     show(c, out);
-    let d = smtlib_script::exit(out);
+    let d = smtlib_script::commands::exit(out);
     show(d, out);
 }
 
 // What a script begins with.
 fn preamble(out: &mut [u8]) {
-    let a = smtlib_script::set_logic(b"ALL", out);
+    let a = smtlib_script::commands::set_logic(b"ALL", out);
     show(a, out);
-    let b = smtlib_script::set_option(b"produce-models", b"true", out);
+    let b = smtlib_script::commands::set_option(b"produce-models", b"true", out);
     show(b, out);
-    let c = smtlib_script::comment(b"two\nlines\r", out);
+    let c = smtlib_script::commands::comment(b"two\nlines\r", out);
     show(c, out);
 }
 
 // A constant and an assertion.
 fn constant(out: &mut [u8]) {
-    let a = smtlib_script::declare_const(b"t0", b"Bool", out);
+    let a = smtlib_script::commands::declare_const(b"t0", b"Bool", out);
     show(a, out);
-    let b = smtlib_script::assert_that(b"(not t0)", out);
+    let b = smtlib_script::commands::assert_that(b"(not t0)", out);
     show(b, out);
 }
 
 // A datatype with parameters, and one without.
 fn declare_datatypes(params: &[&[u8]], constructors: &[&[u8]], out: &mut [u8]) {
-    let a = smtlib_script::declare_datatype(b"Option", params, constructors, out);
+    let a = smtlib_script::commands::declare_datatype(b"Option", params, constructors, out);
     show(a, out);
-    let b = smtlib_script::declare_datatype(b"E0", &params[..0], constructors, out);
+    let b = smtlib_script::commands::declare_datatype(b"E0", &params[..0], constructors, out);
     show(b, out);
 }
 
 // Functions of two arguments.
 fn functions(names: &[&[u8]], sorts: &[&[u8]], out: &mut [u8]) {
-    let a = smtlib_script::declare_fun(b"f0", sorts, b"Bool", out);
+    let a = smtlib_script::commands::declare_fun(b"f0", sorts, b"Bool", out);
     show(a, out);
-    let b = smtlib_script::define_fun(b"t1", names, sorts, b"Bool", b"(f0 x y)", out);
+    let b = smtlib_script::commands::define_fun(b"t1", names, sorts, b"Bool", b"(f0 x y)", out);
     show(b, out);
 }
 
@@ -77,13 +77,13 @@ fn lists<'a>(x: &'a [u8], y: &'a [u8], out: &mut [u8]) {
 
 // A text that is not UTF-8, room that is one byte short, and room that is just enough.
 fn refusals(out: &mut [u8]) {
-    let a = smtlib_script::assert_that(b"\xc0\x80", out);
+    let a = smtlib_script::commands::assert_that(b"\xc0\x80", out);
     show(a, out);
     let mut short = [0; 6];
-    let b = smtlib_script::exit(&mut short);
+    let b = smtlib_script::commands::exit(&mut short);
     show(b, &short);
     let mut enough = [0; 7];
-    let c = smtlib_script::exit(&mut enough);
+    let c = smtlib_script::commands::exit(&mut enough);
     show(c, &enough);
 }
 

@@ -8,22 +8,22 @@ use Rattle.encoder.proofs.assertions.put_assertions.Statement.{statemen
 use Rattle.encoder.proofs.assertions.put_assertions.Tie as tie
 
 abbrev Inv-loop : tie.InvT-loop
-Inv-loop file work k many count out₀ at limit to₀ i₀ out to i = Asserting file work k many count limit out₀ to₀ i out to
+Inv-loop file work sizes out₀ at limit to₀ i₀ out to i = Asserting file work sizes limit out₀ to₀ i out to
 
 abbrev μ-loop : tie.MeasureT-loop
-μ-loop file work k many count out₀ at limit to₀ i₀ out to i = count - i
+μ-loop file work sizes out₀ at limit to₀ i₀ out to i = sizes .inputs - i
 
 loop-holds : tie.Need-loop-holds Inv-loop μ-loop
-loop-holds c = asserting-start _ _ _ _ _ _ _ _
+loop-holds c = asserting-start _ _ _ _ _ _
 
 loop-again : tie.Need-loop-again Inv-loop μ-loop
-loop-again c = asserting-on _ _ _ _ _ _ c.before.before.before.before.before.before.loop.inv c.before.before.before.before.before.loop-test.taken c.before.before.before.before.get.ensures c.before.before.put-assertion.ensures (c.before.before.put-assertion.kept .1 .1 .1 .1 .0)
+loop-again c = asserting-on _ _ _ _ c.before.before.before.before.before.before.before.before.before.before.loop.inv c.before.before.before.before.before.before.before.before.if1.taken c.before.before.before.before.before.before.before.get.ensures c.before.before.before.before.before.before.rest-from.ensures c.before.before.before.before.before.room.ensures c.before.before.before.put-assertion.ensures (c.before.before.before.put-assertion.kept .1 .1 .1 .0) c.past-line.ensures
 
 same-length : tie.Need-same-length Inv-loop μ-loop
-same-length c = c.before.loop.inv.size
+same-length c = c.before.before.loop.inv.size
 
 returns : tie.Need-returns Inv-loop μ-loop
-returns c = asserting-end _ _ _ _ _ _ c.before.loop.inv c.loop-test.left
+returns c = asserting-end _ _ _ _ c.before.before.loop.inv c.if1.left
 
 pub put-assertions-spec : {M : Type 1} → statement M
 put-assertions-spec =
@@ -31,7 +31,7 @@ put-assertions-spec =
     (tie.spec
     Inv-loop
     μ-loop
-    loop-holds (λ c. search needs) (λ c κs. search needs) (λ c κs. search needs) (λ c. search needs) (λ c. omega arith)
+    loop-holds (λ c. search needs) (λ c κs. search needs) (λ c κs. search needs) (λ c κs. search needs) (λ c. search needs) (λ c. search needs) (λ c. search needs) (λ c κs. search needs) (λ c κs. search needs) (λ c. search needs) (λ c. omega arith)
     loop-again
     same-length
     returns)

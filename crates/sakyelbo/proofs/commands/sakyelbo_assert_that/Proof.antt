@@ -6,7 +6,7 @@ use Rattle.sakyelbo.proofs.commands.sakyelbo_assert_that.Statement.{sta
 use Rattle.sakyelbo.proofs.commands.sakyelbo_assert_that.Tie as tie
 
 returns : tie.Need-returns
-returns c = writes-command c.before.before.before.before.assert-that.ensures c.of-write.ensures
+returns c = writes-command c.before.before.before.before.assert-that.ensures c.of-command.ensures
 
 pub sakyelbo-assert-that-spec : {M : Type 1} → statement M
 sakyelbo-assert-that-spec =

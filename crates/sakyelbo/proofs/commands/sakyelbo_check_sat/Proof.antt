@@ -6,7 +6,7 @@ use Rattle.sakyelbo.proofs.commands.sakyelbo_check_sat.Statement.{state
 use Rattle.sakyelbo.proofs.commands.sakyelbo_check_sat.Tie as tie
 
 returns : tie.Need-returns
-returns c = writes-command c.before.before.before.before.check-sat.ensures c.of-write.ensures
+returns c = writes-command c.before.before.before.before.check-sat.ensures c.of-command.ensures
 
 pub sakyelbo-check-sat-spec : {M : Type 1} → statement M
 sakyelbo-check-sat-spec =

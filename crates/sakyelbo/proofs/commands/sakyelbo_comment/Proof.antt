@@ -6,7 +6,7 @@ use Rattle.sakyelbo.proofs.commands.sakyelbo_comment.Statement.{stateme
 use Rattle.sakyelbo.proofs.commands.sakyelbo_comment.Tie as tie
 
 returns : tie.Need-returns
-returns c = writes-command c.before.before.before.before.comment.ensures c.of-write.ensures
+returns c = writes-command c.before.before.before.before.comment.ensures c.of-command.ensures
 
 pub sakyelbo-comment-spec : {M : Type 1} → statement M
 sakyelbo-comment-spec =

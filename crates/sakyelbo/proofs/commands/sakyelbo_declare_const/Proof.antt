@@ -6,7 +6,7 @@ use Rattle.sakyelbo.proofs.commands.sakyelbo_declare_const.Statement.{s
 use Rattle.sakyelbo.proofs.commands.sakyelbo_declare_const.Tie as tie
 
 returns : tie.Need-returns
-returns c = writes-command c.before.before.before.before.declare-const.ensures c.of-write.ensures
+returns c = writes-command c.before.before.before.before.declare-const.ensures c.of-command.ensures
 
 pub sakyelbo-declare-const-spec : {M : Type 1} → statement M
 sakyelbo-declare-const-spec =

@@ -6,7 +6,7 @@ use Rattle.sakyelbo.proofs.commands.sakyelbo_declare_datatype.Statement
 use Rattle.sakyelbo.proofs.commands.sakyelbo_declare_datatype.Tie as tie
 
 returns : tie.Need-returns
-returns c = writes-command c.before.before.before.before.declare-datatype.ensures c.of-write.ensures
+returns c = writes-command c.before.before.before.before.declare-datatype.ensures c.of-command.ensures
 
 pub sakyelbo-declare-datatype-spec : {M : Type 1} → statement M
 sakyelbo-declare-datatype-spec =

@@ -6,7 +6,7 @@ use Rattle.sakyelbo.proofs.commands.sakyelbo_declare_fun.Statement.{sta
 use Rattle.sakyelbo.proofs.commands.sakyelbo_declare_fun.Tie as tie
 
 returns : tie.Need-returns
-returns c = writes-command c.before.before.before.before.declare-fun.ensures c.of-write.ensures
+returns c = writes-command c.before.before.before.before.declare-fun.ensures c.of-command.ensures
 
 pub sakyelbo-declare-fun-spec : {M : Type 1} → statement M
 sakyelbo-declare-fun-spec =

@@ -6,7 +6,7 @@ use Rattle.sakyelbo.proofs.commands.sakyelbo_define_fun.Statement.{stat
 use Rattle.sakyelbo.proofs.commands.sakyelbo_define_fun.Tie as tie
 
 returns : tie.Need-returns
-returns c = writes-command c.before.before.before.before.define-fun.ensures c.of-write.ensures
+returns c = writes-command c.before.before.before.before.define-fun.ensures c.of-command.ensures
 
 pub sakyelbo-define-fun-spec : {M : Type 1} → statement M
 sakyelbo-define-fun-spec =

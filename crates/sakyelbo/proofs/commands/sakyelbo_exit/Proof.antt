@@ -6,7 +6,7 @@ use Rattle.sakyelbo.proofs.commands.sakyelbo_exit.Statement.{statement}
 use Rattle.sakyelbo.proofs.commands.sakyelbo_exit.Tie as tie
 
 returns : tie.Need-returns
-returns c = writes-command c.before.before.before.before.exit.ensures c.of-write.ensures
+returns c = writes-command c.before.before.before.before.exit.ensures c.of-command.ensures
 
 pub sakyelbo-exit-spec : {M : Type 1} → statement M
 sakyelbo-exit-spec =

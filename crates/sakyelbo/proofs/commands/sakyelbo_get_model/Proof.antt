@@ -6,7 +6,7 @@ use Rattle.sakyelbo.proofs.commands.sakyelbo_get_model.Statement.{state
 use Rattle.sakyelbo.proofs.commands.sakyelbo_get_model.Tie as tie
 
 returns : tie.Need-returns
-returns c = writes-command c.before.before.before.before.get-model.ensures c.of-write.ensures
+returns c = writes-command c.before.before.before.before.get-model.ensures c.of-command.ensures
 
 pub sakyelbo-get-model-spec : {M : Type 1} → statement M
 sakyelbo-get-model-spec =

@@ -6,7 +6,7 @@ use Rattle.sakyelbo.proofs.commands.sakyelbo_reset.Statement.{statement
 use Rattle.sakyelbo.proofs.commands.sakyelbo_reset.Tie as tie
 
 returns : tie.Need-returns
-returns c = writes-command c.before.before.before.before.reset.ensures c.of-write.ensures
+returns c = writes-command c.before.before.before.before.reset.ensures c.of-command.ensures
 
 pub sakyelbo-reset-spec : {M : Type 1} → statement M
 sakyelbo-reset-spec =

@@ -6,7 +6,7 @@ use Rattle.sakyelbo.proofs.commands.sakyelbo_set_logic.Statement.{state
 use Rattle.sakyelbo.proofs.commands.sakyelbo_set_logic.Tie as tie
 
 returns : tie.Need-returns
-returns c = writes-command c.before.before.before.before.set-logic.ensures c.of-write.ensures
+returns c = writes-command c.before.before.before.before.set-logic.ensures c.of-command.ensures
 
 pub sakyelbo-set-logic-spec : {M : Type 1} → statement M
 sakyelbo-set-logic-spec =

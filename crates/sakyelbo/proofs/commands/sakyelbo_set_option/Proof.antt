@@ -6,7 +6,7 @@ use Rattle.sakyelbo.proofs.commands.sakyelbo_set_option.Statement.{stat
 use Rattle.sakyelbo.proofs.commands.sakyelbo_set_option.Tie as tie
 
 returns : tie.Need-returns
-returns c = writes-command c.before.before.before.before.set-option.ensures c.of-write.ensures
+returns c = writes-command c.before.before.before.before.set-option.ensures c.of-command.ensures
 
 pub sakyelbo-set-option-spec : {M : Type 1} → statement M
 sakyelbo-set-option-spec =

@@ -8,7 +8,7 @@ use lib.ListN.{length, length-map}
 use denote.Ref.{now}
 use borrow.Author.Needs.{needs}
 use Rattle.script_spec.specs.Utf8.{isUtf8}
-use Rattle.smtlib_line.proofs.Lists.{text-at}
+use Rattle.smtlib_script.proofs.Lists.{text-at}
 use Rattle.smtlib_script.proofs.Laws.{Passed, passed-none, passed-next, passed-not, passed-all}
 use Rattle.smtlib_script.proofs.texts.are_utf8.Statement.{statement}
 use Rattle.smtlib_script.proofs.texts.are_utf8.Tie as tie

@@ -1,4 +1,0 @@
-pub mod HeadLaws
-pub mod WidthLaws
-pub mod ApplicationLaws
-pub mod PatternLaws

@@ -1,3 +1,0 @@
-pub mod AtomLaws
-pub mod MarkLaws
-pub mod QueryLaws

@@ -1,0 +1,11 @@
+-- The number of the type, and then the term by it.
+-- Assumes nothing.
+use borrow.Author.Needs.{needs}
+use Rattle.check_enter.proofs.terms.enter_term.Statement.{statement}
+use Rattle.check_enter.proofs.terms.enter_term.Tie as tie
+
+returns : tie.Need-returns
+returns c = c.before.before.enter-typed.ensures .go c.before.before.before.before.type-of.ensures
+
+pub enter-term-spec : {M : Type 1} → statement M
+enter-term-spec = tie.close (tie.spec (λ c κs. search needs) (λ c κs. search needs) (λ c. search needs) returns)

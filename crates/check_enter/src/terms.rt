@@ -1,0 +1,75 @@
+// Entering a term into the index.
+use crate::DEEPEST_PART;
+use crate::Entered;
+use crate::MOST;
+use index::Sizes;
+use index_search::search::Table;
+ghost use Rattle.script_spec.specs.File.{term};
+ghost use Rattle.check_enter.specs.Entering.{Enters};
+ghost use Rattle.check_enter.specs.Terms.{StoresTerm, EntersTyped};
+
+// Stores the row of a term, with the number of its type, its depth and its place, and without a note.
+fn store_term(
+    file: &[u8],
+    work: &mut [u32],
+    sizes: Sizes,
+    offset: u32,
+    ty: u32,
+    depth: u32,
+    place: u32,
+)
+    ensures { λ _. ⌜ StoresTerm (now (file .entry)) (now (work .entry)) (now (work .exit)) sizes offset ty depth place ⌝ }
+{
+    let first = index_search::search::enrol(file, work, sizes, Table::Terms, offset as usize);
+    let rows = sizes.rows;
+    let n = sizes.terms as usize;
+    index::set(work, rows, index::TERM_OFFSET, n, offset);
+    index::set(work, rows, index::TERM_FIRST, n, first);
+    index::set(work, rows, index::TERM_TYPE, n, ty);
+    index::set(work, rows, index::TERM_DEPTH, n, depth);
+    index::set(work, rows, index::TERM_PLACE, n, place);
+    index::set(work, rows, index::NOTE, n, 0);
+}
+
+// Enters a term; `ty` is the number of its type, or that of the types where its type is not listed.
+fn enter_typed(
+    file: &[u8],
+    work: &mut [u32],
+    sizes: Sizes,
+    offset: u32,
+    place: u32,
+    ty: u32,
+) -> Entered
+    ensures { λ r. ⌜ EntersTyped (now (file .entry)) (now (work .entry)) (now (work .exit)) sizes offset place ty r ⌝ }
+{
+    let deepest = index_compare::compare::greatest(
+        file,
+        work,
+        sizes.rows,
+        offset as usize,
+        index_compare::compare::TERM_REF,
+    );
+    let rule = check_rules::terms::broken_rule(file, work, sizes.rows, offset as usize, deepest);
+    if rule != 0 {
+        return Entered::Broken(rule);
+    }
+    if sizes.types <= ty {
+        return Entered::Broken(12);
+    }
+    if MOST <= sizes.terms {
+        return Entered::Broken(13);
+    }
+    if DEEPEST_PART < deepest {
+        return Entered::Broken(13);
+    }
+    store_term(file, work, sizes, offset, ty, deepest + 1, place);
+    Entered::Done
+}
+
+// Enters the term at an offset and a place, after the records of these sizes.
+pub fn enter_term(file: &[u8], work: &mut [u32], sizes: Sizes, offset: u32, place: u32) -> Entered
+    ensures { λ r. ⌜ Enters term (now (file .entry)) (now (work .entry)) (now (work .exit)) sizes offset place r ⌝ }
+{
+    let ty = check_types::type_of(file, work, sizes, offset as usize);
+    enter_typed(file, work, sizes, offset, place, ty)
+}

@@ -1,0 +1,70 @@
+-- What a record may refer to by the offsets of the types is what it may refer to after the records: the mark of a type says
+-- whether it is an entity type.
+-- Assumes nothing.
+use mathlib.Core.Path.{_≡_, refl, ap, _∙_}
+use Prim.Native.Nat.{ℕ, _<_}
+use native.Mathlib.Omega.{arith}
+use native.Mathlib.Decide.{decLt}
+use mathlib.Core.List.{List, map}
+use borrow.Author.Tests.{lt-ltb, le-ltb}
+use lib.ListN.{length, take, getD, length-take, List·getD-eq-default}
+use lib.Seq.{getD-take}
+use Rattle.script_spec.specs.Base.{Bytes, bytes, isSome, same}
+use Rattle.script_spec.specs.Tree.{Ty, TypeMark, Bool·, String·, Option·, Set·, BitVec·, Declared, entity, extension, recordOf, Forest, node, nil, entityName, forest}
+use Rattle.script_spec.specs.Fields.{Entry}
+use Rattle.script_spec.specs.Fields as fields
+use Rattle.script_spec.specs.File.{TermFile, type, types, funs, terms, typeAt, named, earlier}
+use Rattle.script_spec.proofs.Computes
+use Rattle.script_spec.proofs.Laws.{never}
+use Rattle.index.specs.Cells.{cell, typeOffset}
+use Rattle.index.specs.Standing.{markAt, bodyAt, entryAt}
+use Rattle.index.specs.Meaning.{Rows}
+use Rattle.index.proofs.Cells.{offset-start}
+use Rattle.index.proofs.Rows.{types-fit}
+use Rattle.read_record.specs.Bodies.{isEntityAt, after}
+use Rattle.check_rules.specs.Marks.{datatypeBytes, typeBytes, markOf}
+use Rattle.check_rules.proofs.Marks.{entry-mark}
+use Rattle.check_types.proofs.Same.{type-value}
+
+-- the mark of an entity type, and no other type's, is TE
+type-mark : (m : TypeMark) (ts : Forest TypeMark) → same (typeBytes m) (bytes "TE") ≡ isSome (entityName (node m ts))
+unfolding typeBytes datatypeBytes Computes.base Computes.tree
+type-mark Bool· ts = refl
+type-mark String· ts = refl
+type-mark Option· ts = refl
+type-mark Set· ts = refl
+type-mark (BitVec· n) ts = refl
+type-mark (Declared (entity n)) ts = refl
+type-mark (Declared (extension x)) ts = refl
+type-mark (Declared (recordOf names)) ts = refl
+
+entity-mark : (f : TermFile) (x : Entry) (t : Ty) → named f x ≡ type t → same (markOf x) (bytes "TE") ≡ isSome (entityName t)
+unfolding markOf named
+entity-mark f (fields.type m rs) t e = type-mark m (forest (map (typeAt f) rs)) ∙ ap (λ (u : Ty). isSome (entityName u)) (type-value e)
+entity-mark f (fields.enum n ms) t e = never cc
+entity-mark f (fields.func id a r) t e = never cc
+entity-mark f (fields.term m rs) t e = never cc
+entity-mark f (fields.input n) t e = never cc
+
+module _ {file : Bytes} {f : TermFile} {work : List ℕ} {k : ℕ} (I : Rows file f work k) where
+  -- the first column starts the memory
+  offset-at : (n : ℕ) → n < length (types f) → getD (take (length (types f)) work) n 0 ≡ cell work k typeOffset n
+  unfolding cell
+  offset-at n h =
+      getD-take (length (types f)) work n 0 h
+      ∙ ap (λ (m : ℕ). getD work m 0) (let e = offset-start (length work) k typeOffset n (I .fits) (omega (arith, types-fit I)) (omega arith) .1 in omega arith)
+
+  entity-at : (n : ℕ) → Dec (n < length (types f)) → isEntityAt file (take (length (types f)) work) n ≡ isSome (entityName (typeAt f n))
+  unfolding isEntityAt entryAt markAt typeAt Computes.base Computes.tree
+  entity-at n (yes h) =
+      let s = I .type-row n h .stands in
+      let size : length (take (length (types f)) work) ≡ length (types f) = simp length-take (omega (arith, types-fit I, I .fits)) in
+      rw (size, lt-ltb n (length (types f)) h, offset-at n h)
+      (ap (λ (m : Bytes). same m (bytes "TE")) (entry-mark (markAt file (cell work k typeOffset n)) (bodyAt file (cell work k typeOffset n)) (s .reads)) ∙ entity-mark f (s .entry) (typeAt f n) (s .names))
+  entity-at n (no h) =
+      let size : length (take (length (types f)) work) ≡ length (types f) = simp length-take (omega (arith, types-fit I, I .fits)) in
+      rw (size, le-ltb n (length (types f)) (omega arith), List·getD-eq-default (types f) (node Bool· nil) {n = n} (omega arith))
+
+  pub after-earlier : after (length (types f)) (length (funs f)) (length (terms f)) file (take (length (types f)) work) ≡ earlier f
+  unfolding after earlier
+  after-earlier = λ i. record { types = length (types f); funs = length (funs f); terms = length (terms f); isEntity = λ n. entity-at n (decLt n (length (types f))) i }

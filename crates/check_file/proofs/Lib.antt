@@ -1,0 +1,11 @@
+pub mod Records
+pub mod Reading
+pub mod Loop
+pub mod Entities
+pub mod Kept
+pub mod Marked
+pub mod Following
+pub mod Over
+pub mod Stepping
+pub mod Filling
+pub mod Checking

@@ -1,0 +1,16 @@
+// The next record of a file, read after the records that the index has.
+use index::Sizes;
+use read_record::Next;
+ghost use Rattle.check_file.specs.Reading.{ReadsNext};
+
+// The record at a place, after the records of these sizes.
+pub fn read_next(file: &[u8], at: usize, work: &[u32], sizes: Sizes) -> Next
+    ensures { λ r. ⌜ ReadsNext (now (file .entry)) (now (work .entry)) at sizes r ⌝ }
+{
+    let types = sizes.types;
+    let n = types as usize;
+    if work.len() < n {
+        return Next::Bad(3);
+    }
+    read_record::next_record(file, at, types, sizes.funs, sizes.terms, &work[..n])
+}

@@ -1,0 +1,14 @@
+pub mod References
+pub mod Noting
+pub mod Texts
+pub mod Lists
+pub mod Decided
+pub mod Ordered
+pub mod Elements
+pub mod Noted
+pub mod Marks
+pub mod Shapes
+pub mod RecordLaws
+pub mod EnumLaws
+pub mod Operators
+pub mod TermLaws

@@ -1,0 +1,19 @@
+-- The type that the term refers to, or the search.
+-- Assumes nothing.
+use native.Mathlib.Omega.{arith}
+use Rattle.check_types.specs.Sought.{partAt}
+use Rattle.check_types.proofs.Search.{reference-sought, listed-sought}
+use borrow.Author.Needs.{needs}
+use Rattle.check_types.proofs.type_of.Statement.{statement}
+use Rattle.check_types.proofs.type_of.Tie as tie
+
+returns : tie.Need-returns
+unfolding partAt
+returns c = reference-sought _ _ _ _ _ c.before.before.before.letter-at.ensures c.before.before.refers.ensures (λ i. omega (arith, c.before.before.before.before.before.shared-slice-known.given i)) c.before.if1.taken c.first-reference.ensures
+
+returns-2 : tie.Need-returns-2
+returns-2 c = listed-sought _ _ _ _ _ c.before.before.before.letter-at.ensures c.before.before.refers.ensures c.before.if1.left c.find.ensures
+
+pub type-of-spec : {M : Type 1} → statement M
+type-of-spec =
+    tie.close (tie.spec (λ c κs. search needs) (λ c κs. search needs) (λ c κs. search needs) returns (λ c κs. search needs) returns-2)

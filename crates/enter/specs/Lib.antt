@@ -1,4 +1,0 @@
-pub mod Entering
-pub mod Enums
-pub mod Inputs
-pub mod Terms

@@ -1,3 +1,0 @@
-pub mod Places
-pub mod Types
-pub mod Symbols

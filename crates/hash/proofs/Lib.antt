@@ -1,2 +1,0 @@
-pub mod Mixed
-pub mod Shapes

@@ -1,0 +1,15 @@
+pub mod Inverse
+pub mod Places
+pub mod Letters
+pub mod TypeEntries
+pub mod Parts
+pub mod Rows
+pub mod TermRows
+pub mod Classes
+pub mod SymbolEntries
+pub mod ChildLaws
+pub mod LeafEntries
+pub mod ValueEntries
+pub mod ParentEntries
+pub mod TermEntries
+pub mod ChildEntries

@@ -1,0 +1,34 @@
+-- What taking the first of a record's children promises, and what the children at an offset are.
+-- Assumes nothing.
+use Prim.Native.Nat.{ℕ, _+_, _<_}
+use mathlib.Core.Path.{_≡_}
+use mathlib.Core.Bool.{Bool, true, false}
+use mathlib.Core.List.{List, _∷_}
+use mathlib.Core.Option.{Option, some}
+use lib.ListN.{drop}
+use Rattle.script_spec.specs.Base.{Bytes}
+use Rattle.script_spec.specs.Tree.{TermMark}
+use Rattle.script_spec.specs.Fields.{term}
+use Rattle.index.specs.Standing.{bodyAt, entryOf, entryAt}
+use Rattle.index.specs.Lists.{textSize}
+use Rattle.index_entry.specs.Terms.{childrenIn}
+use Rattle.index_entry.specs.declared.terms.Children.{Children}
+use Rattle.index_entry.specs.declared.terms.Child.{Child}
+
+-- what stands after a child's name, where it has one
+unfoldable pub ahead : Bool → Bytes → Bytes
+ahead true s = drop (textSize s) s
+ahead false s = s
+
+-- the first child and the others
+pub record TakesChild (body : Bytes) (c : Children) (r : Child) : Type 0 where
+  pub splits : 0 < c .left → childrenIn body c ≡ r .number ∷ childrenIn body (r .rest)
+  pub fewer : 0 < c .left → r .rest .left + 1 ≡ c .left
+
+-- a body that is a term under a mark has these children
+pub record IsChildren (mark : Option Bytes) (body : Bytes) (r : Children) : Type 0 where
+  pub go : (m : Bytes) (t : TermMark ℕ ℕ) (rs : List ℕ) → mark ≡ some m → entryOf m body ≡ some (term t rs) → childrenIn body r ≡ rs
+
+-- a record that is a term at an offset of a file has these children
+pub record ChildrenAt (file : Bytes) (offset : ℕ) (r : Children) : Type 0 where
+  pub go : (t : TermMark ℕ ℕ) (rs : List ℕ) → entryAt file offset ≡ some (term t rs) → childrenIn (bodyAt file offset) r ≡ rs

@@ -1,0 +1,5 @@
+pub mod Places
+pub mod Types
+pub mod Symbols
+pub mod Terms
+pub mod Children

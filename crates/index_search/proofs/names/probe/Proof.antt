@@ -1,0 +1,48 @@
+-- The invariant: none of the slots that were passed is empty or has an enum of the name.
+-- Assumes nothing.
+use Prim.Native.Nat.{_-_}
+use mathlib.Core.Path.{ap, _∙_}
+use Rattle.index.specs.Cells.{cell, hash}
+use Rattle.index_search.proofs.Naming.{PassedNamed, named-passed-none, named-passed-more, named-empty, named-held, named-nowhere}
+use borrow.Author.Needs.{needs}
+use Rattle.index_search.proofs.names.probe.Statement.{statement}
+use Rattle.index_search.proofs.names.probe.Tie as tie
+
+abbrev Inv-loop : tie.InvT-loop
+Inv-loop file work k count name b d₀ d = PassedNamed file work k count name b d
+
+abbrev μ-loop : tie.MeasureT-loop
+μ-loop file work k count name b d₀ d = k - d
+
+loop-holds : tie.Need-loop-holds Inv-loop μ-loop
+loop-holds c = named-passed-none
+
+returns : tie.Need-returns Inv-loop μ-loop
+returns c = named-empty c.before.before.before.before.loop.inv (c.before.get.ensures ∙ ap (cell _ _ hash) c.before.before.slot.ensures) c.if1.taken
+
+returns-2 : tie.Need-returns-2 Inv-loop μ-loop
+returns-2 c =
+    named-held c.before.before.before.before.before.before.before.loop.inv
+    (c.before.before.before.before.get.ensures ∙ ap (cell _ _ hash) c.before.before.before.before.before.slot.ensures)
+    c.before.before.holds.ensures c.before.if2.taken c.number-of.ensures
+
+loop-again : tie.Need-loop-again Inv-loop μ-loop
+loop-again c =
+    named-passed-more c.before.before.before.before.before.before.loop.inv
+    (c.before.before.before.get.ensures ∙ ap (cell _ _ hash) c.before.before.before.before.slot.ensures)
+    c.before.holds.ensures c.if2.left
+
+returns-3 : tie.Need-returns-3 Inv-loop μ-loop
+returns-3 c = named-nowhere c.before.loop.inv c.loop-test.left
+
+pub probe-spec : {M : Type 1} → statement M
+probe-spec =
+    tie.close
+    (tie.spec
+    Inv-loop
+    μ-loop
+    loop-holds (λ c κs. search needs) (λ c κs. search needs)
+    returns (λ c κs. search needs) (λ c κs. search needs)
+    returns-2 (λ c. search needs) (λ c. search needs)
+    loop-again
+    returns-3)

@@ -1,9 +1,0 @@
-pub mod Order
-pub mod Window
-pub mod SearchLaws
-pub mod RowLaws
-pub mod FillLaws
-pub mod Attributes
-pub mod ListLaws
-pub mod LoopLaws
-pub mod Ascending

@@ -1,4 +1,0 @@
-pub mod NegoLaws
-pub mod CodeLaws
-pub mod NegationLaws
-pub mod MemberLaws

@@ -1,9 +1,0 @@
--- `query::is_nego` meets its contract.
--- Assumes nothing.
-use Rattle.query.proofs.NegoLaws.{is-nego, not-nego}
-use borrow.Author.Needs.{needs}
-use Rattle.query.proofs.is_nego.Statement.{statement}
-use Rattle.query.proofs.is_nego.Tie as tie
-
-pub is-nego-spec : {M : Type 1} → statement M
-is-nego-spec = tie.close (tie.spec (λ c. search needs) (λ c. is-nego c.enum-told.given.1) (λ c. not-nego c.match.keys2))

@@ -1,2 +1,0 @@
-pub mod Negations
-pub mod Searches

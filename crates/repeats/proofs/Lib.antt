@@ -1,2 +1,0 @@
-pub mod References
-pub mod Noting

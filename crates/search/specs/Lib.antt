@@ -1,3 +1,0 @@
-pub mod Searchable
-pub mod Found
-pub mod Named

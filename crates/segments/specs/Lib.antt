@@ -1,4 +1,0 @@
-pub mod Segment
-pub mod Machine
-pub mod Step
-pub mod Printed

@@ -1,3 +1,0 @@
-pub mod Ring
-pub mod Homes
-pub mod Reach

@@ -1,9 +1,0 @@
--- `term_entry::leaves::variable` meets its contract.
--- Assumes nothing.
-use Rattle.term_entry.proofs.LeafEntries.{term-var}
-use borrow.Author.Needs.{needs}
-use Rattle.term_entry.proofs.leaves.variable.Statement.{statement}
-use Rattle.term_entry.proofs.leaves.variable.Tie as tie
-
-pub variable-spec : {M : Type 1} → statement M
-variable-spec = tie.close (tie.spec (λ c κs. search needs) (λ c κs. search needs) (λ c. term-var c.before.text-at.ensures c.number-at.ensures))

@@ -1,3 +1,0 @@
-pub mod BodyLaws
-pub mod DebugLaws
-pub mod LineLaws

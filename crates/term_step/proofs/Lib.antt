@@ -1,4 +1,0 @@
-pub mod Entering
-pub mod Testing
-pub mod PatternLaws
-pub mod AttributeLaws

@@ -1,2 +1,0 @@
-pub mod ArgumentLaws
-pub mod ValueLaws

@@ -1,0 +1,5 @@
+pub mod Tables
+pub mod Names
+pub mod Sticky
+pub mod Advancing
+pub mod Running

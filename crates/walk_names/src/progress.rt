@@ -1,0 +1,64 @@
+// How far the encoder's walk has come.
+ghost use mathlib.Core.Path.{_≡_};
+ghost use Prim.Native.Nat.{_+_, min};
+ghost use Rattle.write_bytes.specs.Writing.{ceiling, moved};
+
+// The place in the script and how many of its bytes count; how many types, functions and terms have a name; the number of a refusal, 0
+// for none, and the number of the refused term.
+pub struct Progress {
+    pub at: usize,
+    pub limit: usize,
+    pub types: u32,
+    pub funs: u32,
+    pub terms: u32,
+    pub refused: u32,
+    pub term: u32,
+}
+
+// One more, or the greatest number of 32 bits again.
+pub fn more(n: u32) -> u32
+    ensures { λ r. ⌜ r ≡ min (n + 1) 4294967295 ⌝ }
+{
+    if n < 4294967295 {
+        return n + 1;
+    }
+    n
+}
+
+// The progress at another place of the script.
+fn placed(p: Progress, at: usize) -> Progress
+    ensures { λ r. ⌜ r ≡ record { at = at; limit = p .limit; types = p .types; funs = p .funs; terms = p .terms; refused = p .refused; term = p .term } ⌝ }
+{
+    Progress {
+        at,
+        limit: p.limit,
+        types: p.types,
+        funs: p.funs,
+        terms: p.terms,
+        refused: p.refused,
+        term: p.term,
+    }
+}
+
+// The progress after a line of n bytes.
+pub fn past_line(p: Progress, n: usize) -> Progress
+    ensures { λ r. ⌜ r ≡ record { at = moved (p .at) n (ceiling (p .limit)); limit = p .limit; types = p .types; funs = p .funs; terms = p .terms; refused = p .refused; term = p .term } ⌝ }
+{
+    let at = write_bytes::past_line(p.at, p.limit, n);
+    placed(p, at)
+}
+
+// The progress after a refusal of the term with number n.
+pub fn refuse(p: Progress, number: u32, n: u32) -> Progress
+    ensures { λ r. ⌜ r ≡ record { at = p .at; limit = p .limit; types = p .types; funs = p .funs; terms = p .terms; refused = number; term = n } ⌝ }
+{
+    Progress {
+        at: p.at,
+        limit: p.limit,
+        types: p.types,
+        funs: p.funs,
+        terms: p.terms,
+        refused: number,
+        term: n,
+    }
+}

@@ -1,0 +1,14 @@
+pub mod Order
+pub mod Window
+pub mod SearchLaws
+pub mod RowLaws
+pub mod FillLaws
+pub mod Attributes
+pub mod ListLaws
+pub mod LoopLaws
+pub mod Ascending
+pub mod AnswerLaws
+pub mod NegoLaws
+pub mod CodeLaws
+pub mod NegationLaws
+pub mod MemberLaws

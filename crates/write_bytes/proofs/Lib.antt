@@ -1,0 +1,4 @@
+pub mod Laws
+pub mod Loop
+mod Put
+mod Clearing

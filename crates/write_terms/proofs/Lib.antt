@@ -1,0 +1,9 @@
+pub mod ArgumentLaws
+pub mod ValueLaws
+pub mod HeadLaws
+pub mod WidthLaws
+pub mod ApplicationLaws
+pub mod BodyLaws
+pub mod DebugLaws
+pub mod LineLaws
+pub mod DefinitionLaws
