@@ -58,7 +58,8 @@ uint64_t sakyelbo_declare_const(const uint8_t *id, size_t id_count, const uint8_
 uint64_t sakyelbo_declare_fun(const uint8_t *id, size_t id_count, const sakyelbo_text *args, size_t args_count,
                               const uint8_t *sort, size_t sort_count, uint8_t *out, size_t out_count, size_t *size);
 
-/* `(define-fun ID (ARGS) SORT BODY)`; an argument is a name of `names` with the sort at its place in `sorts`. */
+/* `(define-fun ID (ARGS) SORT BODY)`; an argument is a name of `names` with the sort at its place in `sorts`, and there are as many
+ * arguments as the shorter list has texts. */
 uint64_t sakyelbo_define_fun(const uint8_t *id, size_t id_count, const sakyelbo_text *names, size_t names_count,
                              const sakyelbo_text *sorts, size_t sorts_count, const uint8_t *sort, size_t sort_count,
                              const uint8_t *body, size_t body_count, uint8_t *out, size_t out_count, size_t *size);

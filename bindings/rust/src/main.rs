@@ -1,4 +1,5 @@
 //! The command `sakyelbo`: turns term files into scripts, and checks them.
+use std::ffi::{OsStr, OsString};
 use std::fs::File;
 use std::io::{stdin, stdout, Read, Result, Write};
 use std::process::ExitCode;
@@ -17,33 +18,33 @@ The exit status is 0, or 1 for a refusal, or 2 for bad usage and files that cann
 ";
 
 /// What the arguments ask for.
-enum Request {
+enum Request<'a> {
     Help,
-    Check(String),
-    Encode(String, Option<String>),
+    Check(&'a OsStr),
+    Encode(&'a OsStr, Option<&'a OsStr>),
 }
 
-/// Reads the arguments; nothing where they ask for nothing that there is.
-fn request(args: &[String]) -> Option<Request> {
-    match args.iter().map(String::as_str).collect::<Vec<_>>()[..] {
+/// Reads the arguments; nothing where they ask for nothing that there is. A name need not be UTF-8.
+fn request(args: &[OsString]) -> Option<Request<'_>> {
+    match args.iter().map(|a| a.to_str().unwrap_or_default()).collect::<Vec<_>>()[..] {
         ["--help" | "-h" | "help"] => Some(Request::Help),
-        ["encode", file] => Some(Request::Encode(file.to_string(), None)),
-        ["encode", file, "-o", out] | ["encode", "-o", out, file] => {
-            Some(Request::Encode(file.to_string(), Some(out.to_string())))
-        }
-        ["check", file] => Some(Request::Check(file.to_string())),
+        ["encode", _] => Some(Request::Encode(&args[1], None)),
+        ["encode", _, "-o", _] => Some(Request::Encode(&args[1], Some(&args[3]))),
+        ["encode", "-o", _, _] => Some(Request::Encode(&args[3], Some(&args[2]))),
+        ["check", _] => Some(Request::Check(&args[1])),
         _ => None,
     }
 }
 
 /// The bytes of a file or of standard input, cut at one byte more than a file may have.
-fn read(name: &str) -> Result<Vec<u8>> {
+fn read(name: &OsStr) -> Result<Vec<u8>> {
     let most = sakyelbo::LONGEST_FILE as u64 + 1;
     let mut bytes = Vec::new();
-    match name {
-        "-" => stdin().lock().take(most).read_to_end(&mut bytes)?,
-        _ => File::open(name)?.take(most).read_to_end(&mut bytes)?,
-    };
+    if name == "-" {
+        stdin().lock().take(most).read_to_end(&mut bytes)?;
+    } else {
+        File::open(name)?.take(most).read_to_end(&mut bytes)?;
+    }
     Ok(bytes)
 }
 
@@ -54,12 +55,12 @@ fn refused(refusal: sakyelbo::Refusal) -> ExitCode {
 }
 
 /// Says what went wrong outside the library.
-fn failed(what: &str, why: &dyn std::fmt::Display) -> ExitCode {
-    eprintln!("sakyelbo: {what}: {why}");
+fn failed(what: &OsStr, why: &dyn std::fmt::Display) -> ExitCode {
+    eprintln!("sakyelbo: {}: {why}", what.to_string_lossy());
     ExitCode::from(2)
 }
 
-fn check(name: &str) -> ExitCode {
+fn check(name: &OsStr) -> ExitCode {
     let file = match read(name) {
         Ok(bytes) => bytes,
         Err(why) => return failed(name, &why),
@@ -73,7 +74,7 @@ fn check(name: &str) -> ExitCode {
     }
 }
 
-fn encode(name: &str, out: Option<&str>) -> ExitCode {
+fn encode(name: &OsStr, out: Option<&OsStr>) -> ExitCode {
     let file = match read(name) {
         Ok(bytes) => bytes,
         Err(why) => return failed(name, &why),
@@ -88,19 +89,19 @@ fn encode(name: &str, out: Option<&str>) -> ExitCode {
     };
     match written {
         Ok(()) => ExitCode::SUCCESS,
-        Err(why) => failed(out.unwrap_or("standard output"), &why),
+        Err(why) => failed(out.unwrap_or(OsStr::new("standard output")), &why),
     }
 }
 
 fn main() -> ExitCode {
-    let args: Vec<String> = std::env::args_os().skip(1).map(|a| a.to_string_lossy().into_owned()).collect();
+    let args: Vec<OsString> = std::env::args_os().skip(1).collect();
     match request(&args) {
         Some(Request::Help) => {
             print!("{HELP}");
             ExitCode::SUCCESS
         }
-        Some(Request::Check(name)) => check(&name),
-        Some(Request::Encode(name, out)) => encode(&name, out.as_deref()),
+        Some(Request::Check(name)) => check(name),
+        Some(Request::Encode(name, out)) => encode(name, out),
         None => {
             eprint!("{HELP}");
             ExitCode::from(2)

@@ -3,8 +3,10 @@ mod cases;
 mod commands;
 
 use cases::{answer, cases, path};
-use commands::{file, sakyelbo, Ran};
+use commands::{file, folder, sakyelbo, Ran};
+use std::ffi::OsStr;
 use std::fs;
+use std::os::unix::ffi::OsStrExt;
 
 /// Runs the command with these arguments.
 fn run(args: &[&str], input: &[u8]) -> Ran {
@@ -37,6 +39,16 @@ fn encode_writes_the_script() {
         assert_eq!(fs::read_to_string(&out).unwrap(), script);
     }
     assert_eq!(run(&["encode", &term, "-o", "no/such/folder"], b"").0, 2);
+}
+
+#[test]
+fn names_need_not_be_utf8() {
+    let names = folder("names");
+    let (term, out) = (names.join(OsStr::from_bytes(b"\xff.term")), names.join(OsStr::from_bytes(b"\xff.smt2")));
+    fs::copy(path("crates/vectors/data/rust/address.term"), &term).unwrap();
+    let args = [OsStr::new("encode"), term.as_os_str(), OsStr::new("-o"), out.as_os_str()];
+    assert_eq!(commands::run(&mut sakyelbo(&args), b""), (0, String::new(), String::new()));
+    assert_eq!(fs::read(out).unwrap(), fs::read(path("crates/vectors/data/rust/address.smt2")).unwrap());
 }
 
 #[test]

@@ -5,16 +5,12 @@ use std::process::Command;
 #[test]
 fn a_c_program_calls_the_library() {
     let here = PathBuf::from(env!("CARGO_MANIFEST_DIR"));
-    let archive = match std::env::var_os("SAKYELBO_LIB") {
-        Some(folder) => PathBuf::from(folder),
-        None => here.join("../../target/staticlib"),
-    };
     let program = PathBuf::from(env!("CARGO_TARGET_TMPDIR")).join("header");
     let compiled = Command::new("cc")
         .args(["-std=c99", "-Wall", "-Wextra", "-Wpedantic", "-Werror", "-I"])
         .arg(here.join("../../include"))
         .arg(here.join("tests/header.c"))
-        .arg(archive.join("libsakyelbo.a"))
+        .arg(here.join("../../target/staticlib/libsakyelbo.a"))
         .arg("-o")
         .arg(&program)
         .status()

@@ -2,7 +2,7 @@
 mod cases;
 mod commands;
 
-use cases::{path, record, text, word};
+use cases::{borders, path, record, text, word};
 use commands::{file, made, run, Ran};
 use std::fs;
 use std::process::Command;
@@ -32,10 +32,15 @@ fn what_is_dumped_is_written_back() {
     files.retain(|f| f.extension().unwrap() == "term");
     files.sort();
     assert!(files.len() > 100);
-    for f in files.iter().step_by(12) {
-        let bytes = fs::read(f).unwrap();
-        assert_eq!(written(dumped(&bytes).as_bytes(), "back.term"), bytes, "{}", f.display());
+    // One file of all, so that the tool starts twice only: a reference is there in it, since it is there in its own file.
+    let bytes: Vec<u8> = files.iter().flat_map(|f| fs::read(f).unwrap()).collect();
+    let text = dumped(&bytes);
+    let back = written(text.as_bytes(), "back.term");
+    let (places, ends) = (borders(&bytes), borders(&back));
+    for (i, line) in text.lines().enumerate() {
+        assert_eq!(back[ends[i]..ends[i + 1]], bytes[places[i]..places[i + 1]], "{line}");
     }
+    assert_eq!(ends.len(), places.len());
 }
 
 #[test]
@@ -65,9 +70,17 @@ fn numbers_are_written_as_they_stand() {
     assert_eq!(written(dumped(&bytes).as_bytes(), "numbers.term"), bytes);
 }
 
+/// Writes a text with this line to a file: that is an error with these words, and the file is kept.
+fn not_understood(line: &[u8], words: &str, name: &str) {
+    let out = file(name, b"kept");
+    let source = [b"TB bool\n# the third line\nXB b = true\n", line, b"\nTS s\n"].concat();
+    let expected = (1, String::new(), format!("termfile: standard input: line 4: {words}\n"));
+    assert_eq!(termfile(&["write", "-", &out], &source), expected);
+    assert_eq!(fs::read(&out).unwrap(), b"kept");
+}
+
 #[test]
 fn what_is_not_understood_is_said_with_its_line() {
-    let out = file("kept.term", b"kept");
     for (line, words) in [
         (&b"XS a = \"50\\u20AC\""[..], "\\u is no escape in \"50\\u20AC\""),
         (b"XS a = \"\\q\"", "\\q is no escape in \"\\q\""),
@@ -96,7 +109,8 @@ fn what_is_not_understood_is_said_with_its_line() {
         (b"XA c = bool StringLike [*: b", "expected ,, found :"),
         (b"TV c = 4294967296", "4294967296 is no number of 32 bits"),
         (b"TV c = -1", "-1 is no number of 32 bits"),
-        (b"TV c = 1.5", "expected a number, found 1.5"),
+        (b"TV c = \"1\"", "expected a number, found \"1\""),
+        (b"TV c = \xd9\xa3", "cannot read '\u{663}'"),
         (b"XN c = 64 -1", "-1 is no number of 128 bits"),
         (
             b"XN c = 1 340282366920938463463374607431768211456",
@@ -106,15 +120,25 @@ fn what_is_not_understood_is_said_with_its_line() {
         (b"XX c = V4 1.2.3.4/", "nothing is no prefix"),
         (b"XX c = V4 1.2.3.4/255", "255 is no prefix"),
         (b"XX c = V4 1.2.3.4/+8", "+8 is no prefix"),
+        (b"XX c = V4 1.2.3.4/08", "08 is no prefix"),
         (b"XX c = V4 1.2.3", "1.2.3 is no V4 address"),
         (b"XX c = V6 1.2.3.4", "1.2.3.4 is no V6 address"),
         (b"xb c = true", "xb is no mark"),
     ] {
-        let source = [b"TB bool\n# the third line\nXB b = true\n", line, b"\nTS s\n"].concat();
-        let expected = (1, String::new(), format!("termfile: standard input: line 4: {words}\n"));
-        assert_eq!(termfile(&["write", "-", &out], &source), expected);
-        assert_eq!(fs::read(&out).unwrap(), b"kept");
+        not_understood(line, words, "kept.term");
     }
+}
+
+#[test]
+fn numbers_of_other_forms_are_not_understood() {
+    let nines = "9".repeat(5000);
+    let hex = format!("0x{}", "f".repeat(4000));
+    for number in ["1.5", "0x10", "0b11", "0o17", "1_000", "+5", "-0", "00", "007", &hex, &nines] {
+        let words = format!("expected a decimal number of at most 39 digits, found {number}");
+        not_understood(format!("TV c = {number}").as_bytes(), &words, "number.term");
+    }
+    let long = format!("XX c = V4 1.2.3.4/{nines}");
+    not_understood(long.as_bytes(), &format!("{nines} is no prefix"), "number.term");
 }
 
 #[test]
@@ -154,4 +178,6 @@ fn missing_files_and_bad_usage_are_said() {
     let (status, output, error) = termfile(&["--help"], b"");
     assert_eq!((status, error.as_str()), (0, ""));
     assert!(output.contains("tools/termfile write TEXT FILE"));
+    let closed = run(Command::new("sh").args(["-c", "exec \"$0\" write - - <&-"]).arg(path("tools/termfile")), b"");
+    assert_eq!(closed, (1, String::new(), "termfile: standard input: Bad file descriptor\n".to_string()));
 }

@@ -4,7 +4,7 @@ use std::env;
 use std::ffi::{OsStr, OsString};
 use std::fs::{self, Permissions};
 use std::io::Write;
-use std::os::unix::fs::PermissionsExt;
+use std::os::unix::fs::{symlink, PermissionsExt};
 use std::path::PathBuf;
 use std::process::{Command, Stdio};
 
@@ -56,4 +56,15 @@ pub fn script(path: PathBuf, text: &str) {
 pub fn path_with(first: PathBuf) -> OsString {
     let rest = env::var_os("PATH").unwrap();
     env::join_paths([first].into_iter().chain(env::split_paths(&rest))).unwrap()
+}
+
+/// A folder with these commands of PATH and no others.
+pub fn only(folder: PathBuf, names: &[&str]) -> PathBuf {
+    fs::create_dir_all(&folder).unwrap();
+    let rest = env::var_os("PATH").unwrap();
+    for name in names {
+        let found = env::split_paths(&rest).map(|f| f.join(name)).find(|f| f.is_file()).expect(name);
+        symlink(found, folder.join(name)).unwrap();
+    }
+    folder
 }
