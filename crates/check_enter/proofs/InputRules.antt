@@ -2,7 +2,6 @@
 -- Assumes nothing.
 use mathlib.Core.Path.{_≡_, refl, sym, ap, _∙_, subst}
 use Prim.Native.Nat.{ℕ, suc, _≤_, _<_}
-use native.Mathlib.Omega.{arith}
 use mathlib.Core.List.{List, [], _∷_, _++_}
 use mathlib.Core.Option.{some}
 use lib.ListN.{length}
@@ -11,13 +10,14 @@ use Rattle.script_spec.specs.Tree.{Tm}
 use Rattle.script_spec.specs.Fields.{Entry, pure, ref, marks}
 use Rattle.script_spec.specs.Fields as fields
 use Rattle.script_spec.specs.File.{TermFile, input, terms, inputs, termAt, named, earlier, rules, broken}
+use Rattle.script_spec.proofs.Laws.{never}
+use Rattle.script_spec.proofs.Readers.{got-value}
 use Rattle.index_compare.proofs.Standing.{entry-whole}
 use Rattle.index.specs.Cells.{store, inputPlace, inputOffset, inputTerm}
 use Rattle.index.specs.First.{InRange}
 use Rattle.index.specs.Standing.{loose, markAt, bodyAt, entryOf, entryAt}
 use Rattle.index.specs.Meaning.{Stands, SizesOf}
 use Rattle.index.specs.declared.Sizes.{Sizes}
-use Rattle.index.proofs.Readers.{got-value}
 use Rattle.check_rules.specs.Marks.{markOf}
 use Rattle.check_rules.proofs.Marks.{entry-mark}
 use Rattle.index_search.specs.Searchable.{Indexed}
@@ -47,10 +47,10 @@ record ByNumber (f : TermFile) (x : Entry) (t : Tm) : Type 0 where
 
 by-number : (f : TermFile) (x : Entry) (t : Tm) → named f x ≡ input t → InRange (earlier f) x → ByNumber f x t
 unfolding named InRange earlier
-by-number f (fields.type m rs) t e l = let z : _≡_ {A = ℕ} 0 1 = cc in absurd (omega arith)
-by-number f (fields.enum n ms) t e l = let z : _≡_ {A = ℕ} 0 1 = cc in absurd (omega arith)
-by-number f (fields.func id a r) t e l = let z : _≡_ {A = ℕ} 0 1 = cc in absurd (omega arith)
-by-number f (fields.term m rs) t e l = let z : _≡_ {A = ℕ} 0 1 = cc in absurd (omega arith)
+by-number f (fields.type m rs) t e l = never cc
+by-number f (fields.enum n ms) t e l = never cc
+by-number f (fields.func id a r) t e l = never cc
+by-number f (fields.term m rs) t e l = never cc
 by-number f (fields.input n) t e l = record { number = n; is = refl; below = l; names = cc }
 
 -- the number that is read from the body

@@ -1,7 +1,7 @@
 -- A term is entered: the rules by its numbers, its type among those that are listed, and its row.
 -- Assumes nothing.
 use mathlib.Core.Path.{_≡_, refl, sym, ap, _∙_, subst}
-use Prim.Native.Nat.{ℕ, zero, suc, _+_, _≤_, _<_}
+use Prim.Native.Nat.{ℕ, suc, _+_, _≤_, _<_}
 use native.Mathlib.Omega.{arith}
 use native.Mathlib.Numerals.{add-one}
 use borrow.Author.Tests.{lt-ltb, le-ltb, le-leb, lt-leb}
@@ -22,14 +22,18 @@ use Rattle.index.specs.Rules.{greatest, limits, listRulesBy, rulesBy, typeBy, t
 use Rattle.index.proofs.Renamed.{map-agree}
 use Rattle.index.proofs.Rules.{type-numbers}
 use Rattle.index_compare.proofs.Prints.{Octets}
-use Rattle.index_compare.specs.View.{viewed, numbers, segmentsAt}
+use Rattle.index_compare.specs.View.{viewed, referenceNumbers, segmentsAt}
 use Rattle.index_compare.specs.declared.compare.View.the-variants.{Depth}
 use Rattle.index_compare.proofs.Listed.{greatest-term}
 use Rattle.index_search.specs.Searchable.{Indexed}
 use Rattle.index_search.specs.Found.{Enrols}
 use Rattle.index_search.proofs.Entered.{indexed-term}
-use Rattle.check_rules.specs.Terms.{ruleTold, TermRule}
-use Rattle.check_types.specs.Sought.{TypeSought}
+use Rattle.check_rules.specs.Terms.{brokenRule, TermRule}
+use Rattle.check_rules.specs.declared.terms.Rules.{Rules}
+use Rattle.check_rules.specs.declared.terms.Rules.the-variants as rules-as
+use Rattle.check_types.specs.Sought.{placeFound, TypeSought}
+use Rattle.check_types.specs.declared.Found.{Found}
+use Rattle.check_types.specs.declared.Found.the-variants as found-as
 use Rattle.check_enter.specs.Entering.{Enters}
 use Rattle.check_enter.specs.Terms.{StoresTerm}
 use Rattle.check_enter.proofs.Parts.{TermParts, term-parts, deepest, term-value, rules-by, term-depth}
@@ -92,7 +96,7 @@ module _ {file : Bytes} {f : TermFile} {work : List ℕ} {k o : ℕ} {t : Tm} (I
   deepest-terms = ap greatest (map-agree (I .depths .term-depth) (P .rs) (P .in-range .1))
 
   -- the depth that the walk over the body gives
-  deepest-is : Octets file → greatest (numbers 4 (map (viewed work k Depth) (segmentsAt file o))) ≡ deepest work k termDepth P
+  deepest-is : Octets file → greatest (referenceNumbers 4 (map (viewed work k Depth) (segmentsAt file o))) ≡ deepest work k termDepth P
   unfolding deepest
   deepest-is octets = greatest-term file work k o octets (P .reads)
 
@@ -113,17 +117,6 @@ place-found p d (x ∷ xs) n e = from (p x) refl (place p xs) (λ m k. place-fou
     from false q none later k = absurd (Option·none-ne-some n k)
     from false q (some m) later k = let z : n ≡ suc m = cc in let h = later m refl in rw z record { below = omega (arith, h .below); passes = h .passes }
 
--- what the number that was sought says of the place
-sought-none : (o : Option ℕ) (count r : ℕ) → r ≡ orElse count o → ((n : ℕ) → o ≡ some n → n < count) → count ≤ r → o ≡ none
-unfolding orElse
-sought-none none count r e h g = refl
-sought-none (some n) count r e h g = absurd (omega (arith, h n refl))
-
-sought-some : (o : Option ℕ) (count r : ℕ) → r ≡ orElse count o → r < count → o ≡ some r
-unfolding orElse
-sought-some none count r e g = absurd (omega arith)
-sought-some (some n) count r e g = ap some (sym e)
-
 -- the type of a term that has a place
 record TypeFound (f : TermFile) (t : Tm) (n : ℕ) : Type 0 where
   below : n < length (types f)
@@ -131,10 +124,6 @@ record TypeFound (f : TermFile) (t : Tm) (n : ℕ) : Type 0 where
   type-first : firstType f n ≡ n
 
 module _ {file : Bytes} {f : TermFile} {work : List ℕ} {k o : ℕ} {t : Tm} (I : Indexed file f work k) (P : TermParts file f o t) where
-  sought-below : (n : ℕ) → sought I P ≡ some n → n < length (types f)
-  unfolding sought
-  sought-below n e = place-found _ (node Bool· nil) (types f) n e .below
-
   type-found : (n : ℕ) → sought I P ≡ some n → TypeFound f t n
   unfolding sought named typeAt firstType first orElse InRange earlier
   type-found n e =
@@ -155,52 +144,43 @@ depth-positive : (t : Tm) → 0 < depth t
 unfolding depth
 depth-positive (node a ts) = omega arith
 
-told-some : (r : ℕ) → (r ≡ 0 → ⊥) → ruleTold r ≡ some r
-unfolding ruleTold
-told-some zero h = absurd (h refl)
-told-some (suc r) h = refl
-
-told-none : (r : ℕ) → r ≡ 0 → ruleTold r ≡ none
-unfolding ruleTold
-told-none r e = rw e
-
-module _ {file : Bytes} {work : List ℕ} (sizes : Sizes) {o n r : ℕ} (octets : Octets file) (is : n ≡ greatest (numbers 4 (map (viewed work (sizes .rows) Depth) (segmentsAt file o)))) (R : TermRule file work (sizes .rows) o n r) where
+module _ {file : Bytes} {work : List ℕ} (sizes : Sizes) {o n : ℕ} {r : Rules} (octets : Octets file) (is : n ≡ greatest (referenceNumbers 4 (map (viewed work (sizes .rows) Depth) (segmentsAt file o)))) (R : TermRule file work (sizes .rows) o n r) where
   -- rules 9 and 10
-  told : {f : TermFile} {t : Tm} (I : Indexed file f work (sizes .rows)) (P : TermParts file f o t) → ruleTold r ≡ broken (listRulesBy f (cell work (sizes .rows) termFirst) (P .m) (P .rs))
+  told : {f : TermFile} {t : Tm} (I : Indexed file f work (sizes .rows)) (P : TermParts file f o t) → brokenRule r ≡ broken (listRulesBy f (cell work (sizes .rows) termFirst) (P .m) (P .rs))
   told {f} I P = R .go f (P .m) (P .rs) (λ i. depth (termAt f i)) (λ i. depth-positive (termAt f i)) (is ∙ deepest-is I P octets ∙ deepest-terms I P) (P .reads)
 
   module _ {place : ℕ} where
-    pub term-broken : (r ≡ 0 → ⊥) → Enters term file work work sizes o place (Broken r)
+    pub term-broken : {rule : ℕ} → r ≡ rules-as.Broken rule → Enters term file work work sizes o place (Broken rule)
     term-broken h =
-        record { go = λ f I c room p t s. let P = term-parts s in record { rule = ap broken (term-rules I P) ∙ broken-first _ (listRulesBy f (cell work (sizes .rows) termFirst) (P .m) (P .rs)) (sym (told I P) ∙ told-some r h); memory = refl } }
+        record { go = λ f I c room p t s. let P = term-parts s in record { rule = ap broken (term-rules I P) ∙ broken-first _ (listRulesBy f (cell work (sizes .rows) termFirst) (P .m) (P .rs)) (sym (told I P) ∙ ap brokenRule h); memory = refl } }
 
-  module _ {ty : ℕ} (T : TypeSought file work (sizes .rows) (sizes .types) o ty) (h : r ≡ 0) where
+  module _ {found : Found} (T : TypeSought file work sizes o found) (h : r ≡ rules-as.Kept) where
     -- what is sought is the place of the type
-    sought-is : (f : TermFile) (I : Indexed file f work (sizes .rows)) → SizesOf f sizes → {t : Tm} (P : TermParts file f o t) → ty ≡ orElse (sizes .types) (sought I P)
+    sought-is : (f : TermFile) (I : Indexed file f work (sizes .rows)) → SizesOf f sizes → {t : Tm} (P : TermParts file f o t) → placeFound found ≡ sought I P
     unfolding sought
-    sought-is f I c P = T .go f I (c .types-are) (P .m) (P .rs) (P .reads) (P .in-range)
+    sought-is f I c P = T .go f I c (P .m) (P .rs) (P .reads) (P .in-range)
 
     -- rules 12 and 13 are left
     rules-left : {f : TermFile} {t : Tm} (I : Indexed file f work (sizes .rows)) (P : TermParts file f o t) → broken (rules f (term t)) ≡ broken ((12, isSome (sought I P)) ∷ (13, ltb (length (terms f)) 60000 && leb (suc (deepest work (sizes .rows) termDepth P)) 256) ∷ [])
-    rules-left {f} I P = ap broken (term-rules I P) ∙ broken-second _ (listRulesBy f (cell work (sizes .rows) termFirst) (P .m) (P .rs)) (sym (told I P) ∙ told-none r h)
+    rules-left {f} I P = ap broken (term-rules I P) ∙ broken-second _ (listRulesBy f (cell work (sizes .rows) termFirst) (P .m) (P .rs)) (sym (told I P) ∙ ap brokenRule h)
 
     -- rule 12 is kept
-    listed : ty < sizes .types → {f : TermFile} {t : Tm} (I : Indexed file f work (sizes .rows)) → SizesOf f sizes → (P : TermParts file f o t) → broken (rules f (term t)) ≡ broken ((13, ltb (length (terms f)) 60000 && leb (suc (deepest work (sizes .rows) termDepth P)) 256) ∷ [])
+    listed : {ty : ℕ} → found ≡ found-as.Listed ty → {f : TermFile} {t : Tm} (I : Indexed file f work (sizes .rows)) → SizesOf f sizes → (P : TermParts file f o t) → broken (rules f (term t)) ≡ broken ((13, ltb (length (terms f)) 60000 && leb (suc (deepest work (sizes .rows) termDepth P)) 256) ∷ [])
     unfolding isSome
-    listed g {f} I c P = rules-left I P ∙ broken-later 12 _ (ap isSome (sought-some (sought I P) (sizes .types) ty (sought-is f I c P) g))
+    listed g {f} I c P = rules-left I P ∙ broken-later 12 _ (ap isSome (sym (sought-is f I c P) ∙ ap placeFound g))
 
     module _ {place : ℕ} where
-      pub term-unlisted : sizes .types ≤ ty → Enters term file work work sizes o place (Broken 12)
+      pub term-unlisted : found ≡ found-as.NotListed → Enters term file work work sizes o place (Broken 12)
       unfolding isSome
       term-unlisted g =
           record {
             go = λ f I c room p t s.
                 let P = term-parts s in
-                let q = sought-none (sought I P) (sizes .types) ty (sought-is f I c P) (λ m e. rw (c .types-are) (sought-below I P m e)) g in
+                let q : sought I P ≡ none = sym (sought-is f I c P) ∙ ap placeFound g in
                 record { rule = rules-left I P ∙ broken-here 12 _ (ap isSome q); memory = refl };
           }
 
-      module _ (g : ty < sizes .types) where
+      module _ {ty : ℕ} (g : found ≡ found-as.Listed ty) where
         pub term-many : 60000 ≤ sizes .terms → Enters term file work work sizes o place (Broken 13)
         term-many d = record { go = λ f I c room p t s. let P = term-parts s in record { rule = listed g I c P ∙ broken-here 13 _ (rw (← c .terms-are, le-ltb (sizes .terms) 60000 d)); memory = refl } }
 
@@ -219,7 +199,7 @@ module _ {file : Bytes} {work : List ℕ} (sizes : Sizes) {o n r : ℕ} (octets 
               go = λ f I c room p t s.
                   let P = term-parts s in
                   let q : n ≡ deepest work (sizes .rows) termDepth P = is ∙ deepest-is I P octets in
-                  let F = type-found I P ty (sought-some (sought I P) (sizes .types) ty (sought-is f I c P) g) in
+                  let F = type-found I P ty (sym (sought-is f I c P) ∙ ap placeFound g) in
                   record {
                     rule = listed g I c P ∙ broken-later 13 _ (rw (← c .terms-are, lt-ltb (sizes .terms) 60000 d, ← q, le-leb (suc n) 256 (omega arith))) ∙ none-broken;
                     memory = S .go f I c room t s (F .below) (F .type-is) (F .type-first) (add-one n ∙ ap suc q ∙ term-depth I P) (omega arith) p;

@@ -16,7 +16,7 @@ use Rattle.index.specs.Cells.{store, typeOffset, typeFirst, typeDepth, typePlac
 use Rattle.index.specs.declared.Sizes.{Sizes}
 use Rattle.index.specs.Rules.{greatest, limits, rulesBy}
 use Rattle.index_compare.proofs.Prints.{Octets}
-use Rattle.index_compare.specs.View.{viewed, numbers, segmentsAt}
+use Rattle.index_compare.specs.View.{viewed, referenceNumbers, segmentsAt}
 use Rattle.index_compare.specs.declared.compare.View.the-variants.{Depth}
 use Rattle.index_compare.proofs.Listed.{greatest-type}
 use Rattle.check_rules.specs.Records.{TypeAscends}
@@ -41,7 +41,7 @@ module _ {file : Bytes} {f : TermFile} {work : List ℕ} {k o : ℕ} {t : Ty} (I
   type-rules = rules-by I P
 
   -- the depth that the walk over the body gives
-  deepest-is : Octets file → greatest (numbers 2 (map (viewed work k Depth) (segmentsAt file o))) ≡ deepest work k typeDepth P
+  deepest-is : Octets file → greatest (referenceNumbers 2 (map (viewed work k Depth) (segmentsAt file o))) ≡ deepest work k typeDepth P
   unfolding deepest
   deepest-is octets = greatest-type file work k o octets (P .reads)
 
@@ -56,7 +56,7 @@ module _ (file : Bytes) (work : List ℕ) (sizes : Sizes) (o place : ℕ) {b : B
   pub type-many : b ≡ true → 60000 ≤ sizes .types → Enters type file work work sizes o place (Broken 13)
   type-many h g = record { go = λ f I c room p t s. let P = type-parts s in record { rule = ap broken (type-rules I P) ∙ broken-later 9 _ (ascends-is A P ∙ h) ∙ broken-here 13 _ (rw (← c .types-are, le-ltb (sizes .types) 60000 g)); memory = refl } }
 
-  module _ {n : ℕ} (octets : Octets file) (is : n ≡ greatest (numbers 2 (map (viewed work (sizes .rows) Depth) (segmentsAt file o)))) where
+  module _ {n : ℕ} (octets : Octets file) (is : n ≡ greatest (referenceNumbers 2 (map (viewed work (sizes .rows) Depth) (segmentsAt file o)))) where
     pub type-deep : b ≡ true → sizes .types < 60000 → 255 < n → Enters type file work work sizes o place (Broken 13)
     type-deep h g d =
         record {

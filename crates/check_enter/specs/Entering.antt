@@ -21,13 +21,13 @@ brokenRule (Broken n) = some n
 
 -- the memory after an answer: the index with the record x, or as it was
 abbrev pub Memory : Bytes → TermFile → List ℕ → List ℕ → ℕ → Named → Entered → Type 0
-Memory file f work work′ k x Done = Indexed file (f ++ (x ∷ [])) work′ k
-Memory file f work work′ k x (Broken n) = work′ ≡ work
+Memory file f work work′ rows x Done = Indexed file (f ++ (x ∷ [])) work′ rows
+Memory file f work work′ rows x (Broken n) = work′ ≡ work
 
 -- the answer says the first rule that the record x breaks after the records f, if it breaks one
-pub record Outcome (file : Bytes) (f : TermFile) (work work′ : List ℕ) (k : ℕ) (x : Named) (r : Entered) : Type 0 where
+pub record Outcome (file : Bytes) (f : TermFile) (work work′ : List ℕ) (rows : ℕ) (x : Named) (r : Entered) : Type 0 where
   pub rule : broken (rules f x) ≡ brokenRule r
-  pub memory : Memory file f work work′ k x r
+  pub memory : Memory file f work work′ rows x r
 
 -- a record of one kind at an offset is entered after the records f, of which these are the sizes and there are `place`
 pub record Enters {A : Type 0} (wrap : A → Named) (file : Bytes) (work work′ : List ℕ) (sizes : Sizes) (o place : ℕ) (r : Entered) : Type 0 where

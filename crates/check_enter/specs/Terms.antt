@@ -12,6 +12,7 @@ use Rattle.index.specs.Meaning.{Stands, SizesOf}
 use Rattle.index.specs.declared.Sizes.{Sizes}
 use Rattle.index_search.specs.Searchable.{Indexed}
 use Rattle.check_types.specs.Sought.{TypeSought}
+use Rattle.check_types.specs.declared.Found.{Found}
 use Rattle.check_enter.specs.Entering.{Enters}
 use Rattle.check_enter.specs.declared.Entered.{Entered}
 
@@ -20,6 +21,6 @@ pub record StoresTerm (file : Bytes) (work work′ : List ℕ) (sizes : Sizes) (
   pub go : (f : TermFile) → Indexed file f work (sizes .rows) → SizesOf f sizes → suc (length f) ≤ sizes .rows → (t : Tm) → Stands file f (earlier f) o (term t)
       → ty < length (types f) → typeAt f ty ≡ typeOf t → firstType f ty ≡ ty → deep ≡ depth t → deep ≤ 256 → place ≡ length f → Indexed file (f ++ (term t ∷ [])) work′ (sizes .rows)
 
--- a term is entered where `ty` is the number of its type
-pub record EntersTyped (file : Bytes) (work work′ : List ℕ) (sizes : Sizes) (o place ty : ℕ) (r : Entered) : Type 0 where
-  pub go : TypeSought file work (sizes .rows) (sizes .types) o ty → Enters term file work work′ sizes o place r
+-- a term is entered where `found` says its type
+pub record EntersTyped (file : Bytes) (work work′ : List ℕ) (sizes : Sizes) (o place : ℕ) (found : Found) (r : Entered) : Type 0 where
+  pub go : TypeSought file work sizes o found → Enters term file work work′ sizes o place r

@@ -24,7 +24,14 @@ pub const DEEPEST_PART: u32 = 255;
 pub fn enter_fun(file: &[u8], work: &mut [u32], sizes: Sizes, offset: u32, place: u32) -> Entered
     ensures { λ r. ⌜ Enters func (now (file .entry)) (now (work .entry)) (now (work .exit)) sizes offset place r ⌝ }
 {
-    let first = index_search::search::enrol(file, work, sizes, Table::Funs, offset as usize);
+    let first = index_search::search::enrol(
+        file,
+        work,
+        sizes.rows,
+        Table::Funs,
+        sizes.funs,
+        offset as usize,
+    );
     let rows = sizes.rows;
     let n = sizes.funs as usize;
     index::set(work, rows, index::FUN_OFFSET, n, offset);
@@ -38,7 +45,14 @@ pub fn enter_fun(file: &[u8], work: &mut [u32], sizes: Sizes, offset: u32, place
 fn store_type(file: &[u8], work: &mut [u32], sizes: Sizes, offset: u32, depth: u32, place: u32)
     ensures { λ _. ⌜ StoresType (now (file .entry)) (now (work .entry)) (now (work .exit)) sizes offset depth place ⌝ }
 {
-    let first = index_search::search::enrol(file, work, sizes, Table::Types, offset as usize);
+    let first = index_search::search::enrol(
+        file,
+        work,
+        sizes.rows,
+        Table::Types,
+        sizes.types,
+        offset as usize,
+    );
     let rows = sizes.rows;
     let n = sizes.types as usize;
     index::set(work, rows, index::TYPE_OFFSET, n, offset);

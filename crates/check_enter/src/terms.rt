@@ -2,6 +2,8 @@
 use crate::DEEPEST_PART;
 use crate::Entered;
 use crate::MOST;
+use check_rules::terms::Rules;
+use check_types::Found;
 use index::Sizes;
 use index_search::search::Table;
 ghost use Rattle.script_spec.specs.File.{term};
@@ -20,7 +22,14 @@ fn store_term(
 )
     ensures { λ _. ⌜ StoresTerm (now (file .entry)) (now (work .entry)) (now (work .exit)) sizes offset ty depth place ⌝ }
 {
-    let first = index_search::search::enrol(file, work, sizes, Table::Terms, offset as usize);
+    let first = index_search::search::enrol(
+        file,
+        work,
+        sizes.rows,
+        Table::Terms,
+        sizes.terms,
+        offset as usize,
+    );
     let rows = sizes.rows;
     let n = sizes.terms as usize;
     index::set(work, rows, index::TERM_OFFSET, n, offset);
@@ -31,16 +40,16 @@ fn store_term(
     index::set(work, rows, index::NOTE, n, 0);
 }
 
-// Enters a term; `ty` is the number of its type, or that of the types where its type is not listed.
+// Enters a term; `found` says its type.
 fn enter_typed(
     file: &[u8],
     work: &mut [u32],
     sizes: Sizes,
     offset: u32,
     place: u32,
-    ty: u32,
+    found: Found,
 ) -> Entered
-    ensures { λ r. ⌜ EntersTyped (now (file .entry)) (now (work .entry)) (now (work .exit)) sizes offset place ty r ⌝ }
+    ensures { λ r. ⌜ EntersTyped (now (file .entry)) (now (work .entry)) (now (work .exit)) sizes offset place found r ⌝ }
 {
     let deepest = index_compare::compare::greatest(
         file,
@@ -49,13 +58,13 @@ fn enter_typed(
         offset as usize,
         index_compare::compare::TERM_REF,
     );
-    let rule = check_rules::terms::broken_rule(file, work, sizes.rows, offset as usize, deepest);
-    if rule != 0 {
-        return Entered::Broken(rule);
+    let rules = check_rules::terms::broken_rule(file, work, sizes.rows, offset as usize, deepest);
+    if let Rules::Broken(n) = rules {
+        return Entered::Broken(n);
     }
-    if sizes.types <= ty {
+    let Found::Listed(ty) = found else {
         return Entered::Broken(12);
-    }
+    };
     if MOST <= sizes.terms {
         return Entered::Broken(13);
     }
@@ -70,6 +79,6 @@ fn enter_typed(
 pub fn enter_term(file: &[u8], work: &mut [u32], sizes: Sizes, offset: u32, place: u32) -> Entered
     ensures { λ r. ⌜ Enters term (now (file .entry)) (now (work .entry)) (now (work .exit)) sizes offset place r ⌝ }
 {
-    let ty = check_types::type_of(file, work, sizes, offset as usize);
-    enter_typed(file, work, sizes, offset, place, ty)
+    let found = check_types::type_of(file, work, sizes, offset as usize);
+    enter_typed(file, work, sizes, offset, place, found)
 }

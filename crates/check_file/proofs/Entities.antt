@@ -21,7 +21,7 @@ use Rattle.index.specs.Standing.{markAt, bodyAt, entryAt}
 use Rattle.index.specs.Meaning.{Rows}
 use Rattle.index.proofs.Cells.{offset-start}
 use Rattle.index.proofs.Rows.{types-fit}
-use Rattle.read_record.specs.Bodies.{isEntityAt, after}
+use Rattle.read_record.specs.Bodies.{isEntityAt, earlierWith}
 use Rattle.check_rules.specs.Marks.{datatypeBytes, typeBytes, markOf}
 use Rattle.check_rules.proofs.Marks.{entry-mark}
 use Rattle.check_types.proofs.Same.{type-value}
@@ -65,6 +65,6 @@ module _ {file : Bytes} {f : TermFile} {work : List ℕ} {k : ℕ} (I : Rows fil
       let size : length (take (length (types f)) work) ≡ length (types f) = simp length-take (omega (arith, types-fit I, I .fits)) in
       rw (size, le-ltb n (length (types f)) (omega arith), List·getD-eq-default (types f) (node Bool· nil) {n = n} (omega arith))
 
-  pub after-earlier : after (length (types f)) (length (funs f)) (length (terms f)) file (take (length (types f)) work) ≡ earlier f
-  unfolding after earlier
+  pub after-earlier : earlierWith (length (types f)) (length (funs f)) (length (terms f)) file (take (length (types f)) work) ≡ earlier f
+  unfolding earlierWith earlier
   after-earlier = λ i. record { types = length (types f); funs = length (funs f); terms = length (terms f); isEntity = λ n. entity-at n (decLt n (length (types f))) i }

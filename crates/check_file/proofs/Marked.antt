@@ -17,7 +17,7 @@ use Rattle.read_record.specs.Marks.{mark}
 use Rattle.read_record.specs.declared.mark.Kind.{Kind}
 use Rattle.read_record.specs.declared.mark.Kind.the-variants as kind
 use Rattle.read_record.proofs.mark.Kind.{the-type}
-use Rattle.check_file.specs.Stepping.{IsType, IsEnum, IsFun, IsTerm, IsInput, HasMark}
+use Rattle.check_file.specs.Stepping.{TypeRecord, EnumRecord, FunRecord, TermRecord, InputRecord, HasMark}
 use Rattle.check_rules.specs.Marks.{datatypeBytes, typeBytes, termBytes, markOf}
 
 type-byte : (m : TypeMark) → getD (typeBytes m) 0 0 ≡ 84
@@ -47,11 +47,11 @@ term-byte (App n op) = refl
 
 -- what the first byte of an entry's mark says of the entry
 record OfByte (x : Entry) (byte : ℕ) : Type 0 where
-  a-type : byte ≡ 84 → IsType x
-  an-enum : byte ≡ 69 → IsEnum x
-  a-func : byte ≡ 85 → IsFun x
-  a-term : byte ≡ 88 → IsTerm x
-  an-input : byte ≡ 73 → IsInput x
+  a-type : byte ≡ 84 → TypeRecord x
+  an-enum : byte ≡ 69 → EnumRecord x
+  a-func : byte ≡ 85 → FunRecord x
+  a-term : byte ≡ 88 → TermRecord x
+  an-input : byte ≡ 73 → InputRecord x
 
 kind-of : (x : Entry) → OfByte x (getD (markOf x) 0 0)
 unfolding markOf Computes.base
@@ -112,7 +112,7 @@ module _ (x : Entry) where
   byte-is : {s : Bytes} → some s ≡ some (markOf x) → getD (markOf x) 0 0 ≡ getD s 0 0
   byte-is {s} e = let q : s ≡ markOf x = cc in ap (λ (m : Bytes). getD m 0 0) (sym q)
 
-  pub marked-type : (k : Kind) → OneOf typeTags (tagOf the-type k) → HasMark k x → IsType x
+  pub marked-type : (k : Kind) → OneOf typeTags (tagOf the-type k) → HasMark k x → TypeRecord x
   unfolding mark Computes.base
   marked-type kind.TB h e = kind-of x .a-type (byte-is e)
   marked-type kind.TS h e = kind-of x .a-type (byte-is e)
@@ -138,7 +138,7 @@ module _ (x : Entry) where
   marked-type kind.IN h e = absurd (miss typeTags 21 tt h)
   marked-type kind.Unknown h e = absurd (miss typeTags 22 tt h)
 
-  pub marked-term : (k : Kind) → OneOf termTags (tagOf the-type k) → HasMark k x → IsTerm x
+  pub marked-term : (k : Kind) → OneOf termTags (tagOf the-type k) → HasMark k x → TermRecord x
   unfolding mark Computes.base
   marked-term kind.TB h e = absurd (miss termTags 0 tt h)
   marked-term kind.TS h e = absurd (miss termTags 1 tt h)
@@ -165,15 +165,15 @@ module _ (x : Entry) where
   marked-term kind.Unknown h e = absurd (miss termTags 22 tt h)
 
   module _ {k : Kind} (e : HasMark k x) where
-    pub marked-enum : k ≡ kind.EN → IsEnum x
+    pub marked-enum : k ≡ kind.EN → EnumRecord x
     unfolding mark Computes.base
     marked-enum q = kind-of x .an-enum (byte-is (ap mark (sym q) ∙ e))
 
-    pub marked-fun : k ≡ kind.UF → IsFun x
+    pub marked-fun : k ≡ kind.UF → FunRecord x
     unfolding mark Computes.base
     marked-fun q = kind-of x .a-func (byte-is (ap mark (sym q) ∙ e))
 
-    pub marked-input : k ≡ kind.IN → IsInput x
+    pub marked-input : k ≡ kind.IN → InputRecord x
     unfolding mark Computes.base
     marked-input q = kind-of x .an-input (byte-is (ap mark (sym q) ∙ e))
 

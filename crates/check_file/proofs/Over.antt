@@ -21,7 +21,7 @@ use Rattle.check_enter.specs.Enums.{enumNamed}
 use Rattle.check_enter.specs.declared.Entered.{Entered}
 use Rattle.check_enter.specs.declared.Entered.the-variants.{Done, Broken}
 use Rattle.check_file.specs.Promise.{together}
-use Rattle.check_file.specs.Stepping.{Before, Stepped, TurnedBack, ReadUpTo, IsType, IsEnum, IsFun, IsTerm, IsInput, StepsOver}
+use Rattle.check_file.specs.Stepping.{Before, Stepped, TurnedBack, ReadUpTo, TypeRecord, EnumRecord, FunRecord, TermRecord, InputRecord, StepsOver}
 use Rattle.check_file.specs.declared.kinds.Step.the-variants as step
 use Rattle.check_file.proofs.Reading.{read-entry, read-stands}
 use Rattle.check_file.proofs.Kept.{next-kept, next-broken, sizes-type, sizes-enum, sizes-func, sizes-term, sizes-input}
@@ -106,7 +106,7 @@ placed-at f {sizes} S few place =
 -- ---- each kind
 
 module _ (file : Bytes) {work work′ : List ℕ} {at : ℕ} (to : ℕ) (sizes : Sizes) {o m place : ℕ} {r : Entered} (low : at < 4294967296 → o ≡ at) (counted : together sizes < 4294967296 → place ≡ together sizes) where
-  pub type-row : (sizes .types < 4294967295 → m ≡ suc (sizes .types)) → Enters type file work work′ sizes o place r → Row IsType file work work′ at to sizes r (record { rows = sizes .rows; types = m; funs = sizes .funs; terms = sizes .terms; enums = sizes .enums; inputs = sizes .inputs })
+  pub type-row : (sizes .types < 4294967295 → m ≡ suc (sizes .types)) → Enters type file work work′ sizes o place r → Row TypeRecord file work work′ at to sizes r (record { rows = sizes .rows; types = m; funs = sizes .funs; terms = sizes .terms; enums = sizes .enums; inputs = sizes .inputs })
   unfolding named
   type-row more E =
       record {
@@ -122,7 +122,7 @@ module _ (file : Bytes) {work work′ : List ℕ} {at : ℕ} (to : ℕ) (sizes :
             };
       }
 
-  pub enum-row : (sizes .enums < 4294967295 → m ≡ suc (sizes .enums)) → Enters enumNamed file work work′ sizes o place r → Row IsEnum file work work′ at to sizes r (record { rows = sizes .rows; types = sizes .types; funs = sizes .funs; terms = sizes .terms; enums = m; inputs = sizes .inputs })
+  pub enum-row : (sizes .enums < 4294967295 → m ≡ suc (sizes .enums)) → Enters enumNamed file work work′ sizes o place r → Row EnumRecord file work work′ at to sizes r (record { rows = sizes .rows; types = sizes .types; funs = sizes .funs; terms = sizes .terms; enums = m; inputs = sizes .inputs })
   unfolding named enumNamed
   enum-row more E =
       record {
@@ -137,7 +137,7 @@ module _ (file : Bytes) {work work′ : List ℕ} {at : ℕ} (to : ℕ) (sizes :
             };
       }
 
-  pub fun-row : (sizes .funs < 4294967295 → m ≡ suc (sizes .funs)) → Enters func file work work′ sizes o place r → Row IsFun file work work′ at to sizes r (record { rows = sizes .rows; types = sizes .types; funs = m; terms = sizes .terms; enums = sizes .enums; inputs = sizes .inputs })
+  pub fun-row : (sizes .funs < 4294967295 → m ≡ suc (sizes .funs)) → Enters func file work work′ sizes o place r → Row FunRecord file work work′ at to sizes r (record { rows = sizes .rows; types = sizes .types; funs = m; terms = sizes .terms; enums = sizes .enums; inputs = sizes .inputs })
   unfolding named
   fun-row more E =
       record {
@@ -153,7 +153,7 @@ module _ (file : Bytes) {work work′ : List ℕ} {at : ℕ} (to : ℕ) (sizes :
             };
       }
 
-  pub term-row : (sizes .terms < 4294967295 → m ≡ suc (sizes .terms)) → Enters term file work work′ sizes o place r → Row IsTerm file work work′ at to sizes r (record { rows = sizes .rows; types = sizes .types; funs = sizes .funs; terms = m; enums = sizes .enums; inputs = sizes .inputs })
+  pub term-row : (sizes .terms < 4294967295 → m ≡ suc (sizes .terms)) → Enters term file work work′ sizes o place r → Row TermRecord file work work′ at to sizes r (record { rows = sizes .rows; types = sizes .types; funs = sizes .funs; terms = m; enums = sizes .enums; inputs = sizes .inputs })
   unfolding named
   term-row more E =
       record {
@@ -169,7 +169,7 @@ module _ (file : Bytes) {work work′ : List ℕ} {at : ℕ} (to : ℕ) (sizes :
             };
       }
 
-  pub input-row : (sizes .inputs < 4294967295 → m ≡ suc (sizes .inputs)) → Enters input file work work′ sizes o place r → Row IsInput file work work′ at to sizes r (record { rows = sizes .rows; types = sizes .types; funs = sizes .funs; terms = sizes .terms; enums = sizes .enums; inputs = m })
+  pub input-row : (sizes .inputs < 4294967295 → m ≡ suc (sizes .inputs)) → Enters input file work work′ sizes o place r → Row InputRecord file work work′ at to sizes r (record { rows = sizes .rows; types = sizes .types; funs = sizes .funs; terms = sizes .terms; enums = sizes .enums; inputs = m })
   unfolding named
   input-row more E =
       record {

@@ -49,7 +49,16 @@ pub record Refuses (file : Bytes) (work work′ : List ℕ) (n p : ℕ) : Type 0
   pub refuses : checked file (length work) ≡ refused n p
   pub cleared : work′ ≡ replicate (length work) 0
 
+-- fill's answer in document 01's terms: acceptance, with the sizes of the index, or the refusal's number and place
+abbrev pub filledAs : Filled → Answer Sizes
+filledAs (fill.Done sizes) = accepted sizes
+filledAs (fill.Refused n p) = refused n p
+
+-- such an answer is document 01's, and the memory at exit is as it says
+abbrev pub Answers : Bytes → List ℕ → List ℕ → Answer Sizes → Type 0
+Answers file work work′ (accepted sizes) = Accepts file work work′ sizes
+Answers file work work′ (refused n p) = Refuses file work work′ n p
+
 -- fill's promise on a file, the memory at entry and at exit, and its answer
 abbrev pub Fills : Bytes → List ℕ → List ℕ → Filled → Type 0
-Fills file work work′ (fill.Done sizes) = Accepts file work work′ sizes
-Fills file work work′ (fill.Refused n p) = Refuses file work work′ n p
+Fills file work work′ r = Answers file work work′ (filledAs r)

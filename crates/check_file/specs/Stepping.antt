@@ -12,6 +12,7 @@ use Rattle.script_spec.specs.File.{TermFile, Named, earlier, nextRecord}
 use Rattle.index.specs.Meaning.{SizesOf}
 use Rattle.index.specs.declared.Sizes.{Sizes}
 use Rattle.index_search.specs.Searchable.{Indexed}
+use Rattle.read_field.specs.Reads.{Told, value, refusal}
 use Rattle.read_record.specs.Marks.{mark}
 use Rattle.read_record.specs.Records.{readRecord}
 use Rattle.read_record.specs.declared.mark.Kind.{Kind}
@@ -42,10 +43,19 @@ pub record TurnedBack (file : Bytes) (f : TermFile) (work work′ : List ℕ) (a
   pub next : nextRecord f (drop at file) ≡ bad n
   pub unchanged : work′ ≡ work
 
+-- a step's answer in document 01's terms: the sizes with the record and the place after it, or the refusal's number
+abbrev pub stepTold : Step → Told Sizes
+stepTold (step.To to sizes) = value sizes to
+stepTold (step.Bad n) = refusal n
+
+-- what is told is document 01's answer for the next record, and the memory is as it says
+abbrev pub StepTells : Bytes → TermFile → List ℕ → List ℕ → ℕ → Told Sizes → Type 0
+StepTells file f work work′ at (value sizes to) = Stepped file f work′ at to sizes
+StepTells file f work work′ at (refusal n) = TurnedBack file f work work′ at n
+
 -- what the answer says
 abbrev pub Stepping : Bytes → TermFile → List ℕ → List ℕ → ℕ → Step → Type 0
-Stepping file f work work′ at (step.To to sizes) = Stepped file f work′ at to sizes
-Stepping file f work work′ at (step.Bad n) = TurnedBack file f work work′ at n
+Stepping file f work work′ at r = StepTells file f work work′ at (stepTold r)
 
 -- r is a step over the record at a place
 pub record Steps (file : Bytes) (work work′ : List ℕ) (at : ℕ) (sizes : Sizes) (r : Step) : Type 0 where
@@ -54,24 +64,24 @@ pub record Steps (file : Bytes) (work work′ : List ℕ) (at : ℕ) (sizes : Si
 -- ---- records by their kinds
 
 -- x is a type
-abbrev pub IsType : Entry → Type 0
-IsType x = (m : TypeMark) × (rs : List ℕ) × (x ≡ type m rs)
+abbrev pub TypeRecord : Entry → Type 0
+TypeRecord x = (m : TypeMark) × (rs : List ℕ) × (x ≡ type m rs)
 
 -- x is an enum
-abbrev pub IsEnum : Entry → Type 0
-IsEnum x = (name : Bytes) × (members : List Bytes) × (x ≡ enum name members)
+abbrev pub EnumRecord : Entry → Type 0
+EnumRecord x = (name : Bytes) × (members : List Bytes) × (x ≡ enum name members)
 
 -- x is a function
-abbrev pub IsFun : Entry → Type 0
-IsFun x = (id : Bytes) × (a : ℕ) × (r : ℕ) × (x ≡ func id a r)
+abbrev pub FunRecord : Entry → Type 0
+FunRecord x = (id : Bytes) × (a : ℕ) × (r : ℕ) × (x ≡ func id a r)
 
 -- x is a term
-abbrev pub IsTerm : Entry → Type 0
-IsTerm x = (m : TermMark ℕ ℕ) × (rs : List ℕ) × (x ≡ term m rs)
+abbrev pub TermRecord : Entry → Type 0
+TermRecord x = (m : TermMark ℕ ℕ) × (rs : List ℕ) × (x ≡ term m rs)
 
 -- x is an input
-abbrev pub IsInput : Entry → Type 0
-IsInput x = (n : ℕ) × (x ≡ input n)
+abbrev pub InputRecord : Entry → Type 0
+InputRecord x = (n : ℕ) × (x ≡ input n)
 
 -- x has the mark of a kind
 abbrev pub HasMark : Kind → Entry → Type 0

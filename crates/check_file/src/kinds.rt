@@ -4,7 +4,7 @@ use index::Sizes;
 ghost use mathlib.Core.Path.{_≡_};
 ghost use Prim.Native.Nat.{suc, _<_};
 ghost use Rattle.check_file.specs.Promise.{together};
-ghost use Rattle.check_file.specs.Stepping.{IsType, IsEnum, IsFun, IsTerm, IsInput, StepsOver};
+ghost use Rattle.check_file.specs.Stepping.{TypeRecord, EnumRecord, FunRecord, TermRecord, InputRecord, StepsOver};
 
 // The place after a record and the sizes with it, or the number of its refusal.
 pub enum Step {
@@ -46,7 +46,7 @@ pub fn next_place(sizes: Sizes) -> u32
 
 // Enters a type that was read from `at` up to `to`.
 pub fn next_type(file: &[u8], work: &mut [u32], at: usize, to: usize, sizes: Sizes) -> Step
-    ensures { λ r. ⌜ StepsOver IsType (now (file .entry)) (now (work .entry)) (now (work .exit)) at to sizes r ⌝ }
+    ensures { λ r. ⌜ StepsOver TypeRecord (now (file .entry)) (now (work .entry)) (now (work .exit)) at to sizes r ⌝ }
 {
     let types = more(sizes.types);
     let place = next_place(sizes);
@@ -68,7 +68,7 @@ pub fn next_type(file: &[u8], work: &mut [u32], at: usize, to: usize, sizes: Siz
 
 // Enters an enum.
 pub fn next_enum(file: &[u8], work: &mut [u32], at: usize, to: usize, sizes: Sizes) -> Step
-    ensures { λ r. ⌜ StepsOver IsEnum (now (file .entry)) (now (work .entry)) (now (work .exit)) at to sizes r ⌝ }
+    ensures { λ r. ⌜ StepsOver EnumRecord (now (file .entry)) (now (work .entry)) (now (work .exit)) at to sizes r ⌝ }
 {
     let enums = more(sizes.enums);
     let place = next_place(sizes);
@@ -90,7 +90,7 @@ pub fn next_enum(file: &[u8], work: &mut [u32], at: usize, to: usize, sizes: Siz
 
 // Enters a function.
 pub fn next_fun(file: &[u8], work: &mut [u32], at: usize, to: usize, sizes: Sizes) -> Step
-    ensures { λ r. ⌜ StepsOver IsFun (now (file .entry)) (now (work .entry)) (now (work .exit)) at to sizes r ⌝ }
+    ensures { λ r. ⌜ StepsOver FunRecord (now (file .entry)) (now (work .entry)) (now (work .exit)) at to sizes r ⌝ }
 {
     let funs = more(sizes.funs);
     let place = next_place(sizes);
@@ -112,7 +112,7 @@ pub fn next_fun(file: &[u8], work: &mut [u32], at: usize, to: usize, sizes: Size
 
 // Enters a term.
 pub fn next_term(file: &[u8], work: &mut [u32], at: usize, to: usize, sizes: Sizes) -> Step
-    ensures { λ r. ⌜ StepsOver IsTerm (now (file .entry)) (now (work .entry)) (now (work .exit)) at to sizes r ⌝ }
+    ensures { λ r. ⌜ StepsOver TermRecord (now (file .entry)) (now (work .entry)) (now (work .exit)) at to sizes r ⌝ }
 {
     let terms = more(sizes.terms);
     let place = next_place(sizes);
@@ -134,7 +134,7 @@ pub fn next_term(file: &[u8], work: &mut [u32], at: usize, to: usize, sizes: Siz
 
 // Enters an input.
 pub fn next_input(file: &[u8], work: &mut [u32], at: usize, to: usize, sizes: Sizes) -> Step
-    ensures { λ r. ⌜ StepsOver IsInput (now (file .entry)) (now (work .entry)) (now (work .exit)) at to sizes r ⌝ }
+    ensures { λ r. ⌜ StepsOver InputRecord (now (file .entry)) (now (work .entry)) (now (work .exit)) at to sizes r ⌝ }
 {
     let inputs = more(sizes.inputs);
     let place = next_place(sizes);

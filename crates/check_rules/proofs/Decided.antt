@@ -8,9 +8,10 @@ use mathlib.Core.List.{List, [], _∷_}
 use lib.ListN.{drop}
 use Rattle.script_spec.specs.Base.{Bytes}
 use Rattle.script_spec.specs.Fields.{Reader, got, pure, times, u32, list}
+use Rattle.script_spec.proofs.Laws.{never}
+use Rattle.script_spec.proofs.Readers.{bind-inverse}
 use Rattle.read_field.specs.Reads.{value, refusal, asRead, Reads}
-use Rattle.index_compare.proofs.Inverse.{bind-inverse}
-use Rattle.check_rules.specs.Decided.{Decides, DecidesList, Leaves}
+use Rattle.check_rules.specs.Decided.{DecidesItems, DecidesList, LeavesMemory}
 use Rattle.check_rules.proofs.Lists.{times-next, times-bad}
 
 -- something holds of the next `count` items, where there are so many
@@ -18,14 +19,14 @@ pub record Follows {A : Type 0} (item : Reader A) (body : Bytes) (at count : ℕ
   pub go : (xs : List A) (rest : Bytes) → times count item (drop at body) ≡ got xs rest → P xs
 
 module _ {A : Type 0} {item : Reader A} {test : List A → Bool} {body : Bytes} {at : ℕ} where
-  pub decides-none : (k : ℕ) {b : Bool} → k ≤ 0 → b ≡ test [] → Decides item test body at k b
+  pub decides-none : (k : ℕ) {b : Bool} → k ≤ 0 → b ≡ test [] → DecidesItems item test body at k b
   unfolding times pure
   decides-none zero h q = record { go = λ xs rest e. let n : xs ≡ [] = cc in rw n q }
   decides-none (suc k) h q = absurd (omega arith)
 
   -- the first item leaves it to the others
-  pub decides-next : (k : ℕ) {x : A} {to : ℕ} {others : List A → Bool} {b : Bool} → 0 < k → Reads item body at (value x to) → Follows item body to (k - 1) (λ xs. test (x ∷ xs) ≡ others xs) → Decides item others body to (k - 1) b
-      → Decides item test body at k b
+  pub decides-next : (k : ℕ) {x : A} {to : ℕ} {others : List A → Bool} {b : Bool} → 0 < k → Reads item body at (value x to) → Follows item body to (k - 1) (λ xs. test (x ∷ xs) ≡ others xs) → DecidesItems item others body to (k - 1) b
+      → DecidesItems item test body at k b
   unfolding asRead
   decides-next zero z h l D = absurd (omega arith)
   decides-next (suc k) {x} {to} z h l D =
@@ -33,7 +34,7 @@ module _ {A : Type 0} {item : Reader A} {test : List A → Bool} {body : Bytes} 
       record { go = λ xs rest e. let i = times-next item k (drop at body) xs rest x (drop to body) (h .is) e in rw (i .is) (D .go (i .tail) rest (rw less (i .reads)) ∙ sym (l .go (i .tail) rest (rw less (i .reads)))) }
 
   -- the first item decides
-  pub decides-first : (k : ℕ) {x : A} {to : ℕ} {b : Bool} → 0 < k → Reads item body at (value x to) → Follows item body to (k - 1) (λ xs. test (x ∷ xs) ≡ b) → Decides item test body at k b
+  pub decides-first : (k : ℕ) {x : A} {to : ℕ} {b : Bool} → 0 < k → Reads item body at (value x to) → Follows item body to (k - 1) (λ xs. test (x ∷ xs) ≡ b) → DecidesItems item test body at k b
   unfolding asRead
   decides-first zero z h l = absurd (omega arith)
   decides-first (suc k) {x} {to} z h l =
@@ -41,14 +42,14 @@ module _ {A : Type 0} {item : Reader A} {test : List A → Bool} {body : Bytes} 
       record { go = λ xs rest e. let i = times-next item k (drop at body) xs rest x (drop to body) (h .is) e in rw (i .is) (sym (l .go (i .tail) rest (rw less (i .reads)))) }
 
   -- an item that is not there
-  pub decides-bad : (k : ℕ) {n : ℕ} (b : Bool) → 0 < k → Reads item body at (refusal n) → Decides item test body at k b
+  pub decides-bad : (k : ℕ) {n : ℕ} (b : Bool) → 0 < k → Reads item body at (refusal n) → DecidesItems item test body at k b
   unfolding asRead
   decides-bad zero b z h = absurd (omega arith)
   decides-bad (suc k) {n} b z h = record { go = λ xs rest e. absurd (times-bad item k (drop at body) xs rest n (h .is) e) }
 
 -- what a test says of the items that are left is what the test of all says
 pub record Going {A : Type 0} (item : Reader A) (test : List A → Bool) (body : Bytes) (from count : ℕ) (others : List A → Bool) (at left : ℕ) : Type 0 where
-  pub go : (b : Bool) → Decides item others body at left b → Decides item test body from count b
+  pub go : (b : Bool) → DecidesItems item others body at left b → DecidesItems item test body from count b
 
 module _ {A : Type 0} {item : Reader A} {test : List A → Bool} {body : Bytes} {from count : ℕ} where
   pub going-start : Going item test body from count test from count
@@ -61,7 +62,7 @@ module _ {A : Type 0} {item : Reader A} {test : List A → Bool} {body : Bytes} 
 -- ---- lists
 
 module _ {A : Type 0} {item : Reader A} {test : List A → Bool} {body : Bytes} {at : ℕ} where
-  pub decides-list : {n to : ℕ} {b : Bool} → Reads u32 body at (value n to) → Decides item test body to n b → DecidesList item test body at b
+  pub decides-list : {n to : ℕ} {b : Bool} → Reads u32 body at (value n to) → DecidesItems item test body to n b → DecidesList item test body at b
   unfolding asRead list
   decides-list {n} {to} h D =
       record {
@@ -75,14 +76,14 @@ module _ {A : Type 0} {item : Reader A} {test : List A → Bool} {body : Bytes} 
   -- a count that is not there
   pub list-bad : {n : ℕ} (b : Bool) → Reads u32 body at (refusal n) → DecidesList item test body at b
   unfolding asRead list
-  list-bad b h = record { go = λ xs rest e. let x = bind-inverse u32 _ (drop at body) e in let z : _≡_ {A = ℕ} 0 1 = cc (x .first, h .is) in absurd (omega arith) }
+  list-bad b h = record { go = λ xs rest e. let x = bind-inverse u32 _ (drop at body) e in never (cc (x .first, h .is)) }
 
 -- ---- the memory
 
 -- nothing was stored
-pub leaves : {work : List ℕ} {P : Type 0} → P → Leaves work work P
+pub leaves : {work : List ℕ} {P : Type 0} → P → LeavesMemory work work P
 leaves p = record { unchanged = refl; told = p }
 
 -- what was left as it was is so for what follows
-pub leaves-so : {work work′ : List ℕ} {P Q : Type 0} → Leaves work work′ P → (P → Q) → Leaves work work′ Q
+pub leaves-so : {work work′ : List ℕ} {P Q : Type 0} → LeavesMemory work work′ P → (P → Q) → LeavesMemory work work′ Q
 leaves-so L f = record { unchanged = L .unchanged; told = f (L .told) }

@@ -11,11 +11,12 @@ use borrow.Author.Tests.{lt-ltb}
 use lib.ListN.{drop}
 use Rattle.script_spec.specs.Base.{Bytes, ascending, empty}
 use Rattle.script_spec.specs.Fields.{got, text, u32, times, list, enum}
+use Rattle.script_spec.proofs.Laws.{never}
+use Rattle.script_spec.proofs.Readers.{bind-inverse, pure-inverse}
 use Rattle.read_field.specs.Reads.{value, refusal, asRead, Reads}
 use Rattle.index.specs.Standing.{entryAt, markAt, bodyAt}
-use Rattle.index_compare.proofs.Inverse.{bind-inverse, pure-inverse}
 use Rattle.check_rules.specs.Decided.{DecidesList}
-use Rattle.check_rules.specs.Tests.{itemText, given}
+use Rattle.check_rules.specs.Tests.{itemText, anyGiven}
 use Rattle.check_rules.specs.Enums.{NameRead, MembersFrom, EnumAscends, EnumGiven, NameAt}
 use Rattle.check_rules.proofs.Decided.{decides-list}
 use Rattle.check_rules.proofs.Shapes.{enum-read}
@@ -29,7 +30,7 @@ module _ {body : Bytes} where
 
   pub name-bad : {n : ℕ} (name : Bytes) → Reads text body 0 (refusal n) → NameRead body name
   unfolding asRead
-  name-bad name h = record { go = λ u left e. let z : _≡_ {A = ℕ} 0 1 = cc (h .is, e) in absurd (omega arith) }
+  name-bad name h = record { go = λ u left e. never (cc (h .is, e)) }
 
   pub members-from : {t : Bytes} {to : ℕ} → Reads text body 0 (value t to) → MembersFrom body to
   unfolding asRead
@@ -37,11 +38,11 @@ module _ {body : Bytes} where
 
   pub members-bad : {n : ℕ} (at : ℕ) → Reads text body 0 (refusal n) → MembersFrom body at
   unfolding asRead
-  members-bad at h = record { go = λ u left e. let z : _≡_ {A = ℕ} 0 1 = cc (h .is, e) in absurd (omega arith) }
+  members-bad at h = record { go = λ u left e. never (cc (h .is, e)) }
 
 -- a list has items where its count is not 0
-times-given : (n : ℕ) (s rest : Bytes) (ts : List Bytes) → times n text s ≡ got ts rest → ltb 0 n ≡ given ts
-unfolding times given empty
+times-given : (n : ℕ) (s rest : Bytes) (ts : List Bytes) → times n text s ≡ got ts rest → ltb 0 n ≡ anyGiven ts
+unfolding times anyGiven empty
 times-given zero s rest ts e = let h = pure-inverse [] s e in rw (← h .0)
 times-given (suc n) s rest ts e =
     let b = bind-inverse text _ s e in
@@ -49,7 +50,7 @@ times-given (suc n) s rest ts e =
     let h = pure-inverse (b .value ∷ c .value) (c .mid) (c .after) in
     rw (← h .0) (lt-ltb 0 (suc n) (omega arith))
 
-pub list-given : {body : Bytes} {at n to : ℕ} → Reads u32 body at (value n to) → DecidesList text given body at (ltb 0 n)
+pub list-given : {body : Bytes} {at n to : ℕ} → Reads u32 body at (value n to) → DecidesList text anyGiven body at (ltb 0 n)
 list-given {body} {n} {to} h = decides-list h (record { go = λ ts rest e. times-given n (drop to body) rest ts e })
 
 -- ---- the enum at an offset
@@ -66,9 +67,9 @@ module _ (file : Bytes) (o : ℕ) {body : Bytes} (is : body ≡ bodyAt file o) w
   unfolding itemText
   enum-ascends M D = record { go = members-test ascending M D }
 
-  pub enum-given : {at : ℕ} {b : Bool} → MembersFrom body at → DecidesList text given body at b → EnumGiven file o b
-  unfolding given
-  enum-given M D = record { go = members-test given M D }
+  pub enum-given : {at : ℕ} {b : Bool} → MembersFrom body at → DecidesList text anyGiven body at b → EnumGiven file o b
+  unfolding anyGiven
+  enum-given M D = record { go = members-test anyGiven M D }
 
   name-is : {t : Bytes} → NameRead body t → (name : Bytes) (members : List Bytes) → entryAt file o ≡ some (enum name members) → t ≡ name
   unfolding entryAt

@@ -7,6 +7,7 @@ pub mod Ordered
 pub mod Elements
 pub mod Noted
 pub mod Marks
+pub mod EntryKinds
 pub mod Shapes
 pub mod RecordLaws
 pub mod EnumLaws

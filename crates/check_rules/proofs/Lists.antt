@@ -2,13 +2,12 @@
 -- Assumes nothing.
 use mathlib.Core.Path.{_≡_, refl, _∙_}
 use Prim.Native.Nat.{ℕ, zero, suc}
-use native.Mathlib.Omega.{arith}
 use mathlib.Core.List.{List, [], _∷_, map}
 use Rattle.script_spec.specs.Base.{Bytes, firsts}
 use Rattle.script_spec.specs.Fields.{got, bad, Reader, _>>=_, pure, u32, ref, text, pair, times, list}
-use Rattle.index_compare.proofs.Inverse.{bind-inverse, pure-inverse, tested-inverse}
+use Rattle.script_spec.proofs.Laws.{never}
+use Rattle.script_spec.proofs.Readers.{bind-got, bind-inverse, pure-inverse, tested-inverse}
 use Rattle.check_rules.specs.Tests.{namedText}
-use Rattle.index.proofs.Readers.{bind-got}
 
 -- the items after the first
 pub record Items {A : Type 0} (r : Reader A) (k : ℕ) (a : A) (left : Bytes) (xs : List A) (rest : Bytes) : Type 0 where
@@ -26,7 +25,7 @@ module _ {A : Type 0} (r : Reader A) (k : ℕ) (s : Bytes) (xs : List A) (rest :
 
   pub times-bad : (n : ℕ) → r s ≡ bad n → times (suc k) r s ≡ got xs rest → ⊥
   unfolding times
-  times-bad n q e = let b = bind-inverse r _ s e in let z : _≡_ {A = ℕ} 0 1 = cc (b .first, q) in omega arith
+  times-bad n q e = let b = bind-inverse r _ s e in never (cc (b .first, q))
 
 -- ---- other readers of the same items
 
@@ -38,13 +37,13 @@ module _ {A B : Type 0} (g : A → B) (r : Reader A) (q : Reader B) (alike : (s 
       let b = bind-inverse r _ s e in
       let c = bind-inverse (times k r) _ (b .mid) (b .after) in
       let p = pure-inverse (b .value ∷ c .value) (c .mid) (c .after) in
-      bind-got q _ s (b .mid) (g (b .value)) (alike s (b .mid) (b .value) (b .first))
-      ∙ bind-got (times k q) _ (b .mid) (c .mid) (map g (c .value)) (times-alike k (b .mid) (c .mid) (c .value) (c .first))
+      bind-got q _ (alike s (b .mid) (b .value) (b .first))
+      ∙ bind-got (times k q) _ (times-alike k (b .mid) (c .mid) (c .value) (c .first))
       ∙ (λ i. got (map g (p .0 i)) (p .1 i))
 
   list-alike : (s rest : Bytes) (xs : List A) → list r s ≡ got xs rest → list q s ≡ got (map g xs) rest
   unfolding list
-  list-alike s rest xs e = let b = bind-inverse u32 _ s e in bind-got u32 _ s (b .mid) (b .value) (b .first) ∙ times-alike (b .value) (b .mid) rest xs (b .after)
+  list-alike s rest xs e = let b = bind-inverse u32 _ s e in bind-got u32 _ (b .first) ∙ times-alike (b .value) (b .mid) rest xs (b .after)
 
 map-same : {A : Type 0} (xs : List A) → map (λ x. x) xs ≡ xs
 map-same [] = refl
@@ -68,7 +67,7 @@ module _ (count : ℕ) (s rest : Bytes) where
       let b = bind-inverse text _ s e in
       let c = bind-inverse (ref count) _ (b .mid) (b .after) in
       let h = pure-inverse (b .value, c .value) (c .mid) (c .after) in
-      bind-got text _ s (b .mid) (b .value) (b .first) ∙ bind-got u32 _ (b .mid) (c .mid) (c .value) (tested-inverse u32 8 _ (b .mid) (c .first)) ∙ (λ i. got (h .0 i .0) (h .1 i))
+      bind-got text _ (b .first) ∙ bind-got u32 _ (tested-inverse u32 8 _ (b .mid) (c .first)) ∙ (λ i. got (h .0 i .0) (h .1 i))
 
 -- the texts of named references
 pub names-read : (count : ℕ) (s rest : Bytes) (ps : List (Bytes × ℕ)) → list (pair text (ref count)) s ≡ got ps rest → list namedText s ≡ got (firsts ps) rest

@@ -5,10 +5,10 @@ use mathlib.Core.List.{[]}
 use mathlib.Core.Option.{some}
 use Rattle.script_spec.specs.Base.{Bytes}
 use Rattle.script_spec.specs.Fields.{Entry, got, Reader, _>>=_, pure, marks, leaf}
+use Rattle.script_spec.proofs.Readers.{bind-inverse, pure-inverse}
 use Rattle.index.specs.First.{All}
 use Rattle.index.specs.Standing.{loose, entryOf}
 use Rattle.index.proofs.Readers.{_&_}
-use Rattle.index_compare.proofs.Inverse.{bind-inverse, pure-inverse}
 use Rattle.index_compare.proofs.Standing.{entryOf-inverse}
 use Rattle.index_compare.proofs.Agreement.{lookup-all}
 use Rattle.check_rules.specs.Marks.{datatypeBytes, typeBytes, termBytes, markOf}

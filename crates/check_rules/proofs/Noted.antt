@@ -11,14 +11,15 @@ use lib.ListN.{length, take, drop, getD, length-drop, List·getD-map}
 use lib.Seq.{drop-drop}
 use Rattle.script_spec.specs.Base.{Bytes, any}
 use Rattle.script_spec.specs.Fields.{got, pure, low, times, u32}
-use Rattle.index.specs.Cells.{placed, cell, termFirst}
+use Rattle.script_spec.proofs.Readers.{bind-inverse, pure-inverse, u32-inverse}
+use Rattle.index.specs.Cells.{cell, termFirst}
+use Rattle.index.specs.Lists.{numberAt}
 use Rattle.index.specs.Rules.{different}
-use Rattle.index_compare.proofs.Inverse.{bind-inverse, pure-inverse, u32-inverse}
 use Rattle.check_rules.specs.Repeats.{refAt, firstAt, Repeated, Different, Answers, Tells}
 use Rattle.check_rules.specs.declared.repeats.Answer.{Answer}
 use Rattle.check_rules.specs.declared.repeats.Answer.the-variants.{Never, Once}
 use Rattle.check_rules.proofs.References.{ref-there}
-use Rattle.check_rules.specs.Decided.{Decides, Leaves}
+use Rattle.check_rules.specs.Decided.{DecidesItems, LeavesMemory}
 use Rattle.check_rules.specs.Tests.{differentTerms}
 
 -- ---- numbers that differ
@@ -70,7 +71,7 @@ ref-later : (body : Bytes) (from i : ℕ) → refAt body (from + 4) i ≡ refAt 
 unfolding refAt
 ref-later body from i =
     let e : from + 4 + 4 * i ≡ from + 4 * suc i = omega arith in
-    ap (λ (m : ℕ). placed (leb (m + 4) (length body)) (low (take 4 (drop m body))) 0) e
+    ap (numberAt body) e
 
 ref-first : (body : Bytes) (from : ℕ) → leb 4 (length (drop from body)) ≡ true → low (take 4 (drop from body)) ≡ refAt body from 0
 ref-first body from h =
@@ -110,7 +111,7 @@ module _ (body : Bytes) (work work′ : List ℕ) (k from count : ℕ) {r : Answ
   says : {a : Answer} → r ≡ a → Answers (firstAt body work k from) count a
   says e = subst (λ (r : Answer). Answers (firstAt body work k from) count r) e (T .answer)
 
-  pub never-differ : r ≡ Never → Leaves work work′ (Decides u32 (differentTerms work k) body from count true)
+  pub never-differ : r ≡ Never → LeavesMemory work work′ (DecidesItems u32 (differentTerms work k) body from count true)
   unfolding differentTerms
   never-differ e =
       record {
@@ -130,7 +131,7 @@ module _ (body : Bytes) (work work′ : List ℕ) (k from count : ℕ) {r : Answ
             };
       }
 
-  pub once-differ : r ≡ Once → Leaves work work′ (Decides u32 (differentTerms work k) body from count false)
+  pub once-differ : r ≡ Once → LeavesMemory work work′ (DecidesItems u32 (differentTerms work k) body from count false)
   unfolding differentTerms
   once-differ e =
       let P : Repeated (firstAt body work k from) count = says e in
@@ -147,5 +148,5 @@ module _ (body : Bytes) (work work′ : List ℕ) (k from count : ℕ) {r : Answ
             };
       }
 
-  pub pairs-differ : {b : Bool} → Decides u32 (differentTerms work′ k) body from count b → Leaves work work′ (Decides u32 (differentTerms work k) body from count b)
+  pub pairs-differ : {b : Bool} → DecidesItems u32 (differentTerms work′ k) body from count b → LeavesMemory work work′ (DecidesItems u32 (differentTerms work k) body from count b)
   pairs-differ D = record { unchanged = T .unchanged; told = rw (T .unchanged) at D }

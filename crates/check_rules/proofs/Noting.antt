@@ -11,9 +11,10 @@ use mathlib.Core.List.{List, [], _∷_}
 use borrow.Author.Count.{below-more}
 use lib.ListN.{length, getD, set, length-set}
 use Rattle.script_spec.specs.Base.{Bytes}
+use Rattle.script_spec.proofs.Laws.{never}
 use Rattle.index.specs.Cells.{placed, offset, cell, store, termFirst, note}
 use Rattle.index.proofs.Cells.{shared, length-store, cell-store-same, cell-store-apart}
-use Rattle.check_rules.specs.Repeats.{refAt, firstAt, noted, Noted, Notes, Clears, Repeated, Different, Earlier, Tells}
+use Rattle.check_rules.specs.Repeats.{refAt, firstAt, noted, Noted, Notes, Clears, Repeated, Different, SameEarlier, Tells}
 use Rattle.check_rules.specs.declared.repeats.Answer.the-variants.{Never, Once, Unknown}
 
 -- ---- a store that is undone
@@ -161,10 +162,10 @@ module _ {body : Bytes} {work : List ℕ} {k from n : ℕ} where
 -- ---- answers
 
 module _ {body : Bytes} {work : List ℕ} {k from : ℕ} where
-  pub none-earlier : {n : ℕ} → Earlier body work k from n false
-  none-earlier = record { go = λ t. let z : _≡_ {A = ℕ} 0 1 = cc in absurd (omega arith) }
+  pub none-earlier : {n : ℕ} → SameEarlier body work k from n false
+  none-earlier = record { go = λ t. never cc }
 
-  pub maybe-earlier : {v n a b : ℕ} {r : Bool} → (v ≡ 0 → ⊥) → v ≤ n → a ≡ firstAt body work k from (v - 1) → b ≡ firstAt body work k from n → (r ≡ true → a ≡ b) → Earlier body work k from n r
+  pub maybe-earlier : {v n a b : ℕ} {r : Bool} → (v ≡ 0 → ⊥) → v ≤ n → a ≡ firstAt body work k from (v - 1) → b ≡ firstAt body work k from n → (r ≡ true → a ≡ b) → SameEarlier body work k from n r
   maybe-earlier {v} {n} z l e q h = record { go = λ t. record { first = v - 1; second = n; ordered = omega (arith, z); below = omega arith; equal = sym e ∙ h t ∙ q } }
 
 module _ {body : Bytes} {work work₁ work₂ : List ℕ} {k from count n : ℕ} (N : Notes body work work₁ k from count n) (C : Clears body work₁ work₂ k from n) where
@@ -174,7 +175,7 @@ module _ {body : Bytes} {work work₁ work₂ : List ℕ} {k from count n : ℕ}
   pub repeats-unknown : Tells body work work₂ k from count Unknown
   repeats-unknown = record { unchanged = C .go work (N .notes); answer = tt }
 
-  pub repeats-once : {r : Bool} → (n ≡ count → ⊥) → Earlier body work₂ k from n r → r ≡ true → Tells body work work₂ k from count Once
+  pub repeats-once : {r : Bool} → (n ≡ count → ⊥) → SameEarlier body work₂ k from n r → r ≡ true → Tells body work work₂ k from count Once
   repeats-once h E t =
       let same = C .go work (N .notes) in
       let R : Repeated (firstAt body work k from) (suc n) = rw same at (E .go t) in

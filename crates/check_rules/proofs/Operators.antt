@@ -13,9 +13,9 @@ use Rattle.script_spec.specs.Tree.{Op, App}
 use Rattle.script_spec.specs.Fields.{Reader, operators, operator, plain, marks, list, ref, term}
 use Rattle.script_spec.specs.File.{TermFile, namedOp, needsArguments}
 use Rattle.script_spec.proofs.Computes
+use Rattle.script_spec.proofs.Readers.{bind-inverse, pure-inverse, ref-inverse, coded-inverse}
 use Rattle.index.proofs.Readers.{_&_}
 use Rattle.index.specs.Standing.{loose, entryOf}
-use Rattle.index_compare.proofs.Inverse.{bind-inverse, pure-inverse, ref-inverse, coded-inverse}
 use Rattle.check_rules.specs.Marks.{termBytes, markOf}
 use Rattle.check_rules.proofs.Marks.{Yields, yields-pure, yields-after}
 use Rattle.check_rules.proofs.Shapes.{read-by}

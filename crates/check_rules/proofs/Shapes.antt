@@ -9,8 +9,8 @@ use Rattle.script_spec.specs.Base.{Bytes, lookup, firsts, seconds}
 use Rattle.script_spec.specs.Tree.{Declared, recordOf, Set, Record}
 use Rattle.script_spec.specs.Fields.{Entry, Reader, got, marks, list, text, u32, ref, pair, type, enum, term}
 use Rattle.script_spec.proofs.Computes
+use Rattle.script_spec.proofs.Readers.{bind-inverse, pure-inverse, ref-inverse}
 use Rattle.index.specs.Standing.{loose, entryOf}
-use Rattle.index_compare.proofs.Inverse.{bind-inverse, pure-inverse, ref-inverse}
 use Rattle.index_compare.proofs.Standing.{entryOf-inverse}
 use Rattle.check_rules.specs.Tests.{namedText}
 use Rattle.check_rules.specs.Marks.{datatypeBytes, typeBytes, termBytes, markOf}

@@ -9,11 +9,11 @@ use Rattle.script_spec.specs.Base.{Bytes}
 use Rattle.script_spec.specs.Fields.{Reader, got, times, list}
 
 -- b is what the test says of the next `count` items, where there are so many
-pub record Decides {A : Type 0} (item : Reader A) (test : List A → Bool) (body : Bytes) (at count : ℕ) (b : Bool) : Type 0 where
+pub record DecidesItems {A : Type 0} (item : Reader A) (test : List A → Bool) (body : Bytes) (at count : ℕ) (b : Bool) : Type 0 where
   pub go : (xs : List A) (rest : Bytes) → times count item (drop at body) ≡ got xs rest → b ≡ test xs
 
 -- something is so, and the memory is as it was
-pub record Leaves (work work′ : List ℕ) (P : Type 0) : Type 0 where
+pub record LeavesMemory (work work′ : List ℕ) (P : Type 0) : Type 0 where
   pub unchanged : work′ ≡ work
   pub told : P
 

@@ -24,12 +24,12 @@ ascendingAfter previous ts = ascending (previous ∷ ts)
 
 -- one of these terms has this first equal number
 unfoldable pub anyFirst : List ℕ → ℕ → ℕ → List ℕ → Bool
-anyFirst work k n rs = any (eqb n) (map (cell work k termFirst) rs)
+anyFirst work rows n rs = any (eqb n) (map (cell work rows termFirst) rs)
 
 -- no two of these terms have the same first equal number
 unfoldable pub differentTerms : List ℕ → ℕ → List ℕ → Bool
-differentTerms work k rs = different (map (cell work k termFirst) rs)
+differentTerms work rows rs = different (map (cell work rows termFirst) rs)
 
 -- there are any
-unfoldable pub given : List Bytes → Bool
-given ts = not (empty ts)
+unfoldable pub anyGiven : List Bytes → Bool
+anyGiven ts = not (empty ts)

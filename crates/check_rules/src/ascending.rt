@@ -6,7 +6,7 @@ ghost use lib.ListN.{take, drop};
 ghost use Rattle.read_field.specs.Reads.{Reads};
 ghost use Rattle.read_field.specs.Answers.{textTold};
 ghost use Rattle.script_spec.specs.Base.{ascending};
-ghost use Rattle.check_rules.specs.Decided.{Decides};
+ghost use Rattle.check_rules.specs.Decided.{DecidesItems};
 ghost use Rattle.check_rules.specs.Tests.{namedText, itemText, ascendingAfter};
 
 // The text of an item with a reference after it.
@@ -40,7 +40,7 @@ fn ascend_after(
     from: usize,
     count: u32,
 ) -> bool
-    ensures { λ r. ⌜ Decides (itemText named) (ascendingAfter (take size (drop first (now (body .entry))))) (now (body .entry)) from count r ⌝ }
+    ensures { λ r. ⌜ DecidesItems (itemText named) (ascendingAfter (take size (drop first (now (body .entry))))) (now (body .entry)) from count r ⌝ }
 {
     let mut start = first;
     let mut len = size;
@@ -70,7 +70,7 @@ fn ascend_after(
 
 // Whether so many texts from a place of the body on ascend.
 pub fn ascend(body: &[u8], named: bool, at: usize, count: u32) -> bool
-    ensures { λ r. ⌜ Decides (itemText named) ascending (now (body .entry)) at count r ⌝ }
+    ensures { λ r. ⌜ DecidesItems (itemText named) ascending (now (body .entry)) at count r ⌝ }
 {
     if count == 0 {
         return true;

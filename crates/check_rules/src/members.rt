@@ -6,7 +6,7 @@ use read_field::ReadNumber;
 use read_field::ReadText;
 ghost use Rattle.script_spec.specs.Fields.{text};
 ghost use Rattle.check_rules.specs.Decided.{DecidesList};
-ghost use Rattle.check_rules.specs.Tests.{given};
+ghost use Rattle.check_rules.specs.Tests.{anyGiven};
 ghost use Rattle.check_rules.specs.Enums.{NameRead, MembersFrom, EnumAscends, EnumGiven, NameAt};
 
 // The text at the start of a body.
@@ -31,7 +31,7 @@ fn members_at(body: &[u8]) -> usize
 
 // Whether a list of texts at a place of the body has any.
 fn list_given(body: &[u8], at: usize) -> bool
-    ensures { λ r. ⌜ DecidesList text given (now (body .entry)) at r ⌝ }
+    ensures { λ r. ⌜ DecidesList text anyGiven (now (body .entry)) at r ⌝ }
 {
     match (Cursor { at }).u32_le(body) {
         ReadNumber::Bad(_) => true,

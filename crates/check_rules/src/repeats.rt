@@ -1,7 +1,7 @@
 // Whether two of the references of a list are to equal terms: each first equal number is noted in a column that check does not need, and
 // the notes are cleared again.
 ghost use mathlib.Core.Path.{_≡_};
-ghost use Rattle.check_rules.specs.Repeats.{refAt, firstAt, Notes, Clears, Earlier, Tells};
+ghost use Rattle.check_rules.specs.Repeats.{refAt, firstAt, Notes, Clears, SameEarlier, Tells};
 use index_compare::segments::Word;
 
 // No two references are to equal terms; two are; or that is not told, as where the column had other notes.
@@ -72,7 +72,7 @@ fn clear(body: &[u8], work: &mut [u32], rows: usize, from: usize, n: u32)
 
 // Whether the reference before number v, which is one of the first n, is equal to the reference n.
 fn same_earlier(body: &[u8], work: &[u32], rows: usize, from: usize, v: u32, n: u32) -> bool
-    ensures { λ r. ⌜ Earlier (now (body .entry)) (now (work .entry)) rows from n r ⌝ }
+    ensures { λ r. ⌜ SameEarlier (now (body .entry)) (now (work .entry)) rows from n r ⌝ }
 {
     if v == 0 {
         return false;

@@ -1,4 +1,5 @@
 pub mod Letters
+pub mod TermTypes
 pub mod Numbers
 pub mod Read
 pub mod Same

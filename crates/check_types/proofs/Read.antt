@@ -7,24 +7,24 @@ use native.Mathlib.Omega.{arith}
 use mathlib.Core.List.{List, [], _∷_, map}
 use mathlib.Core.Option.{some}
 use lib.Dec.{ltb}
-use lib.ListN.{length, getD, drop, List·getD-eq-default}
+use lib.ListN.{getD, drop}
 use Rattle.script_spec.specs.Base.{Bytes, bytes}
 use Rattle.script_spec.specs.Tree.{TypeMark, Bool·, String·, Option·, Set·, BitVec·, Declared, entity, extension, recordOf, ExtType, Value, V4, V6, DecimalV, DatetimeV, DurationV, extTypeOf}
 use Rattle.script_spec.specs.Tree.{TermMark, Var, BoolLit, BitVecLit, StringLit, Entity, ExtLit, None, Some, Set, Record, App}
 use Rattle.script_spec.specs.Fields.{type, term, marks, leaf, width, number, ensure}
 use Rattle.script_spec.proofs.Computes
+use Rattle.script_spec.proofs.Readers.{bind-inverse, pure-inverse}
 use Rattle.index.specs.Cells.{cell, typeFirst, termType}
 use Rattle.index.specs.Rules.{typeBy}
 use Rattle.index.specs.Standing.{markAt, sizeAt, bodyAt, entryOf, entryAt}
 use Rattle.index.specs.Lists.{numberAt}
 use Rattle.index_entry.proofs.Inverse.{tested-inverse}
 use Rattle.index_compare.specs.Segment.{Segment, plain, typeRef, termRef}
-use Rattle.index_compare.specs.Machine.{segments, start, startType, startTerm, startList, ahead, remaining, fieldThen, last, items}
-use Rattle.index_compare.specs.Printed.{extTypeCode, valueBytes, counted, typeSegments, termSegments, segmentsOf}
-use Rattle.index_compare.proofs.Inverse.{bind-inverse, pure-inverse}
+use Rattle.index_compare.specs.Machine.{segments, walkStart, startType, startTerm, startList, ahead, remaining, fieldThen, last, items}
+use Rattle.index_compare.specs.Printed.{extTypeCode, valueBytes, countBefore, typeSegments, termSegments, segmentsOf}
 use Rattle.index_compare.proofs.Prints.{Octets, octets-take, octets-drop}
 use Rattle.index_compare.proofs.Shown.{segments-shown}
-use Rattle.index_compare.specs.View.{viewed, termAs, kindOf, numberOf, ofKind, numbers}
+use Rattle.index_compare.specs.View.{viewed, termAs, kindOf, referenceNumber, ofKind, referenceNumbers}
 use Rattle.index_compare.specs.declared.compare.View.the-variants.{Listed}
 use Rattle.index_compare.proofs.Listed.{segmentsAt-shown}
 use Rattle.check_rules.specs.Marks.{datatypeBytes, typeBytes, termBytes, markOf}
@@ -64,7 +64,7 @@ module _ (mark body : Bytes) where
       tested-inverse 7 _ body (b .first) (λ v d. v ∙ literal-width (p .0))
 
   code-type : Octets body → {x : ExtType} {rs : List ℕ} → entryOf mark body ≡ some (type (Declared (extension x)) rs) → getD body 0 0 ≡ extTypeCode x
-  unfolding markOf typeBytes datatypeBytes Computes.base segments start startType ahead remaining fieldThen last items segmentsOf typeSegments
+  unfolding markOf typeBytes datatypeBytes Computes.base segments walkStart startType ahead remaining fieldThen last items segmentsOf typeSegments
   code-type octets {x} {rs} e =
       let m : mark ≡ bytes "TX" = entry-mark mark body e in
       let s : plain body ∷ [] ≡ plain (extTypeCode x ∷ []) ∷ map typeRef rs = sym (ap (λ (b : Bytes). segments b body) m) ∙ segments-shown mark body octets e in
@@ -72,7 +72,7 @@ module _ (mark body : Bytes) where
       ap (λ (b : Bytes). getD b 0 0) is
 
   code-term : Octets body → {v : Value} {rs : List ℕ} → entryOf mark body ≡ some (term (ExtLit v) rs) → body ≡ valueBytes v
-  unfolding markOf termBytes Computes.base segments start startTerm startList ahead remaining fieldThen last items segmentsOf termSegments
+  unfolding markOf termBytes Computes.base segments walkStart startTerm startList ahead remaining fieldThen last items segmentsOf termSegments
   code-term octets {v} {rs} e =
       let m : mark ≡ bytes "XX" = entry-mark mark body e in
       let s : plain body ∷ [] ≡ plain (valueBytes v) ∷ map termRef rs = sym (ap (λ (b : Bytes). segments b body) m) ∙ segments-shown mark body octets e in
@@ -89,13 +89,9 @@ value-code (DurationV n) = refl
 -- ---- what the functions read
 
 module _ (file : Bytes) (o : ℕ) {body : Bytes} (is : body ≡ bodyAt file o) where
-  pub code-none : length body ≡ 0 → 0 ≡ codeAt file o
+  pub code-first : {n : ℕ} → n ≡ getD body 0 0 → n ≡ codeAt file o
   unfolding codeAt
-  code-none h = rw (← is) (sym (List·getD-eq-default body 0 {n = 0} (omega arith)))
-
-  pub code-first : getD body 0 0 ≡ codeAt file o
-  unfolding codeAt
-  code-first = rw is
+  code-first e = e ∙ ap (λ (b : Bytes). getD b 0 0) is
 
   pub width-first : {n : ℕ} → n ≡ numberAt body 0 → n ≡ widthAt file o
   unfolding widthAt
@@ -109,19 +105,19 @@ code-of-value file o is q = rw (q, is)
 -- ---- segments, with types listed
 
 module _ (work : List ℕ) (k : ℕ) where
-  types-listed : (rs : List ℕ) → numbers 2 (map (viewed work k Listed) (map typeRef rs)) ≡ map (cell work k typeFirst) rs
-  unfolding numbers ofKind kindOf numberOf viewed
+  types-listed : (rs : List ℕ) → referenceNumbers 2 (map (viewed work k Listed) (map typeRef rs)) ≡ map (cell work k typeFirst) rs
+  unfolding referenceNumbers ofKind kindOf referenceNumber viewed
   types-listed [] = refl
   types-listed (n ∷ rs) = ap (λ (l : List ℕ). cell work k typeFirst n ∷ l) (types-listed rs)
 
-  terms-listed : (rs : List ℕ) → numbers 2 (map (viewed work k Listed) (map termRef rs)) ≡ map (cell work k termType) rs
-  unfolding numbers ofKind kindOf numberOf viewed termAs
+  terms-listed : (rs : List ℕ) → referenceNumbers 2 (map (viewed work k Listed) (map termRef rs)) ≡ map (cell work k termType) rs
+  unfolding referenceNumbers ofKind kindOf referenceNumber viewed termAs
   terms-listed [] = refl
   terms-listed (n ∷ rs) = ap (λ (l : List ℕ). cell work k termType n ∷ l) (terms-listed rs)
 
   -- the first of some segments
   unfoldable pub leading : List Segment → ℕ
-  leading l = getD (numbers 2 (map (viewed work k Listed) l)) 0 0
+  leading l = getD (referenceNumbers 2 (map (viewed work k Listed) l)) 0 0
 
 module _ (file : Bytes) (octets : Octets file) (work : List ℕ) (k o : ℕ) where
   pub part-type : {t : TypeMark} {rs : List ℕ} → entryAt file o ≡ some (type t rs) → partAt file work k o ≡ leading work k (typeSegments t rs)
@@ -206,7 +202,7 @@ module _ (file : Bytes) (octets : Octets file) (work : List ℕ) (k o : ℕ) whe
   -- where the types of the children are first of their kind
   pub term-part : (m : TermMark ℕ ℕ) (rs : List ℕ) → entryAt file o ≡ some (term m rs) → map (cell work k typeFirst) (map (cell work k termType) rs) ≡ map (cell work k termType) rs
       → Over (λ t parts. (letterOf t ≡ 67) ⊎ (letterOf t ≡ 79) → partAt file work k o ≡ typeNumber t (map (cell work k typeFirst) parts)) (typeBy (cell work k termType) m rs)
-  unfolding Over typeBy leading termSegments counted numbers ofKind kindOf numberOf viewed termAs typeNumber typeBytes datatypeBytes Computes.base
+  unfolding Over typeBy leading termSegments countBefore referenceNumbers ofKind kindOf referenceNumber viewed termAs typeNumber typeBytes datatypeBytes Computes.base
   term-part (Var id n) rs e s = tt
   term-part (BoolLit b) rs e s = neither _ (λ q. omega arith) (λ q. omega arith)
   term-part (BitVecLit n v) rs e s = neither _ (λ q. omega arith) (λ q. omega arith)

@@ -1,4 +1,4 @@
--- Whether a type is that of a term: by the letter of its mark and its number, and for a record type by the segments.
+-- Whether a type is that of a term: by its kind and its number, and for a record type by the segments.
 -- Assumes nothing.
 use mathlib.Core.Path.{_≡_, refl, sym, ap, _∙_, subst}
 use mathlib.Core.Logic.{_⊎_, inl, inr, ⊎-elim}
@@ -9,7 +9,9 @@ use mathlib.Core.List.{List, map, map-map}
 use mathlib.Core.Option.{some}
 use lib.Dec.{eqb, eqb→eq}
 use borrow.Author.Tests.{eq-eqb}
-use lib.ListN.{length, getD, length-map}
+use package.types.Run.{OneOf}
+use denote.Enum.Declared.{tagOf}
+use lib.ListN.{length, length-map}
 use Rattle.script_spec.specs.Base.{Bytes}
 use Rattle.script_spec.specs.Tree.{Ty, TypeMark, Bool·, String·, Option·, Set·, BitVec·, Declared, entity, extension, recordOf}
 use Rattle.script_spec.specs.Tree.{TermMark, Var, BoolLit, BitVecLit, StringLit, Entity, ExtLit, None, Some, Set, Record, App}
@@ -31,8 +33,12 @@ use Rattle.index_compare.specs.declared.compare.View.the-variants.{First, Liste
 use Rattle.index_compare.proofs.Compared.{Same, decides-not}
 use Rattle.index_compare.proofs.Listed.{same-listed}
 use Rattle.check_rules.specs.Marks.{datatypeBytes, typeBytes}
-use Rattle.check_types.specs.Sought.{typeLetter, widthAt, codeAt, valueCode, partAt, PartOf, Seeks, SameType}
-use Rattle.check_types.proofs.Letters.{Over, over, letterOf, type-letter, term-letter, Lettered, lettered, Sized, SizedEntry, entry-sized}
+use Rattle.read_record.specs.Marks.{Marked}
+use Rattle.read_record.specs.declared.mark.Kind.{Kind}
+use Rattle.read_record.specs.declared.mark.Kind.the-variants as kind
+use Rattle.read_record.proofs.mark.Kind.{the-type}
+use Rattle.check_types.specs.Sought.{typeLetter, widthAt, codeAt, valueCode, partAt, KindSought, Wanted, Seeks, SameType}
+use Rattle.check_types.proofs.Letters.{Over, over, letterOf, type-letter, sought-kind-letter, no-entity, otherTags, other-kind, Sized, SizedEntry, entry-sized}
 use Rattle.check_types.proofs.Numbers.{typeNumber, same-number, no-number}
 use Rattle.check_types.proofs.Read.{type-width, type-code, type-part, term-width, term-code, term-part}
 
@@ -71,12 +77,15 @@ module _ {file : Bytes} {work : List ℕ} {k o : ℕ} {f : TermFile} {t : TypeMa
       subst (λ (b : TypeBy). Below (length (types f)) (parts b)) (S .by)
       (parts-below f (cell work k termType) (λ n h. S .index .term-row n h .type-below) (S .mark) (S .refs) (S .in-range .0) (S .in-range .1))
 
-  pub seeks-lettered : Lettered (S .mark) t
-  seeks-lettered = over (λ u rs. Lettered (S .mark) u) (S .by) (lettered (cell work k termType) (S .mark) (S .refs))
+  pub seeks-no-entity : letterOf t ≡ 69 → ⊥
+  seeks-no-entity = over (λ u rs. letterOf u ≡ 69 → ⊥) (S .by) (no-entity (cell work k termType) (S .mark) (S .refs))
 
-  -- by the letter of the term's mark
-  pub sought-letter : {l mark : ℕ} → l ≡ getD (markAt file o) 1 0 → mark ≡ typeLetter l → letterOf t ≡ mark
-  sought-letter is want = sym (seeks-lettered .letter) ∙ sym (ap typeLetter (term-letter file o is (S .reads))) ∙ sym want
+  -- by the kind of the type
+  pub sought-letter : {sought : Kind} → KindSought file o sought → letterOf t ≡ typeLetter sought
+  sought-letter K = sought-kind-letter file o K (S .reads) (cell work k termType) (S .by)
+
+  pub sought-other : (sought : Kind) → KindSought file o sought → OneOf otherTags (tagOf the-type sought) → ⊥
+  sought-other sought K h = other-kind sought h t (K .go (S .mark) (S .refs) (S .reads) (cell work k termType) t ps (S .by)) seeks-no-entity
 
   pub seeks-sized : Sized t (length ps)
   unfolding SizedEntry
@@ -126,43 +135,37 @@ record-term τ (App n op) rs = tt
 names-of : {a b : List Bytes} → Declared (recordOf a) ≡ Declared (recordOf b) → a ≡ b
 names-of e = cc
 
--- ---- the part
-
-module _ {file : Bytes} {work : List ℕ} {k o l mark : ℕ} (is : l ≡ getD (markAt file o) 1 0) (want : mark ≡ typeLetter l) where
-  -- by the letter of the type's mark
-  pub part-is : {n : ℕ} → PartOf file work k o n → (mark ≡ 67) ⊎ (mark ≡ 79) → n ≡ partAt file work k o
-  part-is P m = P .go (rw (← is, ← want) m)
-
-  pub part-none : {n : ℕ} → ((mark ≡ 67) ⊎ (mark ≡ 79) → ⊥) → PartOf file work k o n
-  part-none h = record { go = λ m. absurd (h (rw (want, is) m)) }
-
 -- ---- the test
 
 pub decides-same : {P Q : Type 0} {r : Bool} → Same P Q → Decides r Q → Decides r P
 decides-same s d = record { true-of = λ p. d .true-of (s .to p); of-true = λ h. s .from (d .of-true h) }
 
-module _ {file : Bytes} {work : List ℕ} {k p o l l′ mark : ℕ} (is : l ≡ getD (markAt file o) 1 0) (want : mark ≡ typeLetter l) (is′ : l′ ≡ getD (markAt file p) 1 0) where
+module _ {file : Bytes} {work : List ℕ} {k p o part : ℕ} {sought other : Kind} (W : Wanted file work k o sought part) (M : Marked (markAt file p) other) where
   -- other letters
-  pub other-letter : (l′ ≡ mark → ⊥) → SameType file work k p o false
+  pub other-letter : (typeLetter other ≡ typeLetter sought → ⊥) → SameType file work k p o false
   other-letter h =
       record {
         go = λ f t ps S u rs e b.
-            decides-not (λ q. h (type-letter file p is′ e ∙ ap letterOf (equal-types (S .index) u t rs ps b (seeks-below S) .to q .0) ∙ sought-letter S is want));
+            decides-not (λ q. h (type-letter file p M e ∙ ap letterOf (equal-types (S .index) u t rs ps b (seeks-below S) .to q .0) ∙ sought-letter S (W .kind-is)));
       }
 
-  module _ (same : l′ ≡ mark) where
+  -- no term has a type of this kind, unless it refers to it
+  pub no-such : {r : Bool} → OneOf otherTags (tagOf the-type sought) → SameType file work k p o r
+  no-such h = record { go = λ f t ps S u rs e b. absurd (sought-other S sought (W .kind-is) h) }
+
+  module _ (same : typeLetter other ≡ typeLetter sought) where
     -- the same letter, and what is read are the numbers of the types
-    by-number : (mark ≡ 82 → ⊥) → {a b : ℕ} {r : Bool} → r ≡ eqb a b
-        → ((u : TypeMark) (rs : List ℕ) → entryAt file p ≡ some (type u rs) → letterOf u ≡ mark → a ≡ typeNumber u (map (cell work k typeFirst) rs))
-        → ((f : TermFile) (t : TypeMark) (ps : List ℕ) → Seeks file work k o f t ps → letterOf t ≡ mark → b ≡ typeNumber t (map (cell work k typeFirst) ps))
+    by-number : {l : ℕ} → typeLetter sought ≡ l → (l ≡ 82 → ⊥) → {a b : ℕ} {r : Bool} → r ≡ eqb a b
+        → ((u : TypeMark) (rs : List ℕ) → entryAt file p ≡ some (type u rs) → letterOf u ≡ l → a ≡ typeNumber u (map (cell work k typeFirst) rs))
+        → ((f : TermFile) (t : TypeMark) (ps : List ℕ) → Seeks file work k o f t ps → letterOf t ≡ l → b ≡ typeNumber t (map (cell work k typeFirst) ps))
         → SameType file work k p o r
     unfolding SizedEntry
-    by-number other {a} {b} {r} test number number′ =
+    by-number {l} is no-record {a} {b} {r} test number number′ =
         record {
           go = λ f t ps S u rs e below.
               let φ = cell work k typeFirst in
-              let letter : letterOf u ≡ mark = sym (type-letter file p is′ e) ∙ same in
-              let letter′ : letterOf t ≡ mark = sought-letter S is want in
+              let letter : letterOf u ≡ l = sym (type-letter file p M e) ∙ same ∙ is in
+              let letter′ : letterOf t ≡ l = sought-letter S (W .kind-is) ∙ is in
               let sized : Sized u (length (map φ rs)) = rw (length-map rs φ) (entry-sized file p e) in
               let sized′ : Sized t (length (map φ ps)) = rw (length-map ps φ) (seeks-sized S) in
               decides-same (equal-types (S .index) u t rs ps below (seeks-below S))
@@ -170,42 +173,63 @@ module _ {file : Bytes} {work : List ℕ} {k p o l l′ mark : ℕ} (is : l ≡ 
                 true-of = λ s. test ∙ eq-eqb a b (number u rs e letter ∙ (λ i. typeNumber (s .0 i) (s .1 i)) ∙ sym (number′ f t ps S letter′));
                 of-true = λ h.
                     let q : a ≡ b = eqb→eq a b (rw (← test, h) tt) in
-                    same-number u t (map φ rs) (map φ ps) sized sized′ (letter ∙ sym letter′) (λ z. other (sym letter′ ∙ z)) (seeks-lettered S .no-entity)
+                    same-number u t (map φ rs) (map φ ps) sized sized′ (letter ∙ sym letter′) (λ z. no-record (sym letter′ ∙ z)) (seeks-no-entity S)
                     (sym (number u rs e letter) ∙ q ∙ number′ f t ps S letter′);
               });
         }
 
     module _ (octets : Octets file) where
-      pub same-codes : {r : Bool} → mark ≡ 88 → r ≡ eqb (codeAt file p) (valueCode file o) → SameType file work k p o r
+      pub same-codes : {r : Bool} → sought ≡ kind.TX → r ≡ eqb (codeAt file p) (valueCode file o) → SameType file work k p o r
+      unfolding typeLetter
       same-codes m test =
-          by-number (λ z. omega arith) test (λ u rs e h. type-code file octets work k p u rs e (h ∙ m))
-          (λ f t ps S h. over (λ u rs. letterOf u ≡ 88 → valueCode file o ≡ typeNumber u (map (cell work k typeFirst) rs)) (S .by) (term-code file octets work k o (S .mark) (S .refs) (S .reads)) (h ∙ m))
+          by-number {l = 88} (ap typeLetter m) (λ z. omega arith) test (λ u rs e h. type-code file octets work k p u rs e h)
+          (λ f t ps S h. over (λ u rs. letterOf u ≡ 88 → valueCode file o ≡ typeNumber u (map (cell work k typeFirst) rs)) (S .by) (term-code file octets work k o (S .mark) (S .refs) (S .reads)) h)
 
-      pub same-widths : {r : Bool} → mark ≡ 86 → r ≡ eqb (widthAt file p) (widthAt file o) → SameType file work k p o r
+      pub same-widths : {r : Bool} → sought ≡ kind.TV → r ≡ eqb (widthAt file p) (widthAt file o) → SameType file work k p o r
+      unfolding typeLetter
       same-widths m test =
-          by-number (λ z. omega arith) test (λ u rs e h. type-width file octets work k p u rs e (h ∙ m))
-          (λ f t ps S h. over (λ u rs. letterOf u ≡ 86 → widthAt file o ≡ typeNumber u (map (cell work k typeFirst) rs)) (S .by) (term-width file octets work k o (S .mark) (S .refs) (S .reads)) (h ∙ m))
+          by-number {l = 86} (ap typeLetter m) (λ z. omega arith) test (λ u rs e h. type-width file octets work k p u rs e h)
+          (λ f t ps S h. over (λ u rs. letterOf u ≡ 86 → widthAt file o ≡ typeNumber u (map (cell work k typeFirst) rs)) (S .by) (term-width file octets work k o (S .mark) (S .refs) (S .reads)) h)
 
-      pub same-parts : {n : ℕ} {r : Bool} → (mark ≡ 67) ⊎ (mark ≡ 79) → PartOf file work k o n → r ≡ eqb (partAt file work k p) n → SameType file work k p o r
-      same-parts m P test =
-          by-number (λ z. ⊎-elim (λ h. omega arith) (λ h. omega arith) m) test (λ u rs e h. type-part file octets work k p u rs e (rw h m))
-          (λ f t ps S h. part-is is want P m ∙ over (λ u rs. (letterOf u ≡ 67) ⊎ (letterOf u ≡ 79) → partAt file work k o ≡ typeNumber u (map (cell work k typeFirst) rs)) (S .by) (term-part file octets work k o (S .mark) (S .refs) (S .reads) (seeks-settled S)) (rw h m))
+      -- by the part
+      by-part : {l : ℕ} → typeLetter sought ≡ l → (sought ≡ kind.TC) ⊎ (sought ≡ kind.TO) → (l ≡ 67) ⊎ (l ≡ 79) → {r : Bool} → r ≡ eqb (partAt file work k p) part → SameType file work k p o r
+      by-part is m c test =
+          by-number is (λ z. ⊎-elim (λ h. omega arith) (λ h. omega arith) c) test (λ u rs e h. type-part file octets work k p u rs e (rw h c))
+          (λ f t ps S h. W .part-is .go m ∙ over (λ u rs. (letterOf u ≡ 67) ⊎ (letterOf u ≡ 79) → partAt file work k o ≡ typeNumber u (map (cell work k typeFirst) rs)) (S .by) (term-part file octets work k o (S .mark) (S .refs) (S .reads) (seeks-settled S)) (rw h c))
+
+      pub same-options : {r : Bool} → sought ≡ kind.TO → r ≡ eqb (partAt file work k p) part → SameType file work k p o r
+      unfolding typeLetter
+      same-options m test = by-part {l = 79} (ap typeLetter m) (inr m) (inr refl) test
+
+      pub same-sets : {r : Bool} → sought ≡ kind.TC → r ≡ eqb (partAt file work k p) part → SameType file work k p o r
+      unfolding typeLetter
+      same-sets m test = by-part {l = 67} (ap typeLetter m) (inl m) (inl refl) test
 
     -- no fields
-    pub same-marks : (mark ≡ 82 → ⊥) → (mark ≡ 88 → ⊥) → (mark ≡ 86 → ⊥) → ((mark ≡ 67) ⊎ (mark ≡ 79) → ⊥) → SameType file work k p o true
-    same-marks r x v c =
-        by-number r {a = 0} {b = 0} refl (λ u rs e h. no-number u _ (λ q. x (sym h ∙ q)) (λ q. v (sym h ∙ q)) (λ q. c (inr (sym h ∙ q))) (λ q. c (inl (sym h ∙ q))))
-        (λ f t ps S h. no-number t _ (λ q. x (sym h ∙ q)) (λ q. v (sym h ∙ q)) (λ q. c (inr (sym h ∙ q))) (λ q. c (inl (sym h ∙ q))))
+    bare : {l : ℕ} → typeLetter sought ≡ l → (l ≡ 82 → ⊥) → (l ≡ 88 → ⊥) → (l ≡ 86 → ⊥) → (l ≡ 79 → ⊥) → (l ≡ 67 → ⊥) → SameType file work k p o true
+    bare is r x v o c =
+        by-number is r {a = 0} {b = 0} refl (λ u rs e h. no-number u _ (λ q. x (sym h ∙ q)) (λ q. v (sym h ∙ q)) (λ q. o (sym h ∙ q)) (λ q. c (sym h ∙ q)))
+        (λ f t ps S h. no-number t _ (λ q. x (sym h ∙ q)) (λ q. v (sym h ∙ q)) (λ q. o (sym h ∙ q)) (λ q. c (sym h ∙ q)))
+
+    pub same-bools : sought ≡ kind.TB → SameType file work k p o true
+    unfolding typeLetter
+    same-bools m = bare {l = 66} (ap typeLetter m) (λ z. omega arith) (λ z. omega arith) (λ z. omega arith) (λ z. omega arith) (λ z. omega arith)
+
+    pub same-strings : sought ≡ kind.TS → SameType file work k p o true
+    unfolding typeLetter
+    same-strings m = bare {l = 83} (ap typeLetter m) (λ z. omega arith) (λ z. omega arith) (λ z. omega arith) (λ z. omega arith) (λ z. omega arith)
 
     -- records
-    pub same-records : {r : Bool} → Octets file → mark ≡ 82 → Decides r (SameSegments file (viewed work k First) p (viewed work k Listed) o) → SameType file work k p o r
+    pub same-records : {r : Bool} → Octets file → sought ≡ kind.TR → Decides r (SameSegments file (viewed work k First) p (viewed work k Listed) o) → SameType file work k p o r
+    unfolding typeLetter
     same-records {r} octets m D =
         record {
           go = λ f t ps S u rs e below.
               let φ = cell work k typeFirst in
               let τ = cell work k termType in
-              let x = record-type u (sym (type-letter file p is′ e) ∙ same ∙ m) in
-              let y = over (λ v qs. letterOf v ≡ 82 → RecordTerm τ (S .mark) (S .refs) v qs) (S .by) (record-term τ (S .mark) (S .refs)) (sought-letter S is want ∙ m) in
+              let is : typeLetter sought ≡ 82 = ap typeLetter m in
+              let x = record-type u (sym (type-letter file p M e) ∙ same ∙ is) in
+              let y = over (λ v qs. letterOf v ≡ 82 → RecordTerm τ (S .mark) (S .refs) v qs) (S .by) (record-term τ (S .mark) (S .refs)) (sought-letter S (W .kind-is) ∙ is) in
               let reads : entryAt file p ≡ some (type (Declared (recordOf (x .0))) rs) = e ∙ ap (λ (v : TypeMark). some (type v rs)) (x .1) in
               let reads′ : entryAt file o ≡ some (term (Record (y .names)) (S .refs)) = S .reads ∙ ap (λ (v : TermMark ℕ ℕ). some (term v (S .refs))) (y .mark) in
               let L = same-listed work k file octets p o reads reads′ in

@@ -1,31 +1,50 @@
 // The type of a term among the types that are listed before it, by the slots of the hash table.
 use index::Sizes;
 use index_compare::record::body_at;
-use index_compare::record::letter_at;
+use index_compare::record::kind_at;
+use read_record::mark::Kind;
 ghost use mathlib.Core.Path.{_≡_};
 ghost use lib.Dec.{eqb};
-ghost use Rattle.check_types.specs.Sought.{refers, typeLetter, widthAt, codeAt, valueCode, partAt, PartOf, TypeSought, SameType};
-ghost use Rattle.check_types.specs.Probed.{TypeHash, TypeHome, Holds, Probes, ListedSought};
+ghost use Rattle.check_types.specs.Sought.{typeLetter, widthAt, codeAt, valueCode, partAt, KindSought, PartSought, Wanted, TypeSought, SameType};
+ghost use Rattle.check_types.specs.Probed.{TypeHash, TypeHome, HoldsType, ProbesType, ListedSought};
 
-// Whether a term refers to its type, by the second byte of its mark: a variable, an entity or an application.
-fn refers(letter: u8) -> bool
-    ensures { λ r. ⌜ r ≡ refers letter ⌝ }
+// The first type that is equal to a term's type, by its number, or that none is listed.
+pub enum Found {
+    Listed(u32),
+    NotListed,
+}
+
+// The kind of the type of the term at an offset; `Unknown` where the term refers to its type, and where no term stands there.
+fn kind_sought(file: &[u8], offset: usize) -> Kind
+    ensures { λ r. ⌜ KindSought (now (file .entry)) offset r ⌝ }
 {
-    match letter {
-        b'V' | b'E' | b'A' => true,
-        _ => false,
+    match kind_at(file, offset) {
+        Kind::XB => Kind::TB,
+        Kind::XN => Kind::TV,
+        Kind::XS => Kind::TS,
+        Kind::XX => Kind::TX,
+        Kind::X0 => Kind::TO,
+        Kind::X1 => Kind::TO,
+        Kind::XC => Kind::TC,
+        Kind::XR => Kind::TR,
+        _ => Kind::Unknown,
     }
 }
 
-// The second byte of the mark of a term's type, by that of the term's mark, where the term does not refer to it.
-fn type_letter(letter: u8) -> u8
-    ensures { λ r. ⌜ r ≡ typeLetter letter ⌝ }
+// The second byte of the mark of a kind of types, 0 for any other kind.
+fn letter_of(kind: Kind) -> u8
+    ensures { λ r. ⌜ r ≡ typeLetter kind ⌝ }
 {
-    match letter {
-        b'N' => b'V',
-        b'0' => b'O',
-        b'1' => b'O',
-        _ => letter,
+    match kind {
+        Kind::TB => b'B',
+        Kind::TS => b'S',
+        Kind::TV => b'V',
+        Kind::TO => b'O',
+        Kind::TC => b'C',
+        Kind::TE => b'E',
+        Kind::TX => b'X',
+        Kind::TR => b'R',
+        _ => 0,
     }
 }
 
@@ -33,11 +52,7 @@ fn type_letter(letter: u8) -> u8
 fn code_at(file: &[u8], offset: usize) -> u8
     ensures { λ r. ⌜ r ≡ codeAt (now (file .entry)) offset ⌝ }
 {
-    let body = body_at(file, offset);
-    if body.len() == 0 {
-        return 0;
-    }
-    body[0]
+    index_compare::compare::byte_at(body_at(file, offset), 0)
 }
 
 // The code of the type of the extension value at an offset.
@@ -73,12 +88,11 @@ fn same_width(file: &[u8], other: usize, offset: usize) -> bool
 }
 
 // The type that the term at an offset first refers to, where its own type is an option or a set over it; else 0.
-fn part_of(file: &[u8], work: &[u32], rows: usize, offset: usize) -> u32
-    ensures { λ r. ⌜ PartOf (now (file .entry)) (now (work .entry)) rows offset r ⌝ }
+fn part_sought(file: &[u8], work: &[u32], rows: usize, offset: usize, kind: Kind) -> u32
+    ensures { λ r. ⌜ PartSought (now (file .entry)) (now (work .entry)) rows offset kind r ⌝ }
 {
-    let letter = type_letter(letter_at(file, offset));
-    match letter {
-        b'O' | b'C' => index_compare::compare::first_reference(file, work, rows, offset),
+    match kind {
+        Kind::TO | Kind::TC => { index_compare::compare::first_reference(file, work, rows, offset) }
         _ => 0,
     }
 }
@@ -90,45 +104,57 @@ fn same_part(file: &[u8], work: &[u32], rows: usize, other: usize, part: u32) ->
     index_compare::compare::first_reference(file, work, rows, other) == part
 }
 
-// Whether the type at the offset `other` is that of the term at an offset, which does not refer to it.
-fn same_type(file: &[u8], work: &[u32], rows: usize, other: usize, offset: usize, part: u32) -> bool
-    requires { ⌜ PartOf (now file) (now work) rows offset part ⌝ }
+// Whether the type at the offset `other` is that of the term at an offset, of this kind and with this part.
+fn same_type(
+    file: &[u8],
+    work: &[u32],
+    rows: usize,
+    other: usize,
+    offset: usize,
+    kind: Kind,
+    part: u32,
+) -> bool
+    requires { ⌜ Wanted (now file) (now work) rows offset kind part ⌝ }
     ensures { λ r. ⌜ SameType (now (file .entry)) (now (work .entry)) rows other offset r ⌝ }
 {
-    let letter = type_letter(letter_at(file, offset));
-    if letter_at(file, other) != letter {
+    if letter_of(kind_at(file, other)) != letter_of(kind) {
         return false;
     }
-    match letter {
-        b'R' => index_compare::compare::same_listed_type(file, work, rows, other, offset),
-        b'X' => same_code(file, other, offset),
-        b'V' => same_width(file, other, offset),
-        b'O' | b'C' => same_part(file, work, rows, other, part),
-        _ => true,
+    match kind {
+        Kind::TB => true,
+        Kind::TS => true,
+        Kind::TV => same_width(file, other, offset),
+        Kind::TX => same_code(file, other, offset),
+        Kind::TO => same_part(file, work, rows, other, part),
+        Kind::TC => same_part(file, work, rows, other, part),
+        Kind::TR => index_compare::compare::same_listed_type(file, work, rows, other, offset),
+        _ => false,
     }
 }
 
-// The hash of the type of the term at an offset, which does not refer to it.
-fn type_hash(file: &[u8], work: &[u32], rows: usize, offset: usize, part: u32) -> u32
-    requires { ⌜ PartOf (now file) (now work) rows offset part ⌝ }
+// The hash of the type of the term at an offset, of this kind and with this part; 0 where no type is of that kind.
+fn type_hash(file: &[u8], work: &[u32], rows: usize, offset: usize, kind: Kind, part: u32) -> u32
+    requires { ⌜ Wanted (now file) (now work) rows offset kind part ⌝ }
     ensures { λ r. ⌜ TypeHash (now (file .entry)) (now (work .entry)) rows offset r ⌝ }
 {
-    let letter = type_letter(letter_at(file, offset));
-    match letter {
-        b'R' => index_search::hash::listed_hash(file, work, rows, offset),
-        b'X' => index_search::hash::code_hash(letter, value_code(file, offset)),
-        b'V' => index_search::hash::number_hash(letter, width_at(file, offset)),
-        b'O' | b'C' => index_search::hash::part_hash(letter, part),
-        _ => index_search::hash::bare_hash(letter),
+    match kind {
+        Kind::TB => index_search::hash::bare_hash(b'B'),
+        Kind::TS => index_search::hash::bare_hash(b'S'),
+        Kind::TV => index_search::hash::number_hash(b'V', width_at(file, offset)),
+        Kind::TX => index_search::hash::code_hash(b'X', value_code(file, offset)),
+        Kind::TO => index_search::hash::part_hash(b'O', part),
+        Kind::TC => index_search::hash::part_hash(b'C', part),
+        Kind::TR => index_search::hash::listed_hash(file, work, rows, offset),
+        _ => 0,
     }
 }
 
 // The slot from which the type of the term at an offset is looked for.
-fn home(file: &[u8], work: &[u32], rows: usize, offset: usize, part: u32) -> usize
-    requires { ⌜ PartOf (now file) (now work) rows offset part ⌝ }
+fn home(file: &[u8], work: &[u32], rows: usize, offset: usize, kind: Kind, part: u32) -> usize
+    requires { ⌜ Wanted (now file) (now work) rows offset kind part ⌝ }
     ensures { λ r. ⌜ TypeHome (now (file .entry)) (now (work .entry)) rows offset r ⌝ }
 {
-    index_search::slots::scale(rows, type_hash(file, work, rows, offset, part))
+    index_search::slots::scale(rows, type_hash(file, work, rows, offset, kind, part))
 }
 
 // Whether a slot that holds v has a type that is that of the term at an offset.
@@ -138,11 +164,12 @@ fn holds(
     rows: usize,
     types: u32,
     offset: usize,
+    kind: Kind,
     part: u32,
     v: u32,
 ) -> bool
-    requires { ⌜ PartOf (now file) (now work) rows offset part ⌝ }
-    ensures { λ r. ⌜ Holds (now (file .entry)) (now (work .entry)) rows types offset v r ⌝ }
+    requires { ⌜ Wanted (now file) (now work) rows offset kind part ⌝ }
+    ensures { λ r. ⌜ HoldsType (now (file .entry)) (now (work .entry)) rows types offset v r ⌝ }
 {
     let n = index_search::slots::number_of(v);
     if types <= n {
@@ -150,7 +177,7 @@ fn holds(
     }
     if index_search::slots::has(v, n, index_search::slots::TYPE) {
         let p = index::get(work, rows, index::TYPE_OFFSET, n as usize);
-        return same_type(file, work, rows, p as usize, offset, part);
+        return same_type(file, work, rows, p as usize, offset, kind, part);
     }
     false
 }
@@ -162,11 +189,12 @@ fn probe(
     rows: usize,
     types: u32,
     offset: usize,
+    kind: Kind,
     part: u32,
     b: usize,
-) -> u32
-    requires { ⌜ PartOf (now file) (now work) rows offset part ⌝ }
-    ensures { λ r. ⌜ Probes (now (file .entry)) (now (work .entry)) rows types offset b r ⌝ }
+) -> Found
+    requires { ⌜ Wanted (now file) (now work) rows offset kind part ⌝ }
+    ensures { λ r. ⌜ ProbesType (now (file .entry)) (now (work .entry)) rows types offset b r ⌝ }
 {
     let mut d = 0;
     while d < rows {
@@ -177,37 +205,37 @@ fn probe(
             index_search::slots::slot(rows, b, d),
         );
         if v == 0 {
-            return types;
+            return Found::NotListed;
         }
-        if holds(file, work, rows, types, offset, part, v) {
-            return index::get(
-                work,
-                rows,
-                index::TYPE_FIRST,
-                index_search::slots::number_of(v) as usize,
-            );
+        if holds(file, work, rows, types, offset, kind, part, v) {
+            let n = index_search::slots::number_of(v);
+            return Found::Listed(index::get(work, rows, index::TYPE_FIRST, n as usize));
         }
         d += 1;
     }
-    types
+    Found::NotListed
 }
 
-// The number of the first type that is that of the term at an offset, which does not refer to it, or `types`.
-fn find(file: &[u8], work: &[u32], rows: usize, types: u32, offset: usize) -> u32
+// The number of the first type that is that of the term at an offset, which does not refer to it.
+fn find(file: &[u8], work: &[u32], rows: usize, types: u32, offset: usize) -> Found
     ensures { λ r. ⌜ ListedSought (now (file .entry)) (now (work .entry)) rows types offset r ⌝ }
 {
-    let part = part_of(file, work, rows, offset);
-    let b = home(file, work, rows, offset, part);
-    probe(file, work, rows, types, offset, part, b)
+    let kind = kind_sought(file, offset);
+    let part = part_sought(file, work, rows, offset, kind);
+    let b = home(file, work, rows, offset, kind, part);
+    probe(file, work, rows, types, offset, kind, part, b)
 }
 
-// The number of the first type that is equal to the type of the term at an offset, or how many types are listed where that is not.
-pub fn type_of(file: &[u8], work: &[u32], sizes: Sizes, offset: usize) -> u32
-    ensures { λ r. ⌜ TypeSought (now (file .entry)) (now (work .entry)) (sizes .rows) (sizes .types) offset r ⌝ }
+// The first type that is equal to the type of the term at an offset.
+pub fn type_of(file: &[u8], work: &[u32], sizes: Sizes, offset: usize) -> Found
+    ensures { λ r. ⌜ TypeSought (now (file .entry)) (now (work .entry)) sizes offset r ⌝ }
 {
     let rows = sizes.rows;
-    if refers(letter_at(file, offset)) {
-        return index_compare::compare::first_reference(file, work, rows, offset);
+    match kind_at(file, offset) {
+        Kind::XV | Kind::XE | Kind::XA => {
+            let first = index_compare::compare::first_reference(file, work, rows, offset);
+            Found::Listed(first)
+        }
+        _ => find(file, work, rows, sizes.types, offset),
     }
-    find(file, work, rows, sizes.types, offset)
 }

@@ -1,10 +1,12 @@
 -- The assertions of the inputs, one after the other: those of the first of them are written.
 -- Assumes nothing.
 use mathlib.Core.Path.{_≡_, refl, sym, ap, _∙_}
+use mathlib.Core.Bool.{Bool, true}
 use Prim.Native.Nat.{ℕ, _+_, _-_, _<_, _≤_, min}
 use native.Mathlib.Omega.{arith}
 use mathlib.Core.List.{List, [], _∷_, _++_, append-nil, append-assoc}
-use lib.ListN.{length, take, drop, length-append, length-take, length-drop}
+use lib.Dec.{ltb}
+use lib.ListN.{length, take, drop, length-append, length-take, length-drop, take-append-drop}
 use lib.Seq.{take-all}
 use Rattle.script_spec.specs.Base.{Bytes, collect}
 use Rattle.script_spec.specs.Tree.{Tm, Enums}
@@ -13,7 +15,7 @@ use Rattle.script_spec.specs.Command.{line, script, assertThat}
 use Rattle.script_spec.specs.Spelling.{Names, atom}
 use Rattle.script_spec.specs.Walk.{State, names, assertions}
 use Rattle.write_bytes.specs.Writing.{ceiling, moved, Appends}
-use Rattle.write_bytes.proofs.Laws.{_then_, says, nothing, rest-appends}
+use Rattle.write_bytes.proofs.Laws.{_then_, says, nothing, stops-past, rest-appends}
 use Rattle.index.specs.Cells.{cell, inputTerm}
 use Rattle.index.specs.Meaning.{Index, inputAt}
 use Rattle.index.specs.declared.Sizes.{Sizes}
@@ -73,6 +75,15 @@ module _ (file : Bytes) (work : List ℕ) (sizes : Sizes) (limit : ℕ) where
             ∙ ap (λ (ts : List Tm). script (assertions (members f) ν ts)) (sym (inputs-more f i (omega arith))) in
             says written (A .go f S I N then rest-appends refl hf hr (W .go f S I N (rw e (row .below))) hq);
       }
+
+  -- past the limit the other assertions change nothing
+  pub asserting-past : {x y : Bytes} {at r i : ℕ} {p : Bool} → Asserting x at i y r → p ≡ ltb (ceiling limit) r → p ≡ true → SpellsAssertions file work sizes limit x at y r
+  asserting-past {i = i} A e h = record {
+    go = λ f S I N.
+        let whole : script (assertions (members f) (names S) (take i (inputs f))) ++ script (assertions (members f) (names S) (drop i (inputs f))) ≡ script (assertions (members f) (names S) (inputs f))
+        = sym (assertions-append (members f) (names S) (take i (inputs f)) (drop i (inputs f))) ∙ ap (λ (ts : List Tm). script (assertions (members f) (names S) ts)) (take-append-drop i (inputs f)) in
+        says whole (A .go f S I N then stops-past e h);
+  }
 
   pub asserting-end : {x y : Bytes} {at r i : ℕ} → Asserting x at i y r → sizes .inputs ≤ i → SpellsAssertions file work sizes limit x at y r
   asserting-end {i = i} A l = record {

@@ -29,7 +29,7 @@ use Rattle.check_file.specs.declared.Filled.{Filled}
 use Rattle.check_file.specs.declared.Filled.the-variants as fill
 use Rattle.encoder.specs.Inputs.{anyReady, inputsWalk, SpellsAssertions}
 use Rattle.encoder.specs.Promise.{Encodes}
-use Rattle.encoder.specs.Ending.{Gives, TurnsBack, Refuses, Finishes, walked, Closes, EncodesRecords}
+use Rattle.encoder.specs.Ending.{Gives, TurnsBack, RefusesScript, FinishesScript, walked, Closes, EncodesRecords}
 use Rattle.encoder.specs.declared.Encoded.{Encoded}
 use Rattle.encoder.proofs.EndLaws.{encoded-walked, encoded-refused, encodes}
 
@@ -41,7 +41,7 @@ gives-size {w = w} e G = record { says = G .says; holds = G .holds ∙ ap (left 
 
 module _ (file : Bytes) (sizes : Sizes) (p : Progress) (work : List ℕ) (x : Bytes) {work′ : List ℕ} {y : Bytes} {r : Encoded} where
   -- a refusal of the walk, at the place of the first equal term
-  pub closes-refused : {m n i place : ℕ} → (p .refused ≡ 0 → ⊥) → m ≡ p .term → n ≡ cell work (sizes .rows) termFirst m → i ≡ n → place ≡ cell work (sizes .rows) termPlace i → Refuses work x (p .refused) place work′ y r
+  pub closes-refused : {m n i place : ℕ} → (p .refused ≡ 0 → ⊥) → m ≡ p .term → n ≡ cell work (sizes .rows) termFirst m → i ≡ n → place ≡ cell work (sizes .rows) termPlace i → RefusesScript work x (p .refused) place work′ y r
       → Closes file sizes p work x work′ y r
   unfolding walked
   closes-refused {m} {n} {i} {place} h hm hn hi hp R = record { cleared = R .cleared; go = on }
@@ -60,7 +60,7 @@ module _ (file : Bytes) (sizes : Sizes) (p : Progress) (work : List ℕ) (x : By
           subst (λ (a : Answer Bytes). Gives o y r a) (ap (λ (j : ℕ). refused j place) (H .refused-is) ∙ ap (refused q) place-is) G
 
   -- the assertions, and the end of the script
-  pub closes-went : {x₁ : Bytes} {at : ℕ} → p .refused ≡ 0 → SpellsAssertions file work sizes (p .limit) x (p .at) x₁ at → Finishes work x₁ at work′ y r → Closes file sizes p work x work′ y r
+  pub closes-went : {x₁ : Bytes} {at : ℕ} → p .refused ≡ 0 → SpellsAssertions file work sizes (p .limit) x (p .at) x₁ at → FinishesScript work x₁ at work′ y r → Closes file sizes p work x work′ y r
   unfolding walked
   closes-went {x₁} {at} h A F = record { cleared = F .cleared; go = on }
     where

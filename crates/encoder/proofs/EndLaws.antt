@@ -1,9 +1,8 @@
 -- The end of a script: refusals clear, a script that fits is given by its length, and encode's answer is that of the walk.
 -- Assumes nothing.
 use mathlib.Core.Path.{_≡_, refl, sym, ap, _∙_}
-use Prim.Native.Nat.{ℕ, _+_, _-_}
+use Prim.Native.Nat.{ℕ}
 use native.Mathlib.Numerals.{unary-clauses}
-use native.Mathlib.Omega.{arith}
 use mathlib.Core.List.{List, _++_}
 use lib.ListN.{length, take, replicate}
 use lib.Seq.{take-at}
@@ -12,11 +11,12 @@ use Rattle.script_spec.specs.File.{TermFile, members, inputs, checked}
 use Rattle.script_spec.specs.Command.{Command, script, fitting, left}
 use Rattle.script_spec.specs.Walk.{Step, went, stopped, start, names, encodeInputs, assertions, firstEqual, encoding, encoded}
 use Rattle.script_spec.proofs.Demand.{encoded-faithful}
+use Rattle.script_spec.proofs.Laws.{never}
 use Rattle.write_bytes.specs.Writing.{cleared, lengthOf}
 use Rattle.write_bytes.specs.Writing as writing
 use Rattle.write_bytes.proofs.Laws.{finished-line}
 use Rattle.encoder.specs.Promise.{encodedAs, Encodes}
-use Rattle.encoder.specs.Ending.{Gives, TurnsBack, Finishes, walked}
+use Rattle.encoder.specs.Ending.{Gives, TurnsBack, FinishesScript, walked}
 use Rattle.encoder.specs.declared.Encoded.{Encoded}
 use Rattle.encoder.specs.declared.Encoded.the-variants.{Script, Refused}
 
@@ -34,7 +34,7 @@ turned-back x {y} n p e = record { says = refl; holds = zeros-from x y e }
 
 -- an answer of the writer as one of encode
 module _ (work : List ℕ) (x : Bytes) (at : ℕ) {work′ : List ℕ} {y : Bytes} (c : work′ ≡ replicate (length work) 0) where
-  pub finishes-by : (a : Answer ℕ) (r : Encoded) → a ≡ encodedAs r → writing.Finishes x at y a → Finishes work x at work′ y r
+  pub finishes-by : (a : Answer ℕ) (r : Encoded) → a ≡ encodedAs r → writing.Finishes x at y a → FinishesScript work x at work′ y r
   finishes-by a r e F = record {
     cleared = c;
     go = λ o s w. let L = finished-line w F in record { says = sym e ∙ L .says; holds = L .holds };
@@ -72,7 +72,7 @@ given-script x y r (accepted s) n G e =
     ap accepted (sym (rw (size, G .holds) (take-at s _ (length s) refl)))
 given-script x y r (refused m p) n G e =
     let q : accepted n ≡ refused m p = ap encodedAs (sym e) ∙ G .says in
-    absurd (let z : _≡_ {A = ℕ} 0 1 = cc in omega arith)
+    never cc
 
 -- an answer that is encode's, and memory that is cleared
 pub encodes : (file : Bytes) (work : List ℕ) (x : Bytes) {work′ : List ℕ} {y : Bytes} {r : Encoded} → work′ ≡ replicate (length work) 0

@@ -14,6 +14,7 @@ use Rattle.script_spec.specs.Base.{Bytes, bytes, Answer, accepted, refused}
 use Rattle.script_spec.specs.Text.{digit, digits, decimal}
 use Rattle.script_spec.specs.Command.{fitting, left}
 use Rattle.script_spec.specs.Walk.{encoded, printed, termscript}
+use Rattle.script_spec.proofs.Laws.{never}
 use Rattle.write_bytes.specs.Writing.{Wrote, Leaves, Finishes, lengthOf}
 use Rattle.write_bytes.proofs.Laws.{fitting-within, finished-line}
 use Rattle.encoder.specs.Promise.{encodedAs, Encodes}
@@ -106,7 +107,7 @@ module _ (file : Bytes) (work : List ℕ) (x : Bytes) {work′ : List ℕ} where
           record { holds = q ∙ sym (ap (λ (a : Answer Bytes). left a (length x)) fits); size = n-is ∙ sym (ap (λ (a : Answer Bytes). written (lengthOf a)) fits) },
           rw (n-is, q) (take-at s _ (length s) refl),
         )
-    script-given (refused m p) e q = let z : _≡_ {A = ℕ} 0 1 = cc in absurd (omega arith)
+    script-given (refused m p) e q = never cc
 
     pub prints-script : {n : ℕ} → v ≡ Script n → Prints file work x work′ y n
     unfolding encodedAs
@@ -118,7 +119,7 @@ module _ (file : Bytes) (work : List ℕ) (x : Bytes) {work′ : List ℕ} where
     -- a refusal
     refusal-given : (w : Answer Bytes) {n p : ℕ} → refused n p ≡ lengthOf w → w ≡ refused n p
     unfolding lengthOf
-    refusal-given (accepted s) e = let z : _≡_ {A = ℕ} 0 1 = cc in absurd (omega arith)
+    refusal-given (accepted s) e = never cc
     refusal-given (refused m q) e = cc
 
     pub prints-refused : {n p r : ℕ} {z : Bytes} → v ≡ Refused n p → PrintsRefusal y n p z r → Prints file work x work′ z r

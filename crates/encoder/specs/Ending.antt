@@ -26,12 +26,12 @@ abbrev pub TurnsBack : Bytes → ℕ → ℕ → Bytes → Encoded → Type 0
 TurnsBack x n p y r = Gives x y r (refused n p)
 
 -- a refusal clears the script and the working memory
-pub record Refuses (work : List ℕ) (x : Bytes) (n p : ℕ) (work′ : List ℕ) (y : Bytes) (r : Encoded) : Type 0 where
+pub record RefusesScript (work : List ℕ) (x : Bytes) (n p : ℕ) (work′ : List ℕ) (y : Bytes) (r : Encoded) : Type 0 where
   pub cleared : work′ ≡ replicate (length work) 0
   pub gives : TurnsBack x n p y r
 
 -- a script s that was written into a buffer o is ended: its length or refusal 20
-pub record Finishes (work : List ℕ) (x : Bytes) (at : ℕ) (work′ : List ℕ) (y : Bytes) (r : Encoded) : Type 0 where
+pub record FinishesScript (work : List ℕ) (x : Bytes) (at : ℕ) (work′ : List ℕ) (y : Bytes) (r : Encoded) : Type 0 where
   pub cleared : work′ ≡ replicate (length work) 0
   pub go : (o s : Bytes) → Wrote (length o) o x at s → Gives o y r (fitting s (length o))
 

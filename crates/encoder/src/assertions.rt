@@ -2,7 +2,7 @@
 use index::Sizes;
 ghost use Rattle.encoder.specs.Inputs.{SpellsAssertions};
 
-// Writes the assertions of an accepted file, each as a line in the rest of the script.
+// Writes the assertions of an accepted file, each as a line in the rest of the script, as far as the limit.
 pub fn put_assertions(
     file: &[u8],
     work: &[u32],
@@ -16,6 +16,9 @@ pub fn put_assertions(
     let mut to = at;
     let mut i = 0;
     while i < sizes.inputs {
+        if write_bytes::is_past(to, limit) {
+            return to;
+        }
         let n = index::get(work, sizes.rows, index::INPUT_TERM, i as usize);
         let from = write_bytes::rest_from(out.len(), to);
         let room = write_bytes::room(to, limit);

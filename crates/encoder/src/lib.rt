@@ -9,7 +9,7 @@ use index::Sizes;
 use walk_names::progress::Progress;
 use write_bytes::Written;
 ghost use Rattle.encoder.specs.Promise.{Encodes};
-ghost use Rattle.encoder.specs.Ending.{TurnsBack, Refuses, Finishes, Closes, EncodesRecords};
+ghost use Rattle.encoder.specs.Ending.{TurnsBack, RefusesScript, FinishesScript, Closes, EncodesRecords};
 
 // Encode's answer: the script's length, or a refusal's number and place.
 pub enum Encoded {
@@ -27,7 +27,7 @@ fn turn_back(script: &mut [u8], number: u32, place: u32) -> Encoded
 
 // Refuses: clears the script and the working memory.
 fn refuse(work: &mut [u32], script: &mut [u8], number: u32, place: u32) -> Encoded
-    ensures { λ r. ⌜ Refuses (now (work .entry)) (now (script .entry)) number place (now (work .exit)) (now (script .exit)) r ⌝ }
+    ensures { λ r. ⌜ RefusesScript (now (work .entry)) (now (script .entry)) number place (now (work .exit)) (now (script .exit)) r ⌝ }
 {
     write_bytes::clear_words(work);
     turn_back(script, number, place)
@@ -35,7 +35,7 @@ fn refuse(work: &mut [u32], script: &mut [u8], number: u32, place: u32) -> Encod
 
 // Ends a script that is written up to a place: clears what is past it, and the working memory.
 fn finish(memory: &mut [u32], script: &mut [u8], at: usize) -> Encoded
-    ensures { λ r. ⌜ Finishes (now (memory .entry)) (now (script .entry)) at (now (memory .exit)) (now (script .exit)) r ⌝ }
+    ensures { λ r. ⌜ FinishesScript (now (memory .entry)) (now (script .entry)) at (now (memory .exit)) (now (script .exit)) r ⌝ }
 {
     write_bytes::clear_words(memory);
     match write_bytes::finish(script, at) {

@@ -6,6 +6,9 @@ ghost use Rattle.script_spec.specs.Walk.{printed};
 ghost use Rattle.write_bytes.specs.Writing.{Wrote};
 ghost use Rattle.encoder.specs.Printing.{PrintsRefusal, Prints};
 
+// How many bytes a file of the program may have.
+const LONGEST: usize = 8192;
+
 // Writes the line of a refusal.
 fn put_refusal(rest: &mut [u8], room: usize, n: u32, place: u32) -> usize
     ensures { λ r. ⌜ Wrote room (now (rest .entry)) (now (rest .exit)) r (printed (refused n place)) ⌝ }
@@ -36,7 +39,7 @@ fn print_refusal(script: &mut [u8], n: u32, place: u32) -> usize
 pub fn print(file: &[u8], work: &mut [u32], script: &mut [u8]) -> usize
     ensures { λ r. ⌜ Prints (now (file .entry)) (now (work .entry)) (now (script .entry)) (now (work .exit)) (now (script .exit)) r ⌝ }
 {
-    if 8192 < file.len() {
+    if LONGEST < file.len() {
         write_bytes::clear_words(work);
         return print_refusal(script, 1, 0);
     }

@@ -22,12 +22,12 @@ pub record More (e e′ : Earlier) : Type 0 where
   pub terms-more : e .terms ≤ e′ .terms
 
 -- more may be referred to, and a type that is a `TE` stays one
-pub record Extends (e e′ : Earlier) : Type 0 where
+pub record Widens (e e′ : Earlier) : Type 0 where
   pub more : More e e′
   pub entities-kept : (n : ℕ) → n < e .types → T (e .isEntity n) → T (e′ .isEntity n)
 
-pub extends-refl : (e : Earlier) → Extends e e
-extends-refl e = record { more = record { types-more = le-refl _; funs-more = le-refl _; terms-more = le-refl _ }; entities-kept = λ n h t. t }
+pub widens-refl : (e : Earlier) → Widens e e
+widens-refl e = record { more = record { types-more = le-refl _; funs-more = le-refl _; terms-more = le-refl _ }; entities-kept = λ n h t. t }
 
 pub length-more : {A : Type 0} (xs ys : List A) {zs : List A} → zs ≡ xs ++ ys → length xs ≤ length zs
 length-more xs ys e = rw (e, length-append) (omega arith)

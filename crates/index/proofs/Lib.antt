@@ -15,3 +15,4 @@ pub mod Readers
 pub mod Ranges
 pub mod Rules
 pub mod Standing
+pub mod Empties

@@ -12,7 +12,7 @@ use Rattle.script_spec.specs.Base.{Bytes, empty, place, placeFrom, collect}
 use Rattle.script_spec.specs.Tree.{Ty, Fun, Tm, eqTm}
 use Rattle.script_spec.specs.File.{TermFile, Named, type, enum, func, term, input, types, funs, terms, inputs, enums, termAt}
 use Rattle.script_spec.specs.Walk.{isTerm, firstEqual}
-use Rattle.script_spec.proofs.Laws.{collect-append}
+use Rattle.script_spec.proofs.Laws.{collect-append, never}
 use Rattle.index.specs.First.{firstTerm, first}
 use Rattle.index.specs.Meaning.{placeAfter, recordPlace}
 use Rattle.index.proofs.Firsts.{equal-terms, place-first}
@@ -103,7 +103,7 @@ module _ (f : TermFile) where
 -- the first of the terms that is equal is the first of the records
 first-record : (t : Tm) (f : TermFile) (n : ℕ) → place (eqTm t) (terms f) ≡ some n → place (isTerm t) f ≡ some (recordPlace terms f n)
 unfolding place placeFrom isTerm terms collect recordPlace placeAfter empty
-first-record t [] n e = absurd (let z : _≡_ {A = ℕ} 0 1 = cc in omega arith)
+first-record t [] n e = never cc
 first-record t (type u ∷ f) n e = rw (first-record t f n e)
 first-record t (enum name members ∷ f) n e = rw (first-record t f n e)
 first-record t (func g ∷ f) n e = rw (first-record t f n e)
@@ -114,7 +114,7 @@ first-record t (term u ∷ f) n e = go (eqTm t u) (place (eqTm t) (terms f)) n e
         → placeFrom b (place (isTerm t) f) ≡ some (placeAfter false (λ i. recordPlace terms f i) m)
     go true o zero q rest = refl
     go true o (suc m) q rest = absurd (let z : 0 ≡ suc m = cc in omega arith)
-    go false none m q rest = absurd (let z : _≡_ {A = ℕ} 0 1 = cc in omega arith)
+    go false none m q rest = never cc
     go false (some i) zero q rest = absurd (let z : suc i ≡ 0 = cc in omega arith)
     go false (some i) (suc m) q rest = let z : suc i ≡ suc m = cc in let y : i ≡ m = omega arith in rw (rest i refl, y)
 

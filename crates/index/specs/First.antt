@@ -115,7 +115,7 @@ module _ (e : Earlier) where
   InRange (input n) = n < e .terms
 
 -- x is the entry that a mark and a body are read as
-pub record Reads (e : Earlier) (mark body : Bytes) (x : Entry) : Type 0 where
+pub record ReadAs (e : Earlier) (mark body : Bytes) (x : Entry) : Type 0 where
   pub reader : Reader Entry
   pub found : lookup mark (marks e) ≡ some reader
   pub reads : whole (reader body) ≡ got x []

@@ -16,15 +16,15 @@ use Rattle.script_spec.specs.Tree.{Op, PlainOp, Plain, Ext, RecordGet, StringLi
 use Rattle.script_spec.specs.Tree.{Option·, Set·, Declared, recordOf, Var, Entity, None, Some, Set, Record, App}
 use Rattle.script_spec.specs.Fields.{Reader, Entry, type, func, term, input, Earlier, operators, plain, leaf, marks, ref, text, entityRef, extOp}
 use Rattle.script_spec.specs.Fields as fields
+use Rattle.script_spec.proofs.Readers.{Took, coded-inverse}
 use Rattle.index.specs.First.{All, renamedOp, renamed, renumbered}
 use Rattle.index.specs.Standing.{loose, entryOf}
 use Rattle.index.proofs.Readers.{_&_}
 use Rattle.index_compare.proofs.Standing.{entryOf-inverse}
 use Rattle.index_compare.specs.Segment as segment
 use Rattle.index_compare.specs.Segment.{mapped}
-use Rattle.index_compare.specs.Machine.{Then, operandThen, operandOf, codedThen, codeThen, operator, fieldThen, itemThen, counted, last, remaining, ahead, startType, startList, startTerm, start, segments, reference, named}
+use Rattle.index_compare.specs.Machine.{Then, operandThen, operandOf, codedThen, codeThen, operatorThen, fieldThen, itemThen, countThen, last, remaining, ahead, startType, startList, startTerm, walkStart, segments, reference, textThen}
 use Rattle.index_compare.specs.declared.segments.Item.the-variants as item
-use Rattle.index_compare.proofs.Inverse.{Took, coded-inverse}
 use Rattle.index_compare.proofs.Tells.{cut-took, cons-parts, Tells, FieldTells, tells-bind, field-pure, tells-pure, tells-then, field-then}
 use Rattle.index_compare.proofs.Told.{plainly-number, plainly-elements, plainly-extOp, field-plain, tells-list, field-type, field-fun, field-term, field-text, field-pair, field-tested, tells-rest}
 
@@ -46,8 +46,8 @@ each-at P (suc b) n (y ∷ ys) {x} h e =
     let code : b + suc n ≡ suc b + n = omega arith in
     subst (λ m. P m x) code (each-at P b (suc n) ys (h .1) e)
 
-pub operator-read : (next : Then) (b : ℕ) (s : Bytes) → operator next (b ∷ s) ≡ segment.plain (b ∷ []) ∷ codeThen b next s
-unfolding operator
+pub operator-read : (next : Then) (b : ℕ) (s : Bytes) → operatorThen next (b ∷ s) ≡ segment.plain (b ∷ []) ∷ codeThen b next s
+unfolding operatorThen
 operator-read next b s =
     let t : Took 1 (b ∷ s) (b ∷ []) s = record { fits = le-leb 1 (length (b ∷ s)) (omega arith); is = refl; left = refl } in
     cut-took segment.plain (codeThen b next) t
@@ -83,15 +83,15 @@ module _ (types funs terms : ℕ → ℕ) where
       & field-then g ZeroExtend ZeroExtend (field-plain types funs terms plainly-number) (λ n n′ e. rw e)
       & tt
 
-  field-operator : (count : ℕ) → FieldTells g SameOp (fields.operator count) (fields.operator count) operator
+  field-operator : (count : ℕ) → FieldTells g SameOp (fields.operator count) (fields.operator count) operatorThen
   unfolding fields.operator mapped
   field-operator count =
       record {
         go = λ next s s′ rest rest′ o o′ e e′ q.
             let c = coded-inverse (operators count) s e in
             let c′ = coded-inverse (operators count) s′ e′ in
-            let shown = ap (λ (x : Bytes). map g (operator next x)) (c .is) ∙ ap (map g) (operator-read next (c .code) (c .mid)) in
-            let shown′ = ap (λ (x : Bytes). map g (operator next x)) (c′ .is) ∙ ap (map g) (operator-read next (c′ .code) (c′ .mid)) in
+            let shown = ap (λ (x : Bytes). map g (operatorThen next x)) (c .is) ∙ ap (map g) (operator-read next (c .code) (c .mid)) in
+            let shown′ = ap (λ (x : Bytes). map g (operatorThen next x)) (c′ .is) ∙ ap (map g) (operator-read next (c′ .code) (c′ .mid)) in
             let told = cons-parts (sym shown ∙ q ∙ shown′) in
             let codes : c .code ≡ c′ .code = cc (told .0) in
             let readers : c .reader ≡ c′ .reader = cc (c .has, c′ .has) in
@@ -103,8 +103,8 @@ module _ (types funs terms : ℕ → ℕ) where
   -- ---- marks
 
   -- entries that are equal with the other numbers
-  abbrev pub Same : Entry → Entry → Type 0
-  Same x y = renumbered types funs terms x ≡ renumbered types funs terms y
+  abbrev pub Agreed : Entry → Entry → Type 0
+  Agreed x y = renumbered types funs terms x ≡ renumbered types funs terms y
 
   module _ (number : ℕ → ℕ) where
     abbrev numbered : Bytes × ℕ → Bytes × ℕ
@@ -131,16 +131,16 @@ module _ (types funs terms : ℕ → ℕ) where
     abbrev termed : FieldTells g (λ n n′. terms n ≡ terms n′) (ref (e .terms)) (ref (e .terms)) (reference segment.termRef)
     termed = field-term types funs terms (e .terms)
 
-    texted : FieldTells g _≡_ text text named
+    texted : FieldTells g _≡_ text text textThen
     texted = field-text types funs terms
 
     -- a body that is one plain segment
-    plainly : {r : Reader Entry} {l : List segment.Segment} → Tells g Same r r (λ s. segment.plain s ∷ l)
+    plainly : {r : Reader Entry} {l : List segment.Segment} → Tells g Agreed r r (λ s. segment.plain s ∷ l)
     plainly {r} {l} = tells-rest types funs terms r l (λ x. refl)
 
     -- each mark's reader, in the order of `marks`
-    marks-tell : All (λ p. Tells g Same (p .1) (p .1) (segments (p .0))) (marks e)
-    unfolding All marks leaf bytes segments start startType startTerm startList ahead remaining fieldThen last counted itemThen renumbered renamed renamedOp entityRef
+    marks-tell : All (λ p. Tells g Agreed (p .1) (p .1) (segments (p .0))) (marks e)
+    unfolding All marks leaf bytes segments walkStart startType startTerm startList ahead remaining fieldThen last countThen itemThen renumbered renamed renamedOp entityRef
     marks-tell =
         plainly
         & plainly
@@ -190,5 +190,5 @@ segments-tell types funs terms mark body body′ {x} {y} e e′ q =
     let h = entryOf-inverse mark body e in
     let h′ = entryOf-inverse mark body′ e′ in
     let readers : h′ .reader ≡ h .reader = cc (h .found, h′ .found) in
-    let tells = lookup-all (λ m r. Tells (mapped types funs terms) (Same types funs terms) r r (segments m)) mark (marks loose) (marks-tell types funs terms loose) (h .found) in
+    let tells = lookup-all (λ m r. Tells (mapped types funs terms) (Agreed types funs terms) r r (segments m)) mark (marks loose) (marks-tell types funs terms loose) (h .found) in
     tells .go body body′ [] [] x y (h .reads) (rw (← readers) (h′ .reads)) q

@@ -9,7 +9,7 @@ use lib.ListN.{take, drop}
 use Rattle.script_spec.specs.Base.{Bytes}
 use Rattle.index_compare.specs.Segment.{Segment, plain, typeRef, funRef, termRef}
 use Rattle.index_compare.specs.Machine.{ahead}
-use Rattle.index_compare.specs.View.{kindOf, numberOf, bytesOf, after, Sees, Alike, Decides}
+use Rattle.index_compare.specs.View.{kindOf, referenceNumber, bytesOf, laterSegments, Sees, Alike, Decides}
 use Rattle.index_compare.specs.declared.compare.Seen.{Seen}
 
 -- ---- tests
@@ -31,8 +31,8 @@ decides-true p = record { true-of = λ q. refl; of-true = λ h. p }
 
 -- ---- segments
 
-view-cons : (x y : Segment) (l m : List Segment) → kindOf (x ∷ l) ≡ kindOf (y ∷ m) → numberOf (x ∷ l) ≡ numberOf (y ∷ m) → bytesOf (x ∷ l) ≡ bytesOf (y ∷ m) → x ≡ y
-unfolding kindOf numberOf bytesOf
+view-cons : (x y : Segment) (l m : List Segment) → kindOf (x ∷ l) ≡ kindOf (y ∷ m) → referenceNumber (x ∷ l) ≡ referenceNumber (y ∷ m) → bytesOf (x ∷ l) ≡ bytesOf (y ∷ m) → x ≡ y
+unfolding kindOf referenceNumber bytesOf
 view-cons (plain p) (plain q) l m k n b = ap plain b
 view-cons (plain p) (typeRef n₂) l m k n b = absurd (omega arith)
 view-cons (plain p) (funRef n₂) l m k n b = absurd (omega arith)
@@ -61,8 +61,8 @@ pub kind-none : (l : List Segment) → kindOf l ≡ 0 → l ≡ []
 kind-none [] h = refl
 kind-none (x ∷ l) h = let k = some-kind x l in absurd (omega arith)
 
-view : (l m : List Segment) → kindOf l ≡ kindOf m → numberOf l ≡ numberOf m → bytesOf l ≡ bytesOf m → after l ≡ after m → l ≡ m
-unfolding kindOf after
+view : (l m : List Segment) → kindOf l ≡ kindOf m → referenceNumber l ≡ referenceNumber m → bytesOf l ≡ bytesOf m → laterSegments l ≡ laterSegments m → l ≡ m
+unfolding kindOf laterSegments
 view [] [] k n b e = refl
 view [] (y ∷ m) k n b e = let p = some-kind y m in absurd (omega arith)
 view (x ∷ l) [] k n b e = let p = some-kind x l in absurd (omega arith)
@@ -77,7 +77,7 @@ module _ {a b : Bytes} {g h : Segment → Segment} {l m : List Segment} {s t : S
   heads-agree e =
       record {
         kind = S .kind ∙ ap kindOf e ∙ sym (T .kind);
-        number = S .number ∙ ap numberOf e ∙ sym (T .number);
+        number = S .number ∙ ap referenceNumber e ∙ sym (T .number);
         bytes = S .bytes ∙ ap bytesOf e ∙ sym (T .bytes);
       }
 
@@ -85,7 +85,7 @@ module _ {a b : Bytes} {g h : Segment → Segment} {l m : List Segment} {s t : S
   heads-next p e =
       let same = heads-agree e .kind in
       let q : 0 < t .kind = omega arith in
-      S .next p ∙ ap after e ∙ sym (T .next q)
+      S .next p ∙ ap laterSegments e ∙ sym (T .next q)
 
   module _ (A : Alike a b s t) where
     kinds : kindOf (map g l) ≡ kindOf (map h m)

@@ -14,7 +14,7 @@ use Rattle.index.specs.First.{renamedOp, renamed, renumbered}
 use Rattle.index.specs.Standing.{entryOf}
 use Rattle.index_compare.specs.Segment.{Segment, plain, typeRef, termRef, mapped, typeRefs, termRefs}
 use Rattle.index_compare.specs.Machine.{segments}
-use Rattle.index_compare.specs.Printed.{lowBytes, textBytes, opSegments, named, counted, typeSegments, termSegments, segmentsOf}
+use Rattle.index_compare.specs.Printed.{lowBytes, textBytes, opSegments, namedReferences, countBefore, typeSegments, termSegments, segmentsOf}
 use Rattle.index_compare.proofs.Prints.{Octets}
 use Rattle.index_compare.proofs.Shown.{segments-shown}
 
@@ -29,8 +29,8 @@ module _ (types funs terms : ℕ → ℕ) where
     refs-mapped [] = refl
     refs-mapped (n ∷ rs) = λ i. only n i ∷ refs-mapped rs i
 
-    named-mapped : (names : List Bytes) (rs : List ℕ) → map g (named wrap names rs) ≡ named wrap names (map number rs)
-    unfolding named mapped
+    named-mapped : (names : List Bytes) (rs : List ℕ) → map g (namedReferences wrap names rs) ≡ namedReferences wrap names (map number rs)
+    unfolding namedReferences mapped
     named-mapped [] rs = refs-mapped rs
     named-mapped (a ∷ names) [] = ap (λ (l : List Segment). plain (textBytes a) ∷ l) (named-mapped names [])
     named-mapped (a ∷ names) (n ∷ rs) = λ i. plain (textBytes a) ∷ only n i ∷ named-mapped names rs i
@@ -43,12 +43,12 @@ module _ (types funs terms : ℕ → ℕ) where
   unfolding mapped
   terms-mapped rs = refs-mapped termRef terms (λ n. refl) rs
 
-  counted-mapped : (rs : List ℕ) → map g (counted rs (map termRef rs)) ≡ counted (map terms rs) (map termRef (map terms rs))
-  unfolding counted mapped
+  counted-mapped : (rs : List ℕ) → map g (countBefore rs (map termRef rs)) ≡ countBefore (map terms rs) (map termRef (map terms rs))
+  unfolding countBefore mapped
   counted-mapped rs = λ i. plain (lowBytes 4 (sym (length-map rs terms) i)) ∷ terms-mapped rs i
 
   type-mapped : (m : TypeMark) (rs : List ℕ) → map g (typeSegments m rs) ≡ typeSegments m (map types rs)
-  unfolding typeSegments counted mapped
+  unfolding typeSegments countBefore mapped
   type-mapped Bool· rs = ap (λ (l : List Segment). plain [] ∷ l) (types-mapped rs)
   type-mapped String· rs = ap (λ (l : List Segment). plain [] ∷ l) (types-mapped rs)
   type-mapped Option· rs = types-mapped rs
@@ -68,7 +68,7 @@ module _ (types funs terms : ℕ → ℕ) where
   op-mapped (ZeroExtend n) l = refl
 
   term-mapped : (m : TermMark ℕ ℕ) (rs : List ℕ) → map g (termSegments m rs) ≡ termSegments (renamed types funs m) (map terms rs)
-  unfolding termSegments renamed counted mapped
+  unfolding termSegments renamed countBefore mapped
   term-mapped (Var id n) rs = rw (terms-mapped rs)
   term-mapped (BoolLit b) rs = rw (terms-mapped rs)
   term-mapped (BitVecLit n v) rs = rw (terms-mapped rs)
@@ -79,7 +79,7 @@ module _ (types funs terms : ℕ → ℕ) where
   term-mapped Some rs = terms-mapped rs
   term-mapped (Set n) rs = ap (λ (l : List Segment). typeRef (types n) ∷ l) (counted-mapped rs)
   term-mapped (Record names) rs = rw (named-mapped termRef terms (λ n. refl) names rs)
-  term-mapped (App n o) rs = ap (λ (l : List Segment). typeRef (types n) ∷ l) (op-mapped o (counted rs (map termRef rs)) ∙ ap (λ (l : List Segment). opSegments (renamedOp types funs o) ++ l) (counted-mapped rs))
+  term-mapped (App n o) rs = ap (λ (l : List Segment). typeRef (types n) ∷ l) (op-mapped o (countBefore rs (map termRef rs)) ∙ ap (λ (l : List Segment). opSegments (renamedOp types funs o) ++ l) (counted-mapped rs))
 
   pub segmentsOf-renumbered : (x : Entry) → map g (segmentsOf x) ≡ segmentsOf (renumbered types funs terms x)
   unfolding segmentsOf renumbered mapped
@@ -103,15 +103,15 @@ unfolding typeRefs collect
 type-refs [] = refl
 type-refs (n ∷ rs) = ap (λ (l : List ℕ). n ∷ l) (type-refs rs)
 
-pub named-type-refs : (names : List Bytes) (rs : List ℕ) → typeRefs (named typeRef names rs) ≡ rs
-unfolding named typeRefs collect
+pub named-type-refs : (names : List Bytes) (rs : List ℕ) → typeRefs (namedReferences typeRef names rs) ≡ rs
+unfolding namedReferences typeRefs collect
 named-type-refs [] rs = type-refs rs
 named-type-refs (a ∷ names) [] = named-type-refs names []
 named-type-refs (a ∷ names) (n ∷ rs) = ap (λ (l : List ℕ). n ∷ l) (named-type-refs names rs)
 
 -- the type references of a type are its parts
 pub typeRefs-type : (m : TypeMark) (rs : List ℕ) → typeRefs (segmentsOf (type m rs)) ≡ rs
-unfolding segmentsOf typeSegments counted typeRefs collect
+unfolding segmentsOf typeSegments countBefore typeRefs collect
 typeRefs-type Bool· rs = type-refs rs
 typeRefs-type String· rs = type-refs rs
 typeRefs-type Option· rs = type-refs rs
@@ -126,8 +126,8 @@ unfolding termRefs collect
 term-refs [] = refl
 term-refs (n ∷ rs) = ap (λ (l : List ℕ). n ∷ l) (term-refs rs)
 
-named-term-refs : (names : List Bytes) (rs : List ℕ) → termRefs (named termRef names rs) ≡ rs
-unfolding named termRefs collect
+named-term-refs : (names : List Bytes) (rs : List ℕ) → termRefs (namedReferences termRef names rs) ≡ rs
+unfolding namedReferences termRefs collect
 named-term-refs [] rs = term-refs rs
 named-term-refs (a ∷ names) [] = named-term-refs names []
 named-term-refs (a ∷ names) (n ∷ rs) = ap (λ (l : List ℕ). n ∷ l) (named-term-refs names rs)
@@ -143,7 +143,7 @@ op-term-refs (ZeroExtend n) l = refl
 
 -- the term references of a term are its children
 pub termRefs-term : (m : TermMark ℕ ℕ) (rs : List ℕ) → termRefs (segmentsOf (term m rs)) ≡ rs
-unfolding segmentsOf termSegments counted termRefs collect
+unfolding segmentsOf termSegments countBefore termRefs collect
 termRefs-term (Var id n) rs = term-refs rs
 termRefs-term (BoolLit b) rs = term-refs rs
 termRefs-term (BitVecLit n v) rs = term-refs rs
@@ -154,4 +154,4 @@ termRefs-term (None n) rs = term-refs rs
 termRefs-term Some rs = term-refs rs
 termRefs-term (Set n) rs = term-refs rs
 termRefs-term (Record names) rs = named-term-refs names rs
-termRefs-term (App n o) rs = op-term-refs o (counted rs (map termRef rs)) ∙ term-refs rs
+termRefs-term (App n o) rs = op-term-refs o (countBefore rs (map termRef rs)) ∙ term-refs rs

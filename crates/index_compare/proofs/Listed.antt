@@ -13,11 +13,11 @@ use Rattle.index.specs.Cells.{cell, typeFirst, typeDepth, termType, termDepth}
 use Rattle.index.specs.Rules.{greatest}
 use Rattle.index.specs.Standing.{markAt, sizeAt, bodyAt, entryAt}
 use Rattle.index_compare.specs.Segment.{Segment, plain, typeRef, funRef, termRef, typeRefs, termRefs}
-use Rattle.index_compare.specs.Printed.{lowBytes, textBytes, named, counted, typeSegments, termSegments, segmentsOf}
+use Rattle.index_compare.specs.Printed.{lowBytes, textBytes, namedReferences, countBefore, typeSegments, termSegments, segmentsOf}
 use Rattle.index_compare.proofs.Prints.{Octets, octets-take, octets-drop}
 use Rattle.index_compare.proofs.Shown.{segments-shown}
 use Rattle.index_compare.proofs.Equal.{named-type-refs, typeRefs-type, termRefs-term}
-use Rattle.index_compare.specs.View.{viewed, termAs, segmentsAt, numbers, SameSegments}
+use Rattle.index_compare.specs.View.{viewed, termAs, segmentsAt, referenceNumbers, SameSegments}
 use Rattle.index_compare.specs.declared.compare.View.the-variants.{First, Listed, Depth}
 use Rattle.index_compare.proofs.Compared.{Same}
 use Rattle.index_compare.proofs.Depths.{numbers-types, numbers-terms}
@@ -32,14 +32,14 @@ segmentsAt-shown file o octets e =
 module _ (file : Bytes) (work : List ℕ) (k o : ℕ) (octets : Octets file) where
   -- of a type, over its parts
   pub greatest-type : {m : TypeMark} {rs : List ℕ} → entryAt file o ≡ some (type m rs)
-      → greatest (numbers 2 (map (viewed work k Depth) (segmentsAt file o))) ≡ greatest (map (cell work k typeDepth) rs)
+      → greatest (referenceNumbers 2 (map (viewed work k Depth) (segmentsAt file o))) ≡ greatest (map (cell work k typeDepth) rs)
   greatest-type {m} {rs} e =
       ap greatest (numbers-types work k (segmentsAt file o)
       ∙ ap (map (cell work k typeDepth)) (ap typeRefs (segmentsAt-shown file o octets e) ∙ typeRefs-type m rs))
 
   -- of a term, over its children
   pub greatest-term : {m : TermMark ℕ ℕ} {rs : List ℕ} → entryAt file o ≡ some (term m rs)
-      → greatest (numbers 4 (map (viewed work k Depth) (segmentsAt file o))) ≡ greatest (map (cell work k termDepth) rs)
+      → greatest (referenceNumbers 4 (map (viewed work k Depth) (segmentsAt file o))) ≡ greatest (map (cell work k termDepth) rs)
   greatest-term {m} {rs} e =
       ap greatest (numbers-terms work k (segmentsAt file o)
       ∙ ap (map (cell work k termDepth)) (ap termRefs (segmentsAt-shown file o octets e) ∙ termRefs-term m rs))
@@ -55,8 +55,8 @@ unfolding plains collect
 plains-refs [] = refl
 plains-refs (n ∷ rs) = plains-refs rs
 
-plains-named : (names : List Bytes) (rs : List ℕ) → plains (named typeRef names rs) ≡ map textBytes names
-unfolding plains named collect
+plains-named : (names : List Bytes) (rs : List ℕ) → plains (namedReferences typeRef names rs) ≡ map textBytes names
+unfolding plains namedReferences collect
 plains-named [] rs = plains-refs rs
 plains-named (a ∷ names) [] = ap (λ (l : List Bytes). textBytes a ∷ l) (plains-named names [])
 plains-named (a ∷ names) (n ∷ rs) = ap (λ (l : List Bytes). textBytes a ∷ l) (plains-named names rs)
@@ -75,15 +75,15 @@ texts-injective (a ∷ l) (b ∷ m) e =
     λ i. first i ∷ rest i
 
 module _ (work : List ℕ) (k : ℕ) where
-  named-first : (names : List Bytes) (rs : List ℕ) → map (viewed work k First) (named typeRef names rs) ≡ named typeRef names (map (cell work k typeFirst) rs)
-  unfolding named viewed
+  named-first : (names : List Bytes) (rs : List ℕ) → map (viewed work k First) (namedReferences typeRef names rs) ≡ namedReferences typeRef names (map (cell work k typeFirst) rs)
+  unfolding namedReferences viewed
   named-first [] [] = refl
   named-first [] (n ∷ rs) = ap (λ (l : List Segment). typeRef (cell work k typeFirst n) ∷ l) (named-first [] rs)
   named-first (a ∷ names) [] = ap (λ (l : List Segment). plain (textBytes a) ∷ l) (named-first names [])
   named-first (a ∷ names) (n ∷ rs) = ap (λ (l : List Segment). plain (textBytes a) ∷ typeRef (cell work k typeFirst n) ∷ l) (named-first names rs)
 
-  pub named-listed : (names : List Bytes) (ts : List ℕ) → map (viewed work k Listed) (named termRef names ts) ≡ named typeRef names (map (cell work k termType) ts)
-  unfolding named viewed termAs
+  pub named-listed : (names : List Bytes) (ts : List ℕ) → map (viewed work k Listed) (namedReferences termRef names ts) ≡ namedReferences typeRef names (map (cell work k termType) ts)
+  unfolding namedReferences viewed termAs
   named-listed [] [] = refl
   named-listed [] (n ∷ ts) = ap (λ (l : List Segment). typeRef (cell work k termType n) ∷ l) (named-listed [] ts)
   named-listed (a ∷ names) [] = ap (λ (l : List Segment). plain (textBytes a) ∷ l) (named-listed names [])
@@ -91,14 +91,14 @@ module _ (work : List ℕ) (k : ℕ) where
 
   module _ (file : Bytes) (octets : Octets file) (o p : ℕ) {names names′ : List Bytes} {rs ts : List ℕ}
       (e : entryAt file o ≡ some (type (Declared (recordOf names)) rs)) (e′ : entryAt file p ≡ some (term (Record names′) ts)) where
-    type-shown : map (viewed work k First) (segmentsAt file o) ≡ counted names (named typeRef names (map (cell work k typeFirst) rs))
-    unfolding segmentsOf typeSegments counted viewed
+    type-shown : map (viewed work k First) (segmentsAt file o) ≡ countBefore names (namedReferences typeRef names (map (cell work k typeFirst) rs))
+    unfolding segmentsOf typeSegments countBefore viewed
     type-shown =
         ap (map (viewed work k First)) (segmentsAt-shown file o octets e)
         ∙ ap (λ (l : List Segment). plain (lowBytes 4 (length names)) ∷ l) (named-first names rs)
 
-    term-shown : map (viewed work k Listed) (segmentsAt file p) ≡ counted names′ (named typeRef names′ (map (cell work k termType) ts))
-    unfolding segmentsOf termSegments counted viewed
+    term-shown : map (viewed work k Listed) (segmentsAt file p) ≡ countBefore names′ (namedReferences typeRef names′ (map (cell work k termType) ts))
+    unfolding segmentsOf termSegments countBefore viewed
     term-shown =
         ap (map (viewed work k Listed)) (segmentsAt-shown file p octets e′)
         ∙ ap (λ (l : List Segment). plain (lowBytes 4 (length names′)) ∷ l) (named-listed names′ ts)
@@ -106,7 +106,7 @@ module _ (work : List ℕ) (k : ℕ) where
     -- the type lists the names and the types of the term exactly where the segments agree
     pub same-listed : Same (SameSegments file (viewed work k First) o (viewed work k Listed) p)
         ((names ≡ names′) × (map (cell work k typeFirst) rs ≡ map (cell work k termType) ts))
-    unfolding counted
+    unfolding countBefore
     same-listed =
         record {
           to = λ same.
@@ -116,5 +116,5 @@ module _ (work : List ℕ) (k : ℕ) where
                 texts-injective names names′ (sym (plains-named names refs) ∙ ap plains all ∙ plains-named names′ refs′),
                 sym (named-type-refs names refs) ∙ ap typeRefs all ∙ named-type-refs names′ refs′,
               );
-          from = λ same. type-shown ∙ (λ i. counted (same .0 i) (named typeRef (same .0 i) (same .1 i))) ∙ sym term-shown;
+          from = λ same. type-shown ∙ (λ i. countBefore (same .0 i) (namedReferences typeRef (same .0 i) (same .1 i))) ∙ sym term-shown;
         }

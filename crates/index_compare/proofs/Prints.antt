@@ -10,9 +10,9 @@ use lib.ListN.{length, take, drop, getD, take-append-drop}
 use lib.Seq.{getD-drop}
 use Rattle.script_spec.specs.Base.{Bytes, collect}
 use Rattle.script_spec.specs.Fields.{got, Reader, _>>=_, pure, ensure, byte, low, high, number, address, u32, text, list, times, coded, part}
+use Rattle.script_spec.proofs.Readers.{bad-not-got, bind-inverse, pure-inverse, tested-inverse, Took, took-first, took-length, part-inverse, number-inverse, coded-inverse}
 use Rattle.index_compare.specs.Printed.{lowBytes, highBytes, textBytes, listBytes}
-use Rattle.index_compare.proofs.Inverse.{bind-inverse, pure-inverse, tested-inverse, Took, took-first, took-length, part-inverse, number-inverse, text-inverse, coded-inverse}
-use Rattle.index.proofs.Readers.{bad-not-got}
+use Rattle.index_compare.proofs.Inverse.{text-inverse}
 use Rattle.index_compare.proofs.Agreement.{Each, each-at}
 
 -- every element is a byte

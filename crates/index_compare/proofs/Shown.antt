@@ -15,15 +15,15 @@ use Rattle.script_spec.specs.Tree.{IPAddr, Decimal, Datetime, Duration, V4, V6,
 use Rattle.script_spec.specs.Tree.{BitVecLit}
 use Rattle.script_spec.specs.Fields.{Reader, got, _>>=_, pure, Entry, Earlier, operators, leaf, marks, ref, text, entityRef, extOp, extType, value, prefix, element, width, coded}
 use Rattle.script_spec.specs.Fields as fields
+use Rattle.script_spec.proofs.Readers.{coded-inverse, bind-inverse, pure-inverse}
 use Rattle.index.specs.First.{All}
 use Rattle.index.specs.Standing.{loose, entryOf}
 use Rattle.index.proofs.Readers.{_&_}
 use Rattle.index_compare.specs.Segment.{Segment, plain, typeRef, funRef, termRef}
 use Rattle.index_compare.specs.Machine as machine
-use Rattle.index_compare.specs.Machine.{Then, operandThen, operandOf, codedThen, codeThen, operator, fieldThen, itemThen, items, last, remaining, ahead, startType, startList, startTerm, start, segments, reference}
-use Rattle.index_compare.specs.Printed.{lowBytes, textBytes, boolCode, extTypeCode, extOpCode, plainCode, valueBytes, opSegments, named, counted, typeSegments, termSegments, segmentsOf}
+use Rattle.index_compare.specs.Machine.{Then, operandThen, operandOf, codedThen, codeThen, operatorThen, fieldThen, itemThen, items, last, remaining, ahead, startType, startList, startTerm, walkStart, segments, reference}
+use Rattle.index_compare.specs.Printed.{lowBytes, textBytes, boolCode, extTypeCode, extOpCode, plainCode, valueBytes, opSegments, namedReferences, countBefore, typeSegments, termSegments, segmentsOf}
 use Rattle.index_compare.specs.declared.segments.Item.the-variants as item
-use Rattle.index_compare.proofs.Inverse.{coded-inverse, bind-inverse, pure-inverse}
 use Rattle.index_compare.proofs.Standing.{entryOf-inverse}
 use Rattle.index_compare.proofs.Told.{plainly-text, plainly-number, plainly-elements, plainly-extOp}
 use Rattle.index_compare.proofs.Agreement.{Each, each-at, operator-read, lookup-all}
@@ -71,8 +71,8 @@ prints-element = prints-tested 7 _ prints-u32
 
 -- ---- operators
 
-text-shown : FieldShows (λ a. plain (textBytes a) ∷ []) text machine.named
-unfolding machine.named
+text-shown : FieldShows (λ a. plain (textBytes a) ∷ []) text machine.textThen
+unfolding machine.textThen
 text-shown = field-shown plainly-text prints-text
 
 -- after its code, an operator's segments are those that the code stands before
@@ -121,7 +121,7 @@ operators-shown count =
     & after-code _ ZeroExtend refl (λ n. refl) (field-shown plainly-number prints-u32)
     & tt
 
-operator-shown : (count : ℕ) → FieldShows opSegments (fields.operator count) operator
+operator-shown : (count : ℕ) → FieldShows opSegments (fields.operator count) operatorThen
 unfolding fields.operator
 operator-shown count =
     record {
@@ -131,7 +131,7 @@ operator-shown count =
           let A = subst (λ (b : ℕ). AfterCode b (c .reader)) code (each-at AfterCode (c .code) 0 (operators count) (operators-shown count) (c .has)) in
           let octets′ = subst Octets (c .is) octets in
           let p = A .go next (c .mid) rest o (λ i. octets′ (suc i)) (c .reads) in
-          (ap (λ (m : Bytes). operator next m) (c .is) ∙ operator-read next (c .code) (c .mid) ∙ p .0, p .1);
+          (ap (λ (m : Bytes). operatorThen next m) (c .is) ∙ operator-read next (c .code) (c .mid) ∙ p .0, p .1);
     }
 
 -- ---- marks
@@ -141,8 +141,8 @@ unfolding firsts
 length-firsts [] = refl
 length-firsts (p ∷ ps) = ap suc (length-firsts ps)
 
-pairs-shown : (wrap : ℕ → Segment) (ps : List (Bytes × ℕ)) → collect (λ p. plain (textBytes (p .0)) ∷ wrap (p .1) ∷ []) ps ≡ named wrap (firsts ps) (seconds ps)
-unfolding collect named firsts seconds
+pairs-shown : (wrap : ℕ → Segment) (ps : List (Bytes × ℕ)) → collect (λ p. plain (textBytes (p .0)) ∷ wrap (p .1) ∷ []) ps ≡ namedReferences wrap (firsts ps) (seconds ps)
+unfolding collect namedReferences firsts seconds
 pairs-shown wrap [] = refl
 pairs-shown wrap (p ∷ ps) = rw (pairs-shown wrap ps)
 
@@ -152,12 +152,12 @@ refs-shown wrap [] = refl
 refs-shown wrap (n ∷ rs) = rw (refs-shown wrap rs)
 
 list-shown : (wrap : ℕ → Segment) (ps : List (Bytes × ℕ)) → plain (lowBytes 4 (length ps)) ∷ collect (λ p. plain (textBytes (p .0)) ∷ wrap (p .1) ∷ []) ps
-    ≡ counted (firsts ps) (named wrap (firsts ps) (seconds ps))
-unfolding counted
+    ≡ countBefore (firsts ps) (namedReferences wrap (firsts ps) (seconds ps))
+unfolding countBefore
 list-shown wrap ps = λ i. plain (lowBytes 4 (sym (length-firsts ps) i)) ∷ pairs-shown wrap ps i
 
-terms-shown : (rs : List ℕ) → plain (lowBytes 4 (length rs)) ∷ collect (λ n. termRef n ∷ []) rs ≡ counted rs (map termRef rs)
-unfolding counted
+terms-shown : (rs : List ℕ) → plain (lowBytes 4 (length rs)) ∷ collect (λ n. termRef n ∷ []) rs ≡ countBefore rs (map termRef rs)
+unfolding countBefore
 terms-shown rs = ap (λ (l : List Segment). plain (lowBytes 4 (length rs)) ∷ l) (refs-shown termRef rs)
 
 module _ (e : Earlier) where
@@ -169,7 +169,7 @@ module _ (e : Earlier) where
 
   -- each mark's reader, in the order of `marks`
   marks-shown : All (λ p. Shows [] segmentsOf (p .1) (segments (p .0))) (marks e)
-  unfolding All marks leaf bytes segments start startType startTerm startList ahead remaining fieldThen last items machine.counted itemThen entityRef segmentsOf typeSegments termSegments
+  unfolding All marks leaf bytes segments walkStart startType startTerm startList ahead remaining fieldThen last items machine.countThen itemThen entityRef segmentsOf typeSegments termSegments
   marks-shown =
       shows-rest (rest-pure _ refl)
       & shows-rest (rest-pure _ refl)

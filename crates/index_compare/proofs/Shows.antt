@@ -1,7 +1,7 @@
 -- The segments of a body are those of its entry: a relation of a reader, the segments of its value and the walk through its bytes that
 -- each field and each way of making a reader has.
 -- Assumes nothing.
-use Prim.Native.Nat.{ℕ, zero, suc, _+_}
+use Prim.Native.Nat.{ℕ, zero, suc}
 use native.Mathlib.Omega.{arith}
 use mathlib.Core.Path.{_≡_, sym, ap, _∙_, subst}
 use mathlib.Core.Bool.{Bool, true, false}
@@ -10,12 +10,11 @@ use lib.ListN.{length, take, length-append, take-append-drop}
 use lib.Seq.{take-append-seam}
 use Rattle.script_spec.specs.Base.{Bytes, collect}
 use Rattle.script_spec.specs.Fields.{got, Reader, _>>=_, pure, ensure, low, ref, u32, text, list, times, pair}
+use Rattle.script_spec.proofs.Readers.{bad-not-got, bind-inverse, pure-inverse, tested-inverse, took-first, u32-inverse, ref-inverse}
 use Rattle.index_compare.specs.Segment.{Segment, plain}
-use Rattle.index_compare.specs.Machine.{Then, cut, reference, itemThen, items, counted}
+use Rattle.index_compare.specs.Machine.{Then, cut, reference, itemThen, items, countThen}
 use Rattle.index_compare.specs.Printed.{lowBytes, textBytes}
 use Rattle.index_compare.specs.declared.segments.Item.{Item}
-use Rattle.index.proofs.Readers.{bad-not-got}
-use Rattle.index_compare.proofs.Inverse.{bind-inverse, pure-inverse, tested-inverse, took-first, u32-inverse, ref-inverse}
 use Rattle.index_compare.proofs.Tells.{cut-took, reference-read}
 use Rattle.index_compare.proofs.Told.{Plainly}
 use Rattle.index_compare.proofs.Prints.{Octets, octets-drop, Prints, prints-u32, times-length}
@@ -147,8 +146,8 @@ module _ {A : Type 0} {out : A → List Segment} {r : Reader A} (i : Item) (F : 
       p .0 ∙ ap (λ (m : List Segment). out (x .value) ++ m) (items-shown n (x .mid) (y .mid) (y .value) (p .1) (y .first)) ∙ ap (collect out) (q .0)
 
   pub shows-list : {B : Type 0} {before : List Segment} {total : B → List Segment} (f : List A → B) → ((l : List A) → before ++ (plain (lowBytes 4 (length l)) ∷ collect out l) ≡ total (f l))
-      → Shows before total (_>>=_ (list r) (λ l. pure (f l))) (counted i)
-  unfolding list counted
+      → Shows before total (_>>=_ (list r) (λ l. pure (f l))) (countThen i)
+  unfolding list countThen
   shows-list {B} {before} {total} f h =
       record {
         go = λ s b o e.

@@ -12,8 +12,8 @@ use lib.Seq.{drop-drop, drop-length, take-all, getD-drop}
 use Rattle.script_spec.specs.Base.{Bytes}
 use Rattle.script_spec.specs.Fields.{low}
 use Rattle.index_compare.specs.Segment.{Segment, plain}
-use Rattle.index_compare.specs.Machine.{Then, cut, reference, operandOf, codedThen, codeThen, operator, itemThen, items, last}
-use Rattle.index_compare.specs.Step.{Reads, ending}
+use Rattle.index_compare.specs.Machine.{Then, cut, reference, operandOf, codedThen, codeThen, operatorThen, itemThen, items, last}
+use Rattle.index_compare.specs.Step.{WordRead, walkEnding}
 use Rattle.index_compare.specs.declared.segments.Coded.{Coded}
 use Rattle.index_compare.specs.declared.segments.Item.{Item}
 use Rattle.index_compare.specs.declared.segments.Walk.{Walk}
@@ -40,11 +40,11 @@ module _ (n at : ℕ) (body : Bytes) where
 
 -- ---- words
 
-pub word-value : (s : Bytes) (w : Word) {n : ℕ} → Reads s w → w ≡ Value n → Reads s (Value n)
-word-value s w h e = subst (Reads s) e h
+pub word-value : (s : Bytes) (w : Word) {n : ℕ} → WordRead s w → w ≡ Value n → WordRead s (Value n)
+word-value s w h e = subst (WordRead s) e h
 
-pub word-short : (s : Bytes) (w : Word) → Reads s w → w ≡ Short → leb 4 (length s) ≡ false
-word-short s w h e = subst (Reads s) e h
+pub word-short : (s : Bytes) (w : Word) → WordRead s w → w ≡ Short → leb 4 (length s) ≡ false
+word-short s w h e = subst (WordRead s) e h
 
 pub word-fits : (at : ℕ) (body : Bytes) → leb 4 (length (drop at body)) ≡ true → at + 4 ≤ length body
 word-fits at body h =
@@ -63,7 +63,7 @@ pub reference-short : (s : Bytes) (wrap : ℕ → Segment) (next : Then) → leb
 unfolding reference
 reference-short s wrap next h = cut-uncounted 0 s (λ p. wrap (low p)) next h
 
-pub reference-at : (at : ℕ) (body : Bytes) (wrap : ℕ → Segment) (next : Then) {n : ℕ} → Reads (drop at body) (Value n)
+pub reference-at : (at : ℕ) (body : Bytes) (wrap : ℕ → Segment) (next : Then) {n : ℕ} → WordRead (drop at body) (Value n)
     → reference wrap next (drop at body) ≡ wrap n ∷ next (drop (at + 4) body)
 unfolding reference
 reference-at at body wrap next h =
@@ -79,8 +79,8 @@ module _ (at : ℕ) (body : Bytes) (next : Then) where
   pub rest-at : _≡_ {A = List Segment} (plain (drop at body) ∷ next []) (plain (take (length body - at) (drop at body)) ∷ next (drop (length body) body))
   rest-at = rw (take-all (length body - at) (drop at body) (omega (arith, length-drop at body)), drop-length body)
 
-  pub operator-with : {c : Coded} → operandOf (getD body at 0) ≡ c → operator next (drop at body) ≡ cut 1 plain (codedThen c next) (drop at body)
-  unfolding operator codeThen
+  pub operator-with : {c : Coded} → operandOf (getD body at 0) ≡ c → operatorThen next (drop at body) ≡ cut 1 plain (codedThen c next) (drop at body)
+  unfolding operatorThen codeThen
   operator-with e =
       let zero : at + 0 ≡ at = omega arith in
       rw (getD-drop at body 0 0, zero, e)
@@ -91,12 +91,12 @@ items-positive i zero s h = absurd (omega arith)
 items-positive i (suc n) s h = let less : suc n - 1 ≡ n = omega arith in rw less
 
 module _ (w : Walk) (s : Bytes) (fields : w .counts ≡ false) where
-  pub ending-none : w .left ≡ 0 → ending w s ≡ []
-  unfolding ending last items
+  pub ending-none : w .left ≡ 0 → walkEnding w s ≡ []
+  unfolding walkEnding last items
   ending-none h = rw (fields, h)
 
-  pub ending-item : {i : Item} → w .item ≡ i → 0 < w .left → ending w s ≡ itemThen i (items (w .item) (w .left - 1)) s
-  unfolding ending last
+  pub ending-item : {i : Item} → w .item ≡ i → 0 < w .left → walkEnding w s ≡ itemThen i (items (w .item) (w .left - 1)) s
+  unfolding walkEnding last
   ending-item {i} e h =
-      let first : ending w s ≡ itemThen (w .item) (items (w .item) (w .left - 1)) s = rw fields (items-positive (w .item) (w .left) s h) in
+      let first : walkEnding w s ≡ itemThen (w .item) (items (w .item) (w .left - 1)) s = rw fields (items-positive (w .item) (w .left) s h) in
       first ∙ ap (λ (j : Item). itemThen j (items (w .item) (w .left - 1)) s) e

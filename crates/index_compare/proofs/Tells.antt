@@ -7,9 +7,9 @@ use mathlib.Core.List.{List, _∷_, map}
 use lib.ListN.{take, drop}
 use Rattle.script_spec.specs.Base.{Bytes}
 use Rattle.script_spec.specs.Fields.{got, Reader, _>>=_, pure, low}
+use Rattle.script_spec.proofs.Readers.{bind-inverse, pure-inverse, Took, Numbered, took-first}
 use Rattle.index_compare.specs.Segment.{Segment}
 use Rattle.index_compare.specs.Machine.{Then, cut, reference}
-use Rattle.index_compare.proofs.Inverse.{bind-inverse, pure-inverse, Took, Numbered, took-first}
 
 -- ---- the segments of what was read
 

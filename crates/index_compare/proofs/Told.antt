@@ -8,14 +8,17 @@ use mathlib.Core.List.{List, [], _∷_, _++_, map}
 use mathlib.Core.Option.{some, Option·none-ne-some}
 use borrow.Author.Tests.{le-leb}
 use lib.ListN.{length, take, drop}
-use lib.Seq.{take-at, drop-at, take-take}
+use lib.Seq.{take-at, drop-at}
 use Rattle.script_spec.specs.Base.{Bytes, at}
 use Rattle.script_spec.specs.Fields.{got, Reader, _>>=_, pure, ref, u32, text, list, times, pair, low, element, coded, ensure, extOp}
 use Rattle.script_spec.specs.Tree.{DatetimeOfBitVec, DatetimeVal, DecimalVal, DurationOfBitVec, DurationVal, IpaddrAddrV4, IpaddrAddrV6, IpaddrIsV4, IpaddrPrefixV4, IpaddrPrefixV6}
+use Rattle.script_spec.proofs.Readers.{bind-inverse, pure-inverse, tested-inverse, Took, took-first, took-length, u32-inverse, ref-inverse, coded-inverse}
+use Rattle.read_field.specs.Words.{words}
+use Rattle.read_field.proofs.Words.{words-take}
 use Rattle.index_compare.specs.Segment.{Segment, plain, typeRef, funRef, termRef, mapped}
-use Rattle.index_compare.specs.Machine.{Then, cut, reference, named, countedSize, itemThen, items, counted}
+use Rattle.index_compare.specs.Machine.{Then, cut, reference, textThen, countedSize, itemThen, items, countThen}
 use Rattle.index_compare.specs.declared.segments.Item.{Item}
-use Rattle.index_compare.proofs.Inverse.{bind-inverse, pure-inverse, tested-inverse, Took, took-first, took-length, drop-take, list-count, u32-inverse, ref-inverse, text-inverse, words, list-inverse, coded-inverse}
+use Rattle.index_compare.proofs.Inverse.{list-count, text-inverse, list-inverse}
 use Rattle.index_compare.proofs.Tells.{cut-took, reference-read, cons-parts, Tells, FieldTells, tells-bind, field-bind, tells-pure, field-pure, tells-then}
 
 -- a reader whose bytes are one plain segment, of a size that the bytes tell
@@ -40,14 +43,6 @@ plainly-number =
       only = λ s s′ rest rest′ n n′ e e′ q. sym (u32-inverse s e .is) ∙ ap low q ∙ u32-inverse s′ e′ .is;
     }
 
--- numbers take no more than their bytes
-words-take : (n : ℕ) (s : Bytes) → words n (take (4 * n) s) ≡ words n s
-unfolding words
-words-take zero s = refl
-words-take (suc n) s =
-    let size : 4 * suc n ≡ 4 + 4 * n = omega arith in
-    rw (size, take-take 4 (4 + 4 * n) s (omega arith), drop-take 4 (4 * n) s, words-take n (drop 4 s))
-
 pub plainly-elements : Plainly (list element) (λ s. 4 + 4 * low (take 4 s))
 plainly-elements =
     record {
@@ -62,7 +57,7 @@ plainly-elements =
           let both : take 4 s ++ take (4 * n) (drop 4 s) ≡ take 4 s′ ++ take (4 * n′) (drop 4 s′) = sym (t .0 .is) ∙ q ∙ t′ .0 .is in
           let counts : take 4 s ≡ take 4 s′ = sym (take-at (take 4 s) _ 4 four) ∙ ap (take 4) both ∙ take-at (take 4 s′) _ 4 four′ in
           let bodies : take (4 * n) (drop 4 s) ≡ take (4 * n′) (drop 4 s′) = sym (drop-at (take 4 s) _ 4 four) ∙ ap (drop 4) both ∙ drop-at (take 4 s′) _ 4 four′ in
-          sym (t .1) ∙ sym (words-take n (drop 4 s)) ∙ (λ i. words (low (counts i)) (bodies i)) ∙ words-take n′ (drop 4 s′) ∙ t′ .1;
+          sym (t .1) ∙ sym (words-take n (4 * n) (drop 4 s) (omega arith)) ∙ (λ i. words (low (counts i)) (bodies i)) ∙ words-take n′ (4 * n′) (drop 4 s′) (omega arith) ∙ t′ .1;
     }
 
 -- a code of a table of values
@@ -138,8 +133,8 @@ module _ (types funs terms : ℕ → ℕ) where
         → map g (items i n s) ≡ map g (items i n′ s′) → map h l ≡ map h l′
     tells-count {n} {n′} same s s′ rest rest′ l l′ e e′ q = tells-times n .go s s′ rest rest′ l l′ e (rw same e′) (rw (← same) at q)
 
-    pub tells-list : Tells g (λ l l′. map h l ≡ map h l′) (list r) (list r) (counted i)
-    unfolding list counted mapped
+    pub tells-list : Tells g (λ l l′. map h l ≡ map h l′) (list r) (list r) (countThen i)
+    unfolding list countThen mapped
     tells-list =
         record {
           go = λ s s′ rest rest′ l l′ e e′ q.
@@ -168,13 +163,13 @@ module _ (types funs terms : ℕ → ℕ) where
   unfolding mapped
   field-term count = field-ref count termRef terms (λ n n′ e. cc)
 
-  pub field-text : FieldTells g _≡_ text text named
-  unfolding named
+  pub field-text : FieldTells g _≡_ text text textThen
+  unfolding textThen
   field-text = field-plain plainly-text
 
   -- a text and a reference
   pub field-pair : {r : Reader ℕ} {number : ℕ → ℕ} {field : Then → Then} → FieldTells g (λ n n′. number n ≡ number n′) r r field
-      → FieldTells g (λ p p′. _≡_ {A = Bytes × ℕ} (p .0, number (p .1)) (p′ .0, number (p′ .1))) (pair text r) (pair text r) (λ next. named (field next))
+      → FieldTells g (λ p p′. _≡_ {A = Bytes × ℕ} (p .0, number (p .1)) (p′ .0, number (p′ .1))) (pair text r) (pair text r) (λ next. textThen (field next))
   unfolding pair
   field-pair F = field-bind g field-text (λ a a′ q. field-bind g F (λ n n′ m. field-pure g (a, n) (a′, n′) (λ i. (q i, m i))))
 

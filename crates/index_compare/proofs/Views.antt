@@ -1,6 +1,6 @@
 -- Laws of what is seen of segments, and of the record at an offset.
 -- Assumes nothing.
-use Prim.Native.Nat.{ℕ, zero, _+_, _-_}
+use Prim.Native.Nat.{ℕ, zero, _+_}
 use native.Mathlib.Omega.{arith}
 use mathlib.Core.Path.{_≡_, refl, sym, ap, _∙_, subst}
 use mathlib.Core.List.{List, [], _∷_, map}
@@ -10,10 +10,10 @@ use Rattle.script_spec.specs.Base.{Bytes}
 use Rattle.index.specs.Cells.{cell, typeFirst, funFirst, termFirst}
 use Rattle.index.specs.Standing.{markAt}
 use Rattle.index_compare.specs.Segment.{Segment, plain, typeRef, funRef, termRef, mapped}
-use Rattle.index_compare.specs.Machine.{Meets, start, ahead}
+use Rattle.index_compare.specs.Machine.{Meets, walkStart, ahead}
 use Rattle.index_compare.specs.declared.segments.Walk.{Walk}
 use Rattle.index_compare.specs.declared.segments.Met.{Met}
-use Rattle.index_compare.specs.View.{kindOf, numberOf, bytesOf, after, termColumn, termAs, termKind, viewed, Sees, startAt}
+use Rattle.index_compare.specs.View.{kindOf, referenceNumber, bytesOf, laterSegments, termColumn, termAs, termKind, viewed, Sees, startAt}
 use Rattle.index_compare.specs.declared.compare.View.{View}
 use Rattle.index_compare.specs.declared.compare.View.the-variants.{First, Listed, Depth}
 use Rattle.index_compare.specs.declared.compare.Seen.{Seen}
@@ -27,7 +27,7 @@ sees-of {body} {g} {l} {m} {s} e h = subst (λ (k : List Segment). Sees body g k
 -- ---- the record at an offset
 
 module _ (file : Bytes) (o : ℕ) where
-  pub startAt-bytes : startAt file o ≡ start (getD file o 0) (getD file (o + 1) 0)
+  pub startAt-bytes : startAt file o ≡ walkStart (getD file o 0) (getD file (o + 1) 0)
   unfolding startAt markAt
   startAt-bytes =
       let zero : o + 0 ≡ o = omega arith in
@@ -41,8 +41,8 @@ termAs-kind First n l = refl
 termAs-kind Listed n l = refl
 termAs-kind Depth n l = refl
 
-termAs-number : (v : View) (n : ℕ) (l : List Segment) → n ≡ numberOf (termAs v n ∷ l)
-unfolding termAs numberOf
+termAs-number : (v : View) (n : ℕ) (l : List Segment) → n ≡ referenceNumber (termAs v n ∷ l)
+unfolding termAs referenceNumber
 termAs-number First n l = refl
 termAs-number Listed n l = refl
 termAs-number Depth n l = refl
@@ -56,7 +56,7 @@ termAs-bytes Depth n l = refl
 -- a reference to a term, which a view may have for one to its type
 pub sees-term : (body : Bytes) (work : List ℕ) (k : ℕ) (v : View) (n : ℕ) (w : Walk) (kind number : ℕ) → kind ≡ termKind v → number ≡ cell work k (termColumn v) n
     → Sees body (viewed work k v) (termRef n ∷ ahead body w) (record { kind = kind; number = number; start = 0; size = 0; next = w })
-unfolding viewed after
+unfolding viewed laterSegments
 sees-term body work k v n w kind number e q =
     let m = cell work k (termColumn v) n in
     let l = map (viewed work k v) (ahead body w) in

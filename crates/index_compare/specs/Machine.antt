@@ -8,6 +8,7 @@ use lib.Dec.{eqb, leb}
 use lib.ListN.{length, take, drop, getD}
 use Rattle.script_spec.specs.Base.{Bytes}
 use Rattle.script_spec.specs.Fields.{low}
+use Rattle.read_operator.specs.Codes.{extCode, recordGetCode, stringLikeCode, uufCode, zeroExtendCode}
 use Rattle.index_compare.specs.Segment.{Segment, plain, typeRef, funRef, termRef}
 use Rattle.index_compare.specs.declared.segments.Operand.{Operand}
 use Rattle.index_compare.specs.declared.segments.Operand.the-variants as operand
@@ -38,27 +39,27 @@ unfoldable pub countedSize : Bytes → ℕ
 countedSize s = 4 + low (take 4 s)
 
 -- a text with its count
-unfoldable pub named : Then → Then
-named next s = cut (countedSize s) plain next s
+unfoldable pub textThen : Then → Then
+textThen next s = cut (countedSize s) plain next s
 
 -- an operand; that of `Uuf` is a reference
 unfoldable pub operandThen : Operand → Then → Then
 operandThen operand.Byte next s = cut 1 plain next s
 operandThen operand.Word next s = cut 4 plain next s
-operandThen operand.Text next s = named next s
+operandThen operand.Text next s = textThen next s
 operandThen operand.Elements next s = cut (4 + 4 * low (take 4 s)) plain next s
 operandThen operand.Function next s = reference funRef next s
 
 -- what the operator with code b has after its code: `Ext`, `RecordGet`, `StringLike`, `Uuf` and `ZeroExtend` have an operand
 unfoldable pub operandOf : ℕ → Coded
 operandOf b =
-    elim (eqb b 21) [
+    elim (eqb b extCode) [
       | true ↦ With operand.Byte
-      | false ↦ elim (eqb b 26) [
+      | false ↦ elim (eqb b recordGetCode) [
         | true ↦ With operand.Text
-        | false ↦ elim (eqb b 30) [
+        | false ↦ elim (eqb b stringLikeCode) [
           | true ↦ With operand.Elements
-          | false ↦ elim (eqb b 31) [ true ↦ With operand.Function | false ↦ elim (eqb b 32) [ true ↦ With operand.Word | false ↦ Absent ] ]
+          | false ↦ elim (eqb b uufCode) [ true ↦ With operand.Function | false ↦ elim (eqb b zeroExtendCode) [ true ↦ With operand.Word | false ↦ Absent ] ]
         ]
       ]
     ]
@@ -72,8 +73,8 @@ unfoldable pub codeThen : ℕ → Then → Then
 codeThen b next = codedThen (operandOf b) next
 
 -- an operator's code and its operand
-unfoldable pub operator : Then → Then
-operator next s = cut 1 plain (codeThen (getD s 0 0) next) s
+unfoldable pub operatorThen : Then → Then
+operatorThen next s = cut 1 plain (codeThen (getD s 0 0) next) s
 
 -- a field, what follows it, and what comes where there are no fields
 unfoldable pub fieldThen : Field → Then → Then → Then
@@ -81,15 +82,14 @@ fieldThen field.Nothing next end s = end s
 fieldThen field.Rest next end s = plain s ∷ next []
 fieldThen field.TypeRef next end s = reference typeRef next s
 fieldThen field.TermRef next end s = reference termRef next s
-fieldThen field.NamedType next end s = named (reference typeRef next) s
-fieldThen field.NamedTerm next end s = named (reference termRef next) s
-fieldThen field.Operator next end s = operator next s
+fieldThen field.NamedType next end s = textThen (reference typeRef next) s
+fieldThen field.Operator next end s = operatorThen next s
 fieldThen (field.Operand o) next end s = operandThen o next s
 
 unfoldable pub itemThen : Item → Then → Then
 itemThen item.Term next s = reference termRef next s
-itemThen item.NamedType next s = named (reference typeRef next) s
-itemThen item.NamedTerm next s = named (reference termRef next) s
+itemThen item.NamedType next s = textThen (reference typeRef next) s
+itemThen item.NamedTerm next s = textThen (reference termRef next) s
 
 -- n items
 unfoldable pub items : Item → ℕ → Then
@@ -97,12 +97,12 @@ items i zero s = []
 items i (suc n) s = itemThen i (items i n) s
 
 -- a count and its items
-unfoldable pub counted : Item → Then
-counted i s = cut 4 plain (items i (low (take 4 s))) s
+unfoldable pub countThen : Item → Then
+countThen i s = cut 4 plain (items i (low (take 4 s))) s
 
 -- what comes after the fields: a count and items, or the items that are left
 unfoldable pub last : Bool → Item → ℕ → Then
-last true i n s = counted i s
+last true i n s = countThen i s
 last false i n s = items i n s
 
 -- the segments still to come, from the bytes that are left
@@ -117,7 +117,7 @@ ahead body w = remaining w (drop (w .at) body)
 
 -- what is met in a body is the first of these segments, and the others are ahead
 abbrev pub Meets : Bytes → List Segment → Met → Type 0
-Meets body l (Plain start size w) = (start + size ≤ length body) × (l ≡ plain (take size (drop start body)) ∷ ahead body w)
+Meets body l (Plain walkStart size w) = (walkStart + size ≤ length body) × (l ≡ plain (take size (drop walkStart body)) ∷ ahead body w)
 Meets body l (TypeRef n w) = l ≡ typeRef n ∷ ahead body w
 Meets body l (FunRef n w) = l ≡ funRef n ∷ ahead body w
 Meets body l (TermRef n w) = l ≡ termRef n ∷ ahead body w
@@ -173,8 +173,8 @@ startTerm b =
     ]
 
 -- in the body of a record, by the two bytes of its mark; where no field is a reference the body is plain
-unfoldable pub start : ℕ → ℕ → Walk
-start a b =
+unfoldable pub walkStart : ℕ → ℕ → Walk
+walkStart a b =
     elim (eqb a 84) [
       | true ↦ startType b
       | false ↦ elim (eqb a 88) [
@@ -188,4 +188,4 @@ start a b =
 
 -- the segments of a body under a mark
 unfoldable pub segments : Bytes → Bytes → List Segment
-segments mark body = ahead body (start (getD mark 0 0) (getD mark 1 0))
+segments mark body = ahead body (walkStart (getD mark 0 0) (getD mark 1 0))

@@ -11,6 +11,7 @@ use Rattle.script_spec.specs.Tree.{ExtOp, DatetimeOfBitVec, DatetimeVal, Decima
 use Rattle.script_spec.specs.Tree.{TypeMark, Bool·, String·, Option·, Set·, BitVec·, Declared, entity, extension, recordOf, ExtType, IPAddr, Decimal, Datetime, Duration, Value, V4, V6, DecimalV, DatetimeV, DurationV}
 use Rattle.script_spec.specs.Tree.{TermMark, Var, BoolLit, BitVecLit, StringLit, Entity, ExtLit, None, Some, Set, Record, App}
 use Rattle.script_spec.specs.Fields.{Entry, type, enum, func, term, input}
+use Rattle.read_operator.specs.Codes.{extCode, recordGetCode, stringLikeCode, uufCode, zeroExtendCode}
 use Rattle.index_compare.specs.Segment.{Segment, plain, typeRef, funRef, termRef}
 
 -- k bytes of a number, low byte first
@@ -102,23 +103,23 @@ valueBytes (DurationV n) = 4 ∷ lowBytes 8 n
 -- an operator: its code and its operand
 unfoldable pub opSegments : Op ℕ → List Segment
 opSegments (Plain o) = plain (plainCode o ∷ []) ∷ []
-opSegments (Ext o) = plain (21 ∷ []) ∷ plain (extOpCode o ∷ []) ∷ []
-opSegments (RecordGet a) = plain (26 ∷ []) ∷ plain (textBytes a) ∷ []
-opSegments (StringLike p) = plain (30 ∷ []) ∷ plain (listBytes (lowBytes 4) p) ∷ []
-opSegments (Uuf f) = plain (31 ∷ []) ∷ funRef f ∷ []
-opSegments (ZeroExtend n) = plain (32 ∷ []) ∷ plain (lowBytes 4 n) ∷ []
+opSegments (Ext o) = plain (extCode ∷ []) ∷ plain (extOpCode o ∷ []) ∷ []
+opSegments (RecordGet a) = plain (recordGetCode ∷ []) ∷ plain (textBytes a) ∷ []
+opSegments (StringLike p) = plain (stringLikeCode ∷ []) ∷ plain (listBytes (lowBytes 4) p) ∷ []
+opSegments (Uuf f) = plain (uufCode ∷ []) ∷ funRef f ∷ []
+opSegments (ZeroExtend n) = plain (zeroExtendCode ∷ []) ∷ plain (lowBytes 4 n) ∷ []
 
 -- ---- records
 
 -- texts, each with a reference
-unfoldable pub named : (ℕ → Segment) → List Bytes → List ℕ → List Segment
-named wrap [] rs = map wrap rs
-named wrap (a ∷ as′) [] = plain (textBytes a) ∷ named wrap as′ []
-named wrap (a ∷ as′) (r ∷ rs) = plain (textBytes a) ∷ wrap r ∷ named wrap as′ rs
+unfoldable pub namedReferences : (ℕ → Segment) → List Bytes → List ℕ → List Segment
+namedReferences wrap [] rs = map wrap rs
+namedReferences wrap (a ∷ as′) [] = plain (textBytes a) ∷ namedReferences wrap as′ []
+namedReferences wrap (a ∷ as′) (r ∷ rs) = plain (textBytes a) ∷ wrap r ∷ namedReferences wrap as′ rs
 
 -- a count in front of items
-unfoldable pub counted : {A : Type 0} → List A → List Segment → List Segment
-counted l items = plain (lowBytes 4 (length l)) ∷ items
+unfoldable pub countBefore : {A : Type 0} → List A → List Segment → List Segment
+countBefore l items = plain (lowBytes 4 (length l)) ∷ items
 
 -- the segments of a type by its mark and its references
 unfoldable pub typeSegments : TypeMark → List ℕ → List Segment
@@ -129,7 +130,7 @@ typeSegments Set· rs = map typeRef rs
 typeSegments (BitVec· n) rs = plain (lowBytes 4 n) ∷ map typeRef rs
 typeSegments (Declared (entity a)) rs = plain (textBytes a) ∷ map typeRef rs
 typeSegments (Declared (extension x)) rs = plain (extTypeCode x ∷ []) ∷ map typeRef rs
-typeSegments (Declared (recordOf names)) rs = counted names (named typeRef names rs)
+typeSegments (Declared (recordOf names)) rs = countBefore names (namedReferences typeRef names rs)
 
 -- the segments of a term by its mark and its references
 unfoldable pub termSegments : TermMark ℕ ℕ → List ℕ → List Segment
@@ -141,9 +142,9 @@ termSegments (Entity n id) rs = typeRef n ∷ plain (textBytes id) ∷ map termR
 termSegments (ExtLit v) rs = plain (valueBytes v) ∷ map termRef rs
 termSegments (None n) rs = typeRef n ∷ map termRef rs
 termSegments Some rs = map termRef rs
-termSegments (Set n) rs = typeRef n ∷ counted rs (map termRef rs)
-termSegments (Record names) rs = counted names (named termRef names rs)
-termSegments (App n op) rs = typeRef n ∷ (opSegments op ++ counted rs (map termRef rs))
+termSegments (Set n) rs = typeRef n ∷ countBefore rs (map termRef rs)
+termSegments (Record names) rs = countBefore names (namedReferences termRef names rs)
+termSegments (App n op) rs = typeRef n ∷ (opSegments op ++ countBefore rs (map termRef rs))
 
 -- the segments of a record
 unfoldable pub segmentsOf : Entry → List Segment

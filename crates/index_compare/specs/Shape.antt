@@ -40,4 +40,4 @@ Opens w Unknown = Unit
 
 -- the entry of a column for the reference at the start of a body, 0 where there is none
 unfoldable pub firstCell : Bytes → List ℕ → ℕ → ℕ → ℕ
-firstCell body work k column = elim (leb 4 (length body)) [ true ↦ cell work k column (low (take 4 body)) | false ↦ 0 ]
+firstCell body work rows column = elim (leb 4 (length body)) [ true ↦ cell work rows column (low (take 4 body)) | false ↦ 0 ]

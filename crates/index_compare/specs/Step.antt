@@ -24,17 +24,17 @@ refer referent.FunKind n = funRef n
 refer referent.TermKind n = termRef n
 
 -- what four bytes are, if they are there
-abbrev pub Reads : Bytes → Word → Type 0
-Reads s (Value n) = (leb 4 (length s) ≡ true) × (n ≡ low (take 4 s))
-Reads s Short = leb 4 (length s) ≡ false
+abbrev pub WordRead : Bytes → Word → Type 0
+WordRead s (Value n) = (leb 4 (length s) ≡ true) × (n ≡ low (take 4 s))
+WordRead s Short = leb 4 (length s) ≡ false
 
 -- what comes where there are no fields
-unfoldable pub ending : Walk → Then
-ending w s = last (w .counts) (w .item) (w .left) s
+unfoldable pub walkEnding : Walk → Then
+walkEnding w s = last (w .counts) (w .item) (w .left) s
 
 -- what comes after the first field
-unfoldable pub after : Walk → Then
-after w s = fieldThen (w .second) (ending w) (ending w) s
+unfoldable pub afterField : Walk → Then
+afterField w s = fieldThen (w .second) (walkEnding w) (walkEnding w) s
 
 -- the walk after the first field
 abbrev pub popped : Walk → Walk

@@ -11,7 +11,7 @@ use Rattle.index.specs.Cells.{cell, typeFirst, typeDepth, funFirst, termFirst, 
 use Rattle.index.specs.Rules.{greatest}
 use Rattle.index.specs.Standing.{markAt, bodyAt}
 use Rattle.index_compare.specs.Segment.{Segment, plain, typeRef, funRef, termRef}
-use Rattle.index_compare.specs.Machine.{start, ahead, segments}
+use Rattle.index_compare.specs.Machine.{walkStart, ahead, segments}
 use Rattle.index_compare.specs.declared.segments.Walk.{Walk}
 use Rattle.index_compare.specs.declared.compare.Seen.{Seen}
 use Rattle.index_compare.specs.declared.compare.View.{View}
@@ -26,12 +26,12 @@ kindOf (funRef n ∷ l) = 3
 kindOf (termRef n ∷ l) = 4
 
 -- the number of a reference, 0 where there is none
-unfoldable pub numberOf : List Segment → ℕ
-numberOf [] = 0
-numberOf (plain p ∷ l) = 0
-numberOf (typeRef n ∷ l) = n
-numberOf (funRef n ∷ l) = n
-numberOf (termRef n ∷ l) = n
+unfoldable pub referenceNumber : List Segment → ℕ
+referenceNumber [] = 0
+referenceNumber (plain p ∷ l) = 0
+referenceNumber (typeRef n ∷ l) = n
+referenceNumber (funRef n ∷ l) = n
+referenceNumber (termRef n ∷ l) = n
 
 -- the bytes of a plain segment, none where there is none
 unfoldable pub bytesOf : List Segment → Bytes
@@ -42,9 +42,9 @@ bytesOf (funRef n ∷ l) = []
 bytesOf (termRef n ∷ l) = []
 
 -- the segments after the first
-unfoldable pub after : List Segment → List Segment
-after [] = []
-after (x ∷ l) = l
+unfoldable pub laterSegments : List Segment → List Segment
+laterSegments [] = []
+laterSegments (x ∷ l) = l
 
 -- ---- views
 
@@ -73,23 +73,23 @@ termKind Depth = 4
 
 -- a segment with what a view has for its reference
 unfoldable pub viewed : List ℕ → ℕ → View → Segment → Segment
-viewed work k v (plain p) = plain p
-viewed work k v (typeRef n) = typeRef (cell work k (typeColumn v) n)
-viewed work k v (funRef n) = funRef (cell work k funFirst n)
-viewed work k v (termRef n) = termAs v (cell work k (termColumn v) n)
+viewed work rows v (plain p) = plain p
+viewed work rows v (typeRef n) = typeRef (cell work rows (typeColumn v) n)
+viewed work rows v (funRef n) = funRef (cell work rows funFirst n)
+viewed work rows v (termRef n) = termAs v (cell work rows (termColumn v) n)
 
 -- what is seen of the segments l of a body is their first, with other numbers by g, and the walk after it
 pub record Sees (body : Bytes) (g : Segment → Segment) (l : List Segment) (s : Seen) : Type 0 where
   pub kind : s .kind ≡ kindOf (map g l)
-  pub number : s .number ≡ numberOf (map g l)
+  pub number : s .number ≡ referenceNumber (map g l)
   pub within : s .start + s .size ≤ length body
   pub bytes : take (s .size) (drop (s .start) body) ≡ bytesOf (map g l)
-  pub next : 0 < s .kind → map g (ahead body (s .next)) ≡ after (map g l)
+  pub next : 0 < s .kind → map g (ahead body (s .next)) ≡ laterSegments (map g l)
   pub fewer : 0 < s .kind → length (ahead body (s .next)) < length l
 
 -- the walk at the start of the record at an offset
 unfoldable pub startAt : Bytes → ℕ → Walk
-startAt file o = start (getD (markAt file o) 0 0) (getD (markAt file o) 1 0)
+startAt file o = walkStart (getD (markAt file o) 0 0) (getD (markAt file o) 1 0)
 
 -- the segments of the record at an offset
 unfoldable pub segmentsAt : Bytes → ℕ → List Segment
@@ -122,9 +122,9 @@ ofKind true n ns = n ∷ ns
 ofKind false n ns = ns
 
 -- the numbers of the references of a kind, in order
-unfoldable pub numbers : ℕ → List Segment → List ℕ
-numbers kind [] = []
-numbers kind (x ∷ l) = ofKind (eqb (kindOf (x ∷ [])) kind) (numberOf (x ∷ [])) (numbers kind l)
+unfoldable pub referenceNumbers : ℕ → List Segment → List ℕ
+referenceNumbers kind [] = []
+referenceNumbers kind (x ∷ l) = ofKind (eqb (kindOf (x ∷ [])) kind) (referenceNumber (x ∷ [])) (referenceNumbers kind l)
 
 -- the larger of a number and that of a segment, if this is of the kind
 unfoldable pub larger : ℕ → ℕ → ℕ → ℕ → ℕ

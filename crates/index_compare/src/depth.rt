@@ -19,7 +19,7 @@ ghost use Rattle.index.specs.Cells.{cell, typeDepth};
 ghost use Rattle.index_compare.specs.Segment.{typeRef};
 ghost use Rattle.index_compare.specs.Machine.{ahead, items};
 ghost use Rattle.index_compare.specs.declared.segments.Item.the-variants.{Term};
-ghost use Rattle.index_compare.specs.View.{segmentsAt, numbers, larger, viewed};
+ghost use Rattle.index_compare.specs.View.{segmentsAt, referenceNumbers, larger, viewed};
 
 // The larger of a number and that of a segment, if this is of a kind.
 fn larger(found: u32, number: u32, kind: u32, most: u32) -> u32
@@ -36,7 +36,7 @@ fn larger(found: u32, number: u32, kind: u32, most: u32) -> u32
 
 // The greatest depth ahead of a walk that the index has for references of a kind, 0 where there are none.
 fn greatest_ahead(body: &[u8], w: Walk, work: &[u32], rows: usize, kind: u32) -> u32
-    ensures { λ r. ⌜ r ≡ greatest (numbers kind (map (viewed (now (work .entry)) rows View.Depth) (ahead (now (body .entry)) w))) ⌝ }
+    ensures { λ r. ⌜ r ≡ greatest (referenceNumbers kind (map (viewed (now (work .entry)) rows View.Depth) (ahead (now (body .entry)) w))) ⌝ }
 {
     let mut x = w;
     let mut most = 0;
@@ -60,7 +60,7 @@ fn greatest_terms(
     kind: u32,
     most: u32,
 ) -> u32
-    ensures { λ r. ⌜ r ≡ max most (greatest (numbers kind (map (viewed (now (work .entry)) rows View.Depth) (items Term count (drop from (now (body .entry))))))) ⌝ }
+    ensures { λ r. ⌜ r ≡ max most (greatest (referenceNumbers kind (map (viewed (now (work .entry)) rows View.Depth) (items Term count (drop from (now (body .entry))))))) ⌝ }
 {
     let mut at = from;
     let mut left = count;
@@ -103,7 +103,7 @@ fn greatest_listed(
     rows: usize,
     kind: u32,
 ) -> u32
-    ensures { λ r. ⌜ r ≡ greatest (numbers kind (map (viewed (now (work .entry)) rows View.Depth) (typeRef t ∷ items Term count (drop from (now (body .entry)))))) ⌝ }
+    ensures { λ r. ⌜ r ≡ greatest (referenceNumbers kind (map (viewed (now (work .entry)) rows View.Depth) (typeRef t ∷ items Term count (drop from (now (body .entry)))))) ⌝ }
 {
     let most = type_depth(t, work, rows, kind);
     greatest_terms(body, from, count, work, rows, kind, most)
@@ -111,7 +111,7 @@ fn greatest_listed(
 
 // The greatest depth that the index has for the references of a record of a kind, which is that of types or of terms.
 pub fn greatest(file: &[u8], work: &[u32], rows: usize, offset: usize, kind: u32) -> u32
-    ensures { λ r. ⌜ r ≡ greatest (numbers kind (map (viewed (now (work .entry)) rows View.Depth) (segmentsAt (now (file .entry)) offset))) ⌝ }
+    ensures { λ r. ⌜ r ≡ greatest (referenceNumbers kind (map (viewed (now (work .entry)) rows View.Depth) (segmentsAt (now (file .entry)) offset))) ⌝ }
 {
     let body = body_at(file, offset);
     match shape_of(file, offset, body) {

@@ -3,7 +3,7 @@ use crate::segments::Field;
 use crate::segments::Item;
 use crate::segments::Walk;
 ghost use mathlib.Core.Path.{_≡_};
-ghost use Rattle.index_compare.specs.Machine.{fields, listing, startType, startList, startTerm, start};
+ghost use Rattle.index_compare.specs.Machine.{fields, listing, startType, startList, startTerm, walkStart};
 
 // A walk from the start of a body with these fields, and no list after them.
 fn fields(f: Field, g: Field) -> Walk
@@ -86,7 +86,7 @@ fn start_term(b: u8) -> Walk
 
 // In the body of a record, by the two bytes of its mark.
 pub fn start(a: u8, b: u8) -> Walk
-    ensures { λ r. ⌜ r ≡ start a b ⌝ }
+    ensures { λ r. ⌜ r ≡ walkStart a b ⌝ }
 {
     if a == b'T' {
         return start_type(b);

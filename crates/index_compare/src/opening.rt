@@ -13,8 +13,8 @@ use crate::shape::shape_by;
 ghost use mathlib.Core.Path.{_≡_};
 ghost use mathlib.Core.List.{map};
 ghost use lib.ListN.{getD};
-ghost use Rattle.index_compare.specs.Machine.{ahead, start};
-ghost use Rattle.index_compare.specs.View.{segmentsAt, numbers, viewed};
+ghost use Rattle.index_compare.specs.Machine.{ahead, walkStart};
+ghost use Rattle.index_compare.specs.View.{segmentsAt, referenceNumbers, viewed};
 ghost use Rattle.index_compare.specs.Shape.{Opens, firstCell};
 
 // What the body of a record begins with, where its mark tells that it is a reference.
@@ -26,7 +26,7 @@ enum Opening {
 
 // What a body begins with, by the two bytes of its mark.
 fn opening_of(a: u8, b: u8) -> Opening
-    ensures { λ r. ⌜ Opens (start a b) r ⌝ }
+    ensures { λ r. ⌜ Opens (walkStart a b) r ⌝ }
 {
     if a == b'T' {
         if b == b'O' {
@@ -45,7 +45,7 @@ fn opening_of(a: u8, b: u8) -> Opening
 
 // What the body of a term begins with.
 fn opening_term(b: u8) -> Opening
-    ensures { λ r. ⌜ Opens (start 88 b) r ⌝ }
+    ensures { λ r. ⌜ Opens (walkStart 88 b) r ⌝ }
 {
     if b == b'A' {
         return Opening::TypeFirst;
@@ -77,7 +77,7 @@ fn first_cell(body: &[u8], work: &[u32], rows: usize, column: usize) -> u32
 
 // The first number ahead of a walk that stands for a type where types are listed, 0 where there is none.
 fn first_ahead(body: &[u8], w: Walk, work: &[u32], rows: usize) -> u32
-    ensures { λ r. ⌜ r ≡ getD (numbers 2 (map (viewed (now (work .entry)) rows View.Listed) (ahead (now (body .entry)) w))) 0 0 ⌝ }
+    ensures { λ r. ⌜ r ≡ getD (referenceNumbers 2 (map (viewed (now (work .entry)) rows View.Listed) (ahead (now (body .entry)) w))) 0 0 ⌝ }
 {
     let mut x = w;
     loop {
@@ -94,7 +94,7 @@ fn first_ahead(body: &[u8], w: Walk, work: &[u32], rows: usize) -> u32
 
 // The first type in a body, by the shape that the two bytes of its mark give it, or by a walk.
 fn first_shaped(a: u8, b: u8, body: &[u8], work: &[u32], rows: usize) -> u32
-    ensures { λ r. ⌜ r ≡ getD (numbers 2 (map (viewed (now (work .entry)) rows View.Listed) (ahead (now (body .entry)) (start a b)))) 0 0 ⌝ }
+    ensures { λ r. ⌜ r ≡ getD (referenceNumbers 2 (map (viewed (now (work .entry)) rows View.Listed) (ahead (now (body .entry)) (walkStart a b)))) 0 0 ⌝ }
 {
     match shape_by(a, b, body) {
         Shape::Named(_, t) => index::get(work, rows, index::TYPE_FIRST, t as usize),
@@ -104,7 +104,7 @@ fn first_shaped(a: u8, b: u8, body: &[u8], work: &[u32], rows: usize) -> u32
 
 // The first type that a record refers to, or that a term has to which it refers, by the number of the first equal type; 0 where there is none.
 pub fn first_reference(file: &[u8], work: &[u32], rows: usize, offset: usize) -> u32
-    ensures { λ r. ⌜ r ≡ getD (numbers 2 (map (viewed (now (work .entry)) rows View.Listed) (segmentsAt (now (file .entry)) offset))) 0 0 ⌝ }
+    ensures { λ r. ⌜ r ≡ getD (referenceNumbers 2 (map (viewed (now (work .entry)) rows View.Listed) (segmentsAt (now (file .entry)) offset))) 0 0 ⌝ }
 {
     let body = body_at(file, offset);
     let a = byte_at(file, offset);

@@ -1,21 +1,22 @@
-// The record at an offset of a file: the second byte of its mark, and its body.
+// The record at an offset of a file: its mark, and its body.
 use crate::segments::Word;
 use crate::segments::read_word;
+use read_record::mark::Kind;
 ghost use mathlib.Core.Path.{_≡_};
-ghost use lib.ListN.{getD};
 ghost use Rattle.index.specs.Standing.{markAt, bodyAt};
+ghost use Rattle.read_record.specs.Marks.{Marked};
 
-// The second byte of the mark of the record at an offset, 0 where there is none.
-pub fn letter_at(file: &[u8], offset: usize) -> u8
-    ensures { λ r. ⌜ r ≡ getD (markAt (now (file .entry)) offset) 1 0 ⌝ }
+// The mark of the record at an offset; `Unknown` where two bytes are none, or fewer are left.
+pub fn kind_at(file: &[u8], offset: usize) -> Kind
+    ensures { λ r. ⌜ Marked (markAt (now (file .entry)) offset) r ⌝ }
 {
-    if file.len() <= offset {
-        return 0;
+    if file.len() < 2 {
+        return Kind::Unknown;
     }
-    if file.len() - offset < 2 {
-        return 0;
+    if file.len() - 2 < offset {
+        return Kind::Unknown;
     }
-    file[offset + 1]
+    read_record::mark::kind_of(file[offset], file[offset + 1])
 }
 
 // The body of the record at an offset, as the file's own bytes; none where fewer than six bytes are left.

@@ -5,8 +5,8 @@ ghost use Prim.Native.Nat.{_<_};
 ghost use lib.ListN.{drop};
 ghost use mathlib.Core.List.{[], _∷_};
 ghost use Rattle.index_compare.specs.Segment.{plain};
-ghost use Rattle.index_compare.specs.Machine.{cut, reference, named, operandOf, operator, operandThen, counted, remaining, ahead, Meets};
-ghost use Rattle.index_compare.specs.Step.{refer, Reads, ending, after, popped, put, itemsFrom};
+ghost use Rattle.index_compare.specs.Machine.{cut, reference, textThen, operandOf, operatorThen, operandThen, countThen, remaining, ahead, Meets};
+ghost use Rattle.index_compare.specs.Step.{refer, WordRead, walkEnding, afterField, popped, put, itemsFrom};
 
 // What an operator has after its code.
 pub enum Operand {
@@ -17,14 +17,13 @@ pub enum Operand {
     Function,
 }
 
-// A field of a body. `Nothing` ends the fields; the named ones are a text and then a reference.
+// A field of a body. `Nothing` ends the fields; the named one is a text and then a reference.
 pub enum Field {
     Nothing,
     Rest,
     TypeRef,
     TermRef,
     NamedType,
-    NamedTerm,
     Operator,
     Operand(Operand),
 }
@@ -76,7 +75,7 @@ pub enum Word {
 
 // The four bytes at a place as a number.
 pub fn read_word(body: &[u8], at: usize) -> Word
-    ensures { λ r. ⌜ Reads (drop at (now (body .entry))) r ⌝ }
+    ensures { λ r. ⌜ WordRead (drop at (now (body .entry))) r ⌝ }
 {
     if body.len() < at {
         return Word::Short;
@@ -169,7 +168,7 @@ impl Walk {
 
     // A text with its count.
     fn text(self, body: &[u8]) -> Met
-        ensures { λ r. ⌜ Meets (now (body .entry)) (named (remaining self) (drop (self .at) (now (body .entry)))) r ⌝ }
+        ensures { λ r. ⌜ Meets (now (body .entry)) (textThen (remaining self) (drop (self .at) (now (body .entry)))) r ⌝ }
     {
         let Word::Value(n) = read_word(body, self.at) else {
             return Met::End;
@@ -217,7 +216,7 @@ impl Walk {
 
     // The code of an operator.
     fn operator(self, body: &[u8]) -> Met
-        ensures { λ r. ⌜ Meets (now (body .entry)) (operator (after self) (drop (self .at) (now (body .entry)))) r ⌝ }
+        ensures { λ r. ⌜ Meets (now (body .entry)) (operatorThen (afterField self) (drop (self .at) (now (body .entry)))) r ⌝ }
     {
         let at = self.at;
         if body.len() <= at {
@@ -231,7 +230,7 @@ impl Walk {
 
     // The count of a list.
     fn count(self, body: &[u8]) -> Met
-        ensures { λ r. ⌜ Meets (now (body .entry)) (counted (self .item) (drop (self .at) (now (body .entry)))) r ⌝ }
+        ensures { λ r. ⌜ Meets (now (body .entry)) (countThen (self .item) (drop (self .at) (now (body .entry)))) r ⌝ }
     {
         let Word::Value(n) = read_word(body, self.at) else {
             return Met::End;
@@ -241,7 +240,7 @@ impl Walk {
 
     // Where no fields are left: a count, or the next item.
     fn ending(self, body: &[u8]) -> Met
-        ensures { λ r. ⌜ Meets (now (body .entry)) (ending self (drop (self .at) (now (body .entry)))) r ⌝ }
+        ensures { λ r. ⌜ Meets (now (body .entry)) (walkEnding self (drop (self .at) (now (body .entry)))) r ⌝ }
     {
         if self.counts {
             return self.count(body);
@@ -270,7 +269,6 @@ impl Walk {
             Field::TypeRef => self.popped().reference(body, Referent::TypeKind),
             Field::TermRef => self.popped().reference(body, Referent::TermKind),
             Field::NamedType => self.put(Field::TypeRef).text(body),
-            Field::NamedTerm => self.put(Field::TermRef).text(body),
             Field::Operator => self.operator(body),
             Field::Operand(o) => self.popped().operand(body, o),
         }
@@ -278,7 +276,7 @@ impl Walk {
 }
 
 // The operand of the operator with a code.
-fn operand_of(code: u8) -> Coded
+pub fn operand_of(code: u8) -> Coded
     ensures { λ r. ⌜ r ≡ operandOf code ⌝ }
 {
     if code == read_operator::EXT {

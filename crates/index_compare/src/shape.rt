@@ -1,11 +1,12 @@
 // The shapes of records: segments that are told with no walk.
 use crate::compare::byte_after;
 use crate::compare::byte_at;
+use crate::segments::Coded;
 use crate::segments::Word;
 ghost use mathlib.Core.Path.{_≡_};
 ghost use mathlib.Core.Bool.{true};
 ghost use Rattle.index.specs.Standing.{bodyAt};
-ghost use Rattle.index_compare.specs.Machine.{ahead, start};
+ghost use Rattle.index_compare.specs.Machine.{ahead, walkStart};
 ghost use Rattle.index_compare.specs.View.{segmentsAt};
 ghost use Rattle.index_compare.specs.Shape.{Bare, Shaped};
 
@@ -24,27 +25,15 @@ pub enum Shape {
 fn is_bare(code: u8) -> bool
     ensures { λ r. ⌜ Bare code r ⌝ }
 {
-    if code == read_operator::EXT {
-        return false;
+    match crate::segments::operand_of(code) {
+        Coded::With(_) => false,
+        Coded::Absent => true,
     }
-    if code == read_operator::RECORD_GET {
-        return false;
-    }
-    if code == read_operator::STRING_LIKE {
-        return false;
-    }
-    if code == read_operator::UUF {
-        return false;
-    }
-    if code == read_operator::ZERO_EXTEND {
-        return false;
-    }
-    true
 }
 
 // The shape of a body that is a reference to a term.
 fn sole(body: &[u8]) -> Shape
-    ensures { λ r. ⌜ Shaped (now (body .entry)) (ahead (now (body .entry)) (start 88 49)) r ⌝ }
+    ensures { λ r. ⌜ Shaped (now (body .entry)) (ahead (now (body .entry)) (walkStart 88 49)) r ⌝ }
 {
     let Word::Value(n) = crate::segments::read_word(body, 0) else {
         return Shape::Other;
@@ -54,7 +43,7 @@ fn sole(body: &[u8]) -> Shape
 
 // Of that of an application.
 fn applied(body: &[u8]) -> Shape
-    ensures { λ r. ⌜ Shaped (now (body .entry)) (ahead (now (body .entry)) (start 88 65)) r ⌝ }
+    ensures { λ r. ⌜ Shaped (now (body .entry)) (ahead (now (body .entry)) (walkStart 88 65)) r ⌝ }
 {
     if body.len() < 9 {
         return Shape::Other;
@@ -73,7 +62,7 @@ fn applied(body: &[u8]) -> Shape
 
 // Of that of a set.
 fn listing(body: &[u8]) -> Shape
-    ensures { λ r. ⌜ Shaped (now (body .entry)) (ahead (now (body .entry)) (start 88 67)) r ⌝ }
+    ensures { λ r. ⌜ Shaped (now (body .entry)) (ahead (now (body .entry)) (walkStart 88 67)) r ⌝ }
 {
     let Word::Value(t) = crate::segments::read_word(body, 0) else {
         return Shape::Other;
@@ -86,7 +75,7 @@ fn listing(body: &[u8]) -> Shape
 
 // Of that of a variable.
 fn named(body: &[u8]) -> Shape
-    ensures { λ r. ⌜ Shaped (now (body .entry)) (ahead (now (body .entry)) (start 88 86)) r ⌝ }
+    ensures { λ r. ⌜ Shaped (now (body .entry)) (ahead (now (body .entry)) (walkStart 88 86)) r ⌝ }
 {
     let Word::Value(n) = crate::segments::read_word(body, 0) else {
         return Shape::Other;
@@ -100,7 +89,7 @@ fn named(body: &[u8]) -> Shape
 
 // The shape of a body by the two bytes of its mark.
 pub fn shape_by(a: u8, b: u8, body: &[u8]) -> Shape
-    ensures { λ r. ⌜ Shaped (now (body .entry)) (ahead (now (body .entry)) (start a b)) r ⌝ }
+    ensures { λ r. ⌜ Shaped (now (body .entry)) (ahead (now (body .entry)) (walkStart a b)) r ⌝ }
 {
     if a != b'X' {
         return Shape::Other;

@@ -6,7 +6,7 @@ use mathlib.Core.List.{List, []}
 use mathlib.Core.Option.{Option, some, Option·none-ne-some}
 use Prim.Native.Nat.{ℕ, _^_}
 use lib.Dec.{ltb}
-use lib.ListN.{drop, getD}
+use lib.ListN.{getD}
 use Rattle.script_spec.specs.Base.{Bytes, bytes, same, lookup, andThen}
 use Rattle.script_spec.specs.Tree as tree
 use Rattle.script_spec.specs.Fields as fields
@@ -21,7 +21,7 @@ use Rattle.check_rules.specs.Marks.{termBytes}
 use Rattle.index.specs.Lists.{numberAt}
 use Rattle.index_entry.proofs.Letters.{termMarked, term-marked, term-letter}
 use Rattle.index_entry.specs.Terms.{references, childrenIn, termSaid, IsTerm}
-use Rattle.index_entry.specs.Children.{IsChildren, ChildrenAt}
+use Rattle.index_entry.specs.Children.{ListedAt, IsChildren, ChildrenAt}
 use Rattle.index_entry.specs.declared.terms.Children.{Children}
 use Rattle.index_entry.specs.declared.terms.TermEntry.{TermEntry}
 use Rattle.index_entry.specs.declared.terms.TermEntry.the-variants as entry
@@ -90,19 +90,17 @@ module _ {body : Bytes} where
   unfolding termSaid childrenIn references
   children-some = children-said _ (λ t rs h. cc) (term-some refl)
 
-  pub children-set : {left : ℕ} → left ≡ numberAt body 4 → IsChildren (some (bytes "XC")) body (record { from = 8; left = left; named = false })
+  pub children-set : {c : Children} → ListedAt body 4 false c → IsChildren (some (bytes "XC")) body c
   unfolding termSaid
-  children-set count = children-said _ (λ t rs h. cc) (term-set refl count)
+  children-set L = children-said _ (λ t rs h. cc) (term-set refl L)
 
-  pub children-record : {left : ℕ} → left ≡ numberAt body 0 → IsChildren (some (bytes "XR")) body (record { from = 4; left = left; named = true })
+  pub children-record : {c : Children} → ListedAt body 0 true c → IsChildren (some (bytes "XR")) body c
   unfolding termSaid
-  children-record count = children-said _ (λ t rs h. cc) (term-record count)
+  children-record L = children-said _ (λ t rs h. cc) (term-record L)
 
-  pub children-app : {to left from : ℕ} (o : Op) → Reads (operator (2 ^ 32)) body 4 (value (opOf body o) to) → left ≡ numberAt body to → drop from body ≡ drop 4 (drop to body)
-      → IsChildren (some (bytes "XA")) body (record { from = from; left = left; named = false })
+  pub children-app : {to : ℕ} {c : Children} (o : Op) → Reads (operator (2 ^ 32)) body 4 (value (opOf body o) to) → ListedAt body to false c → IsChildren (some (bytes "XA")) body c
   unfolding termSaid
-  children-app {left = left} {from} o r count place =
-      children-said {r = entry.App (numberAt body 0) o (record { from = from; left = left; named = false })} _ (λ t rs h. cc) (term-app refl r count place)
+  children-app {c = c} o r L = children-said {r = entry.App (numberAt body 0) o c} _ (λ t rs h. cc) (term-app refl r L)
 
   pub no-arguments : {n : ℕ} {c : Children} → Reads (operator (2 ^ 32)) body 4 (refusal n) → IsChildren (some (bytes "XA")) body c
   unfolding termSaid

@@ -10,7 +10,7 @@ use Rattle.script_spec.specs.Base.{Bytes, seconds}
 use Rattle.index.specs.Lists.{numberAt}
 use Rattle.index_entry.specs.Places.{namedItems, PastText}
 use Rattle.index_entry.specs.Terms.{references, childrenIn}
-use Rattle.index_entry.specs.Children.{ahead, TakesChild}
+use Rattle.index_entry.specs.Children.{pastName, TakesChild}
 use Rattle.index_entry.specs.declared.terms.Children.{Children}
 
 -- so many children from a place on, each after a text where `named`
@@ -26,8 +26,8 @@ pub no-children : (body : Bytes) (c : Children) → c .left ≡ 0 → childrenIn
 unfolding childrenIn
 no-children body c h = rw h (listed-none (c .named) (drop (c .from) body))
 
-listed-first : (b : Bool) (n : ℕ) (s : Bytes) → listed b (suc n) s ≡ numberAt (ahead b s) 0 ∷ listed b n (drop 4 (ahead b s))
-unfolding references namedItems seconds ahead
+listed-first : (b : Bool) (n : ℕ) (s : Bytes) → listed b (suc n) s ≡ numberAt (pastName b s) 0 ∷ listed b n (drop 4 (pastName b s))
+unfolding references namedItems seconds pastName
 listed-first true n s = refl
 listed-first false n s = refl
 
@@ -44,25 +44,25 @@ length-children body c = listed-length (c .named) (c .left) (drop (c .from) body
 
 -- ---- the first child
 
-pub ahead-named : {named : Bool} {body : Bytes} {from end : ℕ} → named ≡ true → PastText body from end → drop end body ≡ ahead named (drop from body)
-unfolding ahead
+pub ahead-named : {named : Bool} {body : Bytes} {from end : ℕ} → named ≡ true → PastText body from end → drop end body ≡ pastName named (drop from body)
+unfolding pastName
 ahead-named e i = rw e (i .rest)
 
-pub ahead-bare : {named : Bool} {s : Bytes} → named ≡ false → s ≡ ahead named s
-unfolding ahead
+pub ahead-bare : {named : Bool} {s : Bytes} → named ≡ false → s ≡ pastName named s
+unfolding pastName
 ahead-bare e = rw e
 
 module _ (body : Bytes) (c : Children) (at next : ℕ) {number : ℕ} (left : ℕ) where
-  first-child : drop at body ≡ ahead (c .named) (drop (c .from) body) → number ≡ numberAt body at → drop next body ≡ drop 4 (drop at body) → left + 1 ≡ c .left
+  first-child : drop at body ≡ pastName (c .named) (drop (c .from) body) → number ≡ numberAt body at → drop next body ≡ drop 4 (drop at body) → left + 1 ≡ c .left
       → childrenIn body c ≡ number ∷ childrenIn body (record { from = next; left = left; named = c .named })
   unfolding childrenIn numberAt
   first-child place is on fewer =
       let more : c .left ≡ suc left = omega arith in
-      let head : numberAt (ahead (c .named) (drop (c .from) body)) 0 ≡ number = ap (λ (s : Bytes). numberAt s 0) (sym place) ∙ sym is in
-      let tail : drop 4 (ahead (c .named) (drop (c .from) body)) ≡ drop next body = ap (λ (s : Bytes). drop 4 s) (sym place) ∙ sym on in
+      let head : numberAt (pastName (c .named) (drop (c .from) body)) 0 ≡ number = ap (λ (s : Bytes). numberAt s 0) (sym place) ∙ sym is in
+      let tail : drop 4 (pastName (c .named) (drop (c .from) body)) ≡ drop next body = ap (λ (s : Bytes). drop 4 s) (sym place) ∙ sym on in
       ap (λ (n : ℕ). listed (c .named) n (drop (c .from) body)) more ∙ listed-first (c .named) left (drop (c .from) body)
       ∙ (λ i. head i ∷ listed (c .named) left (tail i))
 
-  pub takes-child : drop at body ≡ ahead (c .named) (drop (c .from) body) → number ≡ numberAt body at → drop next body ≡ drop 4 (drop at body) → (0 < c .left → left + 1 ≡ c .left)
+  pub takes-child : drop at body ≡ pastName (c .named) (drop (c .from) body) → number ≡ numberAt body at → drop next body ≡ drop 4 (drop at body) → (0 < c .left → left + 1 ≡ c .left)
       → TakesChild body c (record { number = number; rest = record { from = next; left = left; named = c .named } })
   takes-child place is on fewer = record { splits = λ h. first-child place is on (fewer h); fewer = fewer }

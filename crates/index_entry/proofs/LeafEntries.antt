@@ -11,13 +11,12 @@ use lib.Seq.{take-take, drop-drop}
 use Rattle.script_spec.specs.Base.{Bytes, bytes, at, same, lookup, andThen}
 use Rattle.script_spec.specs.Tree as tree
 use Rattle.script_spec.specs.Fields.{Entry, term, got, bad, Reader, _>>=_, pure, ensure, byte, number, low, part, text, ref, width, entityRef, coded, leaf, marks}
+use Rattle.script_spec.proofs.Readers.{bind-bad, bad-not-got, got-value}
 use Rattle.index_compare.proofs.Standing.{entry-whole}
 use Rattle.index.specs.Standing.{entryOf, loose}
-use Rattle.index.proofs.Readers.{bad-not-got, got-value}
 use Rattle.read_field.specs.Reads.{value, refusal, asRead, Reads}
 use Rattle.read_field.specs.Answers.{spanned}
 use Rattle.read_field.specs.declared.Span.{Span}
-use Rattle.read_field.proofs.Skims.{bind-bad}
 use Rattle.read_field.proofs.Coded.{at-past}
 use Rattle.index.specs.Lists.{numberAt, firstText}
 use Rattle.index_entry.specs.Places.{PastText}

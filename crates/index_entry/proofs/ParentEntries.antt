@@ -7,13 +7,12 @@ use mathlib.Core.Option.{some}
 use Prim.Native.Nat.{ℕ, zero, suc, _^_, _<_}
 use lib.Dec.{ltb}
 use lib.ListN.{length, take, drop}
-use lib.Seq.{drop-drop}
 use borrow.Author.Tests.{lt-ltb}
 use Rattle.script_spec.specs.Base.{Bytes, bytes, at, same, lookup, firsts, seconds}
 use Rattle.script_spec.specs.Tree as tree
 use Rattle.script_spec.specs.Fields.{term, got, _>>=_, pure, present, byte, u32, text, list, times, ref, pair, coded, operators, operator, marks}
+use Rattle.script_spec.proofs.Readers.{bad-not-got, got-value, got-rest}
 use Rattle.index.specs.Standing.{loose}
-use Rattle.index.proofs.Readers.{bad-not-got, got-value}
 use Rattle.read_field.specs.Reads.{Told, value, refusal, asRead, Reads, chosen}
 use Rattle.read_field.proofs.Laws.{reads-next, reads-stop, reads-pure, reads-ensured}
 use Rattle.read_field.proofs.Coded.{reads-chosen}
@@ -21,9 +20,11 @@ use Rattle.read_operator.specs.Operators.{opOf, uninterpreted, zeroExtend}
 use Rattle.read_operator.specs.declared.Op.{Op}
 use Rattle.index.specs.Lists.{numberAt}
 use Rattle.index_entry.specs.Places.{namedItems}
-use Rattle.index_entry.proofs.Inverse.{got-rest, bind-inverse, tested-inverse, u32-inverse, named-inverse}
+use Rattle.index_entry.proofs.Inverse.{bind-inverse, tested-inverse, u32-inverse, named-inverse}
 use Rattle.index_entry.proofs.TypeEntries.{coded-by}
 use Rattle.index_entry.specs.Terms.{references, childrenIn, termSaid, IsTerm}
+use Rattle.index_entry.specs.Children.{ListedAt}
+use Rattle.index_entry.specs.declared.terms.Children.{Children}
 use Rattle.index_entry.specs.declared.terms.TermEntry.the-variants as entry
 use Rattle.index_entry.proofs.LeafEntries.{is-term}
 
@@ -45,6 +46,15 @@ listed-inverse count s h next =
     bind-inverse u32 _ s h (λ n mid e g. u32-inverse s e (λ v d.
     next ((rw (v, d)) ∙ references-inverse count n mid g)))
 
+-- children by their list
+unnamed : (body : Bytes) (c : Children) → c .named ≡ false → childrenIn body c ≡ references (c .left) (drop (c .from) body)
+unfolding childrenIn
+unnamed body c e = rw e
+
+named : (body : Bytes) (c : Children) → c .named ≡ true → childrenIn body c ≡ seconds (namedItems (c .left) (drop (c .from) body))
+unfolding childrenIn
+named body c e = rw e
+
 module _ {body : Bytes} where
   pub term-some : {n : ℕ} → n ≡ numberAt body 0 → IsTerm (some (bytes "X1")) body (entry.Some n)
   unfolding marks lookup same bytes termSaid ref pure
@@ -53,33 +63,36 @@ module _ {body : Bytes} where
       bind-inverse (ref (loose .terms)) _ body h (λ x mid p q. tested-inverse 8 _ body p (λ v d.
       ap (λ (t : ℕ). some (term tree.Some (t ∷ []))) (number ∙ v) ∙ ap some (got-value (term tree.Some (x ∷ [])) e mid [] q))))
 
-  pub term-set : {n left : ℕ} → n ≡ numberAt body 0 → left ≡ numberAt body 4 → IsTerm (some (bytes "XC")) body (entry.Set n (record { from = 8; left = left; named = false }))
-  unfolding marks lookup same bytes termSaid ref pure childrenIn numberAt
-  term-set {n} {left} number count =
+  pub term-set : {n : ℕ} {c : Children} → n ≡ numberAt body 0 → ListedAt body 4 false c → IsTerm (some (bytes "XC")) body (entry.Set n c)
+  unfolding marks lookup same bytes termSaid ref pure numberAt
+  term-set {n} {c} number L =
       is-term (bytes "XC") _ _ refl (λ e h.
       bind-inverse (ref (loose .types)) _ body h (λ x mid p q. tested-inverse 8 _ body p (λ v d.
       bind-inverse (list (ref (loose .terms))) _ mid q (λ rs end i j. listed-inverse (loose .terms) mid i (λ r.
       let typed : n ≡ x = number ∙ v in
-      let size : left ≡ numberAt mid 0 = count ∙ ap (λ (s : Bytes). numberAt s 0) d in
-      let place : drop 8 body ≡ drop 4 mid = sym (drop-drop 4 4 body) ∙ ap (λ (s : Bytes). drop 4 s) d in
-      let all : references left (drop 8 body) ≡ rs = (λ i. references (size i) (place i)) ∙ r in
+      let size : c .left ≡ numberAt mid 0 = L .count ∙ ap (λ (s : Bytes). numberAt s 0) d in
+      let start : drop (c .from) body ≡ drop 4 mid = L .place ∙ ap (λ (s : Bytes). drop 4 s) d in
+      let all : childrenIn body c ≡ rs = unnamed body c (L .bare) ∙ (λ i. references (size i) (start i)) ∙ r in
       (λ i. some (term (tree.Set (typed i)) (all i))) ∙ ap some (got-value (term (tree.Set x) rs) e end [] j))))))
 
-  pub term-record : {left : ℕ} → left ≡ numberAt body 0 → IsTerm (some (bytes "XR")) body (entry.Record (record { from = 4; left = left; named = true }))
-  unfolding marks lookup same bytes termSaid ref pure childrenIn list
-  term-record {left} count =
+  pub term-record : {c : Children} → ListedAt body 0 true c → IsTerm (some (bytes "XR")) body (entry.Record c)
+  unfolding marks lookup same bytes termSaid ref pure list
+  term-record {c} L =
       is-term (bytes "XR") _ _ refl (λ e h.
       bind-inverse (list (pair text (ref (loose .terms)))) _ body h (λ ps end i j.
       bind-inverse u32 _ body i (λ m mid a b. u32-inverse body a (λ v d.
-      let all : namedItems left (drop 4 body) ≡ ps = (rw (count, v, d)) ∙ named-inverse (loose .terms) m mid b in
-      ap (λ (ps : List (Bytes × ℕ)). some (term (tree.Record (firsts ps)) (seconds ps))) all ∙ ap some (got-value (term (tree.Record (firsts ps)) (seconds ps)) e end [] j)))))
+      let size : c .left ≡ m = L .count ∙ v in
+      let start : drop (c .from) body ≡ mid = L .place ∙ d in
+      let all : namedItems (c .left) (drop (c .from) body) ≡ ps = (λ i. namedItems (size i) (start i)) ∙ named-inverse (loose .terms) m mid b in
+      let values : childrenIn body c ≡ seconds ps = named body c (L .bare) ∙ ap seconds all in
+      (λ i. some (term (tree.Record (firsts (all i))) (values i))) ∙ ap some (got-value (term (tree.Record (firsts ps)) (seconds ps)) e end [] j)))))
 
   -- ---- applications
 
-  pub term-app : {n to left from : ℕ} {o : Op} → n ≡ numberAt body 0 → Reads (operator (2 ^ 32)) body 4 (value (opOf body o) to) → left ≡ numberAt body to → drop from body ≡ drop 4 (drop to body)
-      → IsTerm (some (bytes "XA")) body (entry.App n o (record { from = from; left = left; named = false }))
-  unfolding marks lookup same bytes termSaid ref pure childrenIn numberAt asRead loose
-  term-app {n} {to} {left} {from} {o} number r count place =
+  pub term-app : {n to : ℕ} {o : Op} {c : Children} → n ≡ numberAt body 0 → Reads (operator (2 ^ 32)) body 4 (value (opOf body o) to) → ListedAt body to false c
+      → IsTerm (some (bytes "XA")) body (entry.App n o c)
+  unfolding marks lookup same bytes termSaid ref pure numberAt asRead loose
+  term-app {n} {to} {o} {c} number r L =
       is-term (bytes "XA") _ _ refl (λ e h.
       bind-inverse (ref (2 ^ 32)) _ body h (λ x mid p q. tested-inverse 8 _ body p (λ v d.
       bind-inverse (operator (2 ^ 32)) _ mid q (λ y end i j.
@@ -88,9 +101,9 @@ module _ {body : Bytes} where
       let here : drop to body ≡ end = got-rest (opOf body o) y (drop to body) end read in
       bind-inverse (list (ref (2 ^ 32))) _ end j (λ rs last k l. listed-inverse (2 ^ 32) end k (λ f.
       let typed : n ≡ x = number ∙ v in
-      let size : left ≡ numberAt end 0 = count ∙ ap (λ (s : Bytes). numberAt s 0) here in
-      let start : drop from body ≡ drop 4 end = place ∙ ap (λ (s : Bytes). drop 4 s) here in
-      let all : references left (drop from body) ≡ rs = (λ i. references (size i) (start i)) ∙ f in
+      let size : c .left ≡ numberAt end 0 = L .count ∙ ap (λ (s : Bytes). numberAt s 0) here in
+      let start : drop (c .from) body ≡ drop 4 end = L .place ∙ ap (λ (s : Bytes). drop 4 s) here in
+      let all : childrenIn body c ≡ rs = unnamed body c (L .bare) ∙ (λ i. references (size i) (start i)) ∙ f in
       (λ i. some (term (tree.App (typed i) (op-is i)) (all i))) ∙ ap some (got-value (term (tree.App x y) rs) e last [] l)))))))
 
   pub no-app : {n : ℕ} → Reads (operator (2 ^ 32)) body 4 (refusal n) → IsTerm (some (bytes "XA")) body entry.Unreadable

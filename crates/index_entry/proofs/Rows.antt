@@ -4,7 +4,6 @@ use mathlib.Core.Path.{_≡_}
 use mathlib.Core.List.{List, map}
 use mathlib.Core.Option.{some}
 use Prim.Native.Nat.{ℕ, _<_}
-use native.Mathlib.Omega.{arith}
 use Rattle.script_spec.specs.Base.{Bytes}
 use Rattle.script_spec.specs.Tree.{TypeMark, Ty, Fun, uuf, node, forest}
 use Rattle.script_spec.specs.Fields as fields

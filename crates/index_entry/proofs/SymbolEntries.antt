@@ -10,9 +10,9 @@ use lib.ListN.{drop}
 use Rattle.script_spec.specs.Base.{Bytes, bytes, all, same, lookup, andThen}
 use Rattle.script_spec.specs.Fields as fields
 use Rattle.script_spec.specs.Fields.{Entry, got, Reader, pure, u32, text, list, times, ref, marks}
+use Rattle.script_spec.proofs.Readers.{got-value}
 use Rattle.index_compare.proofs.Standing.{entry-whole}
 use Rattle.index.specs.Standing.{markAt, bodyAt, entryOf, entryAt, loose}
-use Rattle.index.proofs.Readers.{got-value}
 use Rattle.read_record.specs.Marks.{mark, Marked}
 use Rattle.read_record.proofs.mark.Kind.{the-type}
 use Rattle.read_record.specs.declared.mark.Kind.{Kind}

@@ -10,17 +10,16 @@ use Rattle.script_spec.specs.Base.{Bytes, bytes, at, same, lookup, andThen, fir
 use Rattle.script_spec.specs.Tree as tree
 use Rattle.script_spec.specs.Tree.{TypeMark, Bool·, String·, Option·, Set·, BitVec·, Declared, entity, extension, recordOf}
 use Rattle.script_spec.specs.Fields.{Entry, type, got, bad, Reader, _>>=_, pure, present, byte, u32, text, list, times, ref, pair, width, coded, extType, marks}
+use Rattle.script_spec.proofs.Readers.{bind-got, bind-bad, bad-not-got, got-value}
 use Rattle.index_compare.proofs.Standing.{entry-whole}
 use Rattle.index.specs.Standing.{markAt, bodyAt, entryOf, entryAt, loose}
-use Rattle.index.proofs.Readers.{bad-not-got, got-value}
 use Rattle.read_field.specs.Reads.{value, refusal, asRead, Reads}
 use Rattle.read_field.specs.Answers.{spanned}
-use Rattle.read_field.proofs.Skims.{bind-got, bind-bad}
 use Rattle.read_field.proofs.Coded.{at-past}
 use Rattle.check_rules.specs.Marks.{datatypeBytes, typeBytes}
 use Rattle.index.specs.Lists.{numberAt, firstText}
 use Rattle.index_entry.specs.Places.{namedItems}
-use Rattle.index_entry.specs.Types.{extTypeOf, typeSaid, IsType, TypeAt}
+use Rattle.index_entry.specs.Types.{extTypeSaid, typeSaid, IsType, TypeAt}
 use Rattle.index_entry.specs.declared.types.ExtType.{ExtType}
 use Rattle.index_entry.specs.declared.types.TypeEntry.{TypeEntry}
 use Rattle.index_entry.specs.declared.types.TypeEntry.the-variants as entry
@@ -114,13 +113,13 @@ module _ {body : Bytes} where
 
   -- ---- extension types
 
-  pub ext-known : {code to : ℕ} (i : ℕ) (x : ExtType) → Reads byte body 0 (value code to) → code ≡ i → at i extTypes ≡ some (pure (extTypeOf x))
+  pub ext-known : {code to : ℕ} (i : ℕ) (x : ExtType) → Reads byte body 0 (value code to) → code ≡ i → at i extTypes ≡ some (pure (extTypeSaid x))
       → IsType (some (bytes "TX")) body (entry.Ext x)
   unfolding marks lookup same bytes typeSaid pure extType asRead extTypes
   ext-known {code} {to} i x b e h =
       is-type (bytes "TX") tx (entry.Ext x) refl
-      (λ y g. ap some (field-then extType (λ x. type (Declared (extension x)) []) (extTypeOf x)
-      (λ z rest q. got-value (extTypeOf x) z (drop to body) rest (sym (coded-at body extTypes (b .is) (pure (extTypeOf x)) i e h) ∙ q)) g))
+      (λ y g. ap some (field-then extType (λ x. type (Declared (extension x)) []) (extTypeSaid x)
+      (λ z rest q. got-value (extTypeSaid x) z (drop to body) rest (sym (coded-at body extTypes (b .is) (pure (extTypeSaid x)) i e h) ∙ q)) g))
 
   -- a body that has no type under a mark
   no-type : (m : Bytes) (reader : Reader Entry) {n : ℕ} → lookup m (marks loose) ≡ some reader → reader body ≡ bad n → IsType (some m) body entry.Unreadable

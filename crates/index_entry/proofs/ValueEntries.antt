@@ -3,7 +3,7 @@
 use mathlib.Core.Path.{_≡_, refl, sym, ap, _∙_}
 use mathlib.Core.List.{[], _∷_}
 use mathlib.Core.Option.{some}
-use Prim.Native.Nat.{ℕ, zero, suc, _+_, _*_, _^_, _≤_}
+use Prim.Native.Nat.{ℕ, _+_, _*_, _^_, _≤_}
 use native.Mathlib.Omega.{arith}
 use native.Mathlib.Nat.{le-refl}
 use lib.ListN.{length, take, drop, getD, length-drop}
@@ -13,25 +13,18 @@ use Rattle.script_spec.specs.Base.{Bytes, bytes, at, same, lookup}
 use Rattle.script_spec.specs.Tree as tree
 use Rattle.script_spec.specs.Fields as fields
 use Rattle.script_spec.specs.Fields.{Entry, got, Reader, _>>=_, pure, byte, number, address, prefix, low, high, part, coded, leaf, marks}
-use Rattle.index.proofs.Readers.{bad-not-got, got-value}
+use Rattle.script_spec.proofs.Readers.{bind-bad, bad-not-got, got-value, got-rest}
 use Rattle.read_field.specs.Reads.{value, refusal, asRead, Reads}
-use Rattle.read_field.proofs.Skims.{bind-bad}
 use Rattle.read_field.proofs.Coded.{at-past}
 use Rattle.read_record.specs.Fields.{values}
 use Rattle.index.specs.Lists.{numberAt}
-use Rattle.index_entry.proofs.Inverse.{got-rest, bind-inverse, ensure-inverse, part-inverse}
+use Rattle.index_entry.proofs.Inverse.{bind-inverse, ensure-inverse, part-inverse}
 use Rattle.index_entry.proofs.TypeEntries.{coded-at, coded-none}
 use Rattle.index_entry.specs.Terms.{valueOf, termSaid, IsTerm}
 use Rattle.index_entry.specs.declared.terms.Value.{Value}
 use Rattle.index_entry.specs.declared.terms.Value.the-variants as val
 use Rattle.index_entry.specs.declared.terms.TermEntry.the-variants as entry
 use Rattle.index_entry.proofs.LeafEntries.{is-term, no-term}
-
--- past the end there is 0
-pub getD-past : (s : Bytes) (i : ℕ) → length s ≤ i → getD s i 0 ≡ 0
-getD-past [] i h = refl
-getD-past (b ∷ s) zero h = absurd (omega arith)
-getD-past (b ∷ s) (suc i) h = getD-past s i (omega arith)
 
 -- ---- what was read
 

@@ -10,20 +10,26 @@ use Rattle.script_spec.specs.Base.{Bytes}
 use Rattle.script_spec.specs.Tree.{TermMark}
 use Rattle.script_spec.specs.Fields.{term}
 use Rattle.index.specs.Standing.{bodyAt, entryOf, entryAt}
-use Rattle.index.specs.Lists.{textSize}
+use Rattle.index.specs.Lists.{numberAt, textSize}
 use Rattle.index_entry.specs.Terms.{childrenIn}
 use Rattle.index_entry.specs.declared.terms.Children.{Children}
 use Rattle.index_entry.specs.declared.terms.Child.{Child}
 
 -- what stands after a child's name, where it has one
-unfoldable pub ahead : Bool → Bytes → Bytes
-ahead true s = drop (textSize s) s
-ahead false s = s
+unfoldable pub pastName : Bool → Bytes → Bytes
+pastName true s = drop (textSize s) s
+pastName false s = s
 
 -- the first child and the others
 pub record TakesChild (body : Bytes) (c : Children) (r : Child) : Type 0 where
   pub splits : 0 < c .left → childrenIn body c ≡ r .number ∷ childrenIn body (r .rest)
   pub fewer : 0 < c .left → r .rest .left + 1 ≡ c .left
+
+-- the children in a list at a place of a body
+pub record ListedAt (body : Bytes) (at : ℕ) (named : Bool) (r : Children) : Type 0 where
+  pub count : r .left ≡ numberAt body at
+  pub place : drop (r .from) body ≡ drop 4 (drop at body)
+  pub bare : r .named ≡ named
 
 -- a body that is a term under a mark has these children
 pub record IsChildren (mark : Option Bytes) (body : Bytes) (r : Children) : Type 0 where

@@ -12,6 +12,10 @@ unfoldable pub namedItems : ℕ → Bytes → List (Bytes × ℕ)
 namedItems zero s = []
 namedItems (suc n) s = (firstText s, numberAt (drop (textSize s) s) 0) ∷ namedItems n (drop 4 (drop (textSize s) s))
 
+-- what is left after a text and so many bytes
+unfoldable pub afterText : ℕ → Bytes → Bytes
+afterText skip s = drop skip (drop (textSize s) s)
+
 -- the place after the text at a place of a body
 pub record PastText (body : Bytes) (at r : ℕ) : Type 0 where
   pub rest : drop r body ≡ drop (textSize (drop at body)) (drop at body)

@@ -17,11 +17,11 @@ use Rattle.index_entry.specs.declared.types.ExtType.the-variants as ext
 use Rattle.index_entry.specs.declared.types.TypeEntry.{TypeEntry}
 use Rattle.index_entry.specs.declared.types.TypeEntry.the-variants as entry
 
-unfoldable pub extTypeOf : ExtType → tree.ExtType
-extTypeOf ext.IPAddr = tree.IPAddr
-extTypeOf ext.Decimal = tree.Decimal
-extTypeOf ext.Datetime = tree.Datetime
-extTypeOf ext.Duration = tree.Duration
+unfoldable pub extTypeSaid : ExtType → tree.ExtType
+extTypeSaid ext.IPAddr = tree.IPAddr
+extTypeSaid ext.Decimal = tree.Decimal
+extTypeSaid ext.Datetime = tree.Datetime
+extTypeSaid ext.Duration = tree.Duration
 
 -- the entry that a type stands for in a body
 unfoldable pub typeSaid : Bytes → TypeEntry → Option Entry
@@ -31,7 +31,7 @@ typeSaid body (entry.BitVec n) = some (type (BitVec· n) [])
 typeSaid body (entry.Option n) = some (type Option· (n ∷ []))
 typeSaid body (entry.Set n) = some (type Set· (n ∷ []))
 typeSaid body (entry.Entity p) = some (type (Declared (entity (spanned body p))) [])
-typeSaid body (entry.Ext x) = some (type (Declared (extension (extTypeOf x))) [])
+typeSaid body (entry.Ext x) = some (type (Declared (extension (extTypeSaid x))) [])
 typeSaid body (entry.Record n) = let ps = namedItems n (drop 4 body) in some (type (Declared (recordOf (firsts ps))) (seconds ps))
 typeSaid body entry.Unreadable = none
 

@@ -2,7 +2,7 @@
 ghost use mathlib.Core.Path.{_≡_};
 ghost use lib.ListN.{drop};
 ghost use Rattle.index.specs.Lists.{firstText};
-ghost use Rattle.index_entry.specs.Places.{PastText};
+ghost use Rattle.index_entry.specs.Places.{afterText, PastText};
 
 // The place n bytes on, or the end of the body.
 pub fn past(body: &[u8], at: usize, n: usize) -> usize
@@ -33,4 +33,12 @@ pub fn past_text(body: &[u8], at: usize) -> usize
     let n = crate::records::wide(crate::records::number_at(body, at));
     let start = past(body, at, 4);
     past(body, start, n)
+}
+
+// The place after the text at a place and so many bytes.
+pub fn after_text(body: &[u8], at: usize, skip: usize) -> usize
+    ensures { λ r. ⌜ drop r (now (body .entry)) ≡ afterText skip (drop at (now (body .entry))) ⌝ }
+{
+    let end = past_text(body, at);
+    past(body, end, skip)
 }

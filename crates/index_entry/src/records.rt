@@ -10,6 +10,7 @@ ghost use Rattle.index.specs.Standing.{markAt, bodyAt};
 ghost use Rattle.read_record.specs.Marks.{Marked};
 ghost use Rattle.index.specs.Lists.{numberAt};
 
+// A number of 32 bits as a place.
 pub fn wide(n: u32) -> usize
     ensures { λ r. ⌜ (r ≡ n) × (r < 2 ^ 32) ⌝ }
 {
@@ -31,11 +32,7 @@ pub fn number_at(s: &[u8], at: usize) -> u32
 pub fn kind_at(file: &[u8], offset: u32) -> Kind
     ensures { λ r. ⌜ Marked (markAt (now (file .entry)) offset) r ⌝ }
 {
-    let at = wide(offset);
-    if file.len() < at + 2 {
-        return Kind::Unknown;
-    }
-    read_record::mark::kind_of(file[at], file[at + 1])
+    index_compare::record::kind_at(file, wide(offset))
 }
 
 // The second byte of the mark of the record at an offset, 0 where there is none.
@@ -53,7 +50,5 @@ pub fn letter_at(file: &[u8], offset: u32) -> u8
 pub fn body_at<'a>(file: &'a [u8], offset: u32) -> &'a [u8]
     ensures { λ r. ⌜ now r ≡ bodyAt (now (file .entry)) offset ⌝ }
 {
-    let at = wide(offset);
-    let size = number_at(file, at + 2);
-    read_field::part_of(file, at + 6, wide(size))
+    index_compare::record::body_at(file, wide(offset))
 }

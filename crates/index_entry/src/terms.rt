@@ -9,9 +9,8 @@ ghost use mathlib.Core.List.{[], _∷_};
 ghost use mathlib.Core.Option.{some};
 ghost use Prim.Native.Nat.{_+_, _<_};
 ghost use lib.ListN.{drop};
-ghost use Rattle.script_spec.specs.Base.{bytes};
 ghost use Rattle.index_entry.specs.Terms.{IsTerm, TermAt};
-ghost use Rattle.index_entry.specs.Children.{ahead, TakesChild, IsChildren, ChildrenAt};
+ghost use Rattle.index_entry.specs.Children.{pastName, TakesChild};
 
 // The terms that a record refers to: so many numbers from a place of the body on, each after a text where `named`.
 pub struct Children {
@@ -26,11 +25,11 @@ pub struct Child {
     pub rest: Children,
 }
 
-// An application: its number, its operator and its arguments.
+// An application: its operator, its arguments and its number.
 pub struct Application {
-    pub number: u32,
     pub op: Op,
     pub arguments: Children,
+    pub number: u32,
 }
 
 // A set or a record: its number and what it is of.
@@ -73,7 +72,7 @@ pub enum TermEntry {
 
 // Where the number of the first child stands: after its name, where it has one.
 fn place_of_child(body: &[u8], from: usize, named: bool) -> usize
-    ensures { λ r. ⌜ drop r (now (body .entry)) ≡ ahead named (drop from (now (body .entry))) ⌝ }
+    ensures { λ r. ⌜ drop r (now (body .entry)) ≡ pastName named (drop from (now (body .entry))) ⌝ }
 {
     if named {
         return lists::past_text(body, from);
@@ -81,6 +80,7 @@ fn place_of_child(body: &[u8], from: usize, named: bool) -> usize
     from
 }
 
+// One less, or 0.
 fn one_less(n: u32) -> u32
     ensures { λ r. ⌜ (0 < n → r + 1 ≡ n) ⌝ }
 {
@@ -131,48 +131,4 @@ pub fn term_at(file: &[u8], offset: u32) -> TermEntry
 {
     let letter = crate::records::letter_at(file, offset);
     term_of(letter, crate::records::body_at(file, offset))
-}
-
-// The arguments of an application, by its body.
-pub fn arguments(body: &[u8]) -> Children
-    ensures { λ r. ⌜ IsChildren (some (bytes "XA")) (now (body .entry)) r ⌝ }
-{
-    crate::parents::arguments(body)
-}
-
-// The children of a body under a mark that begins with X, by its second byte.
-fn children_of(letter: u8, body: &[u8]) -> Children
-    ensures { λ r. ⌜ IsChildren (some (88 ∷ letter ∷ [])) (now (body .entry)) r ⌝ }
-{
-    match letter {
-        b'1' => Children {
-            from: 0,
-            left: 1,
-            named: false,
-        },
-        b'C' => Children {
-            from: 8,
-            left: crate::records::number_at(body, 4),
-            named: false,
-        },
-        b'R' => Children {
-            from: 4,
-            left: crate::records::number_at(body, 0),
-            named: true,
-        },
-        b'A' => arguments(body),
-        _ => Children {
-            from: 0,
-            left: 0,
-            named: false,
-        },
-    }
-}
-
-// The children of the term at an offset of the file.
-pub fn children_at(file: &[u8], offset: u32) -> Children
-    ensures { λ r. ⌜ ChildrenAt (now (file .entry)) offset r ⌝ }
-{
-    let letter = crate::records::letter_at(file, offset);
-    children_of(letter, crate::records::body_at(file, offset))
 }

@@ -78,5 +78,5 @@ pub fn type_at(file: &[u8], offset: u32) -> TypeEntry
 pub fn part_at(file: &[u8], offset: u32) -> u32
     ensures { λ r. ⌜ PartAt (now (file .entry)) offset r ⌝ }
 {
-    crate::records::number_at(file, crate::records::wide(offset) + 6)
+    crate::records::number_at(crate::records::body_at(file, offset), 0)
 }

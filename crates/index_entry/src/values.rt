@@ -11,26 +11,18 @@ ghost use mathlib.Core.Option.{some};
 ghost use Rattle.script_spec.specs.Base.{bytes};
 ghost use Rattle.index_entry.specs.Terms.{IsTerm};
 
+// A number of 32 bits as one of 64.
 fn wide(n: u32) -> u64
     ensures { λ r. ⌜ (r ≡ n) × (r < 2 ^ 32) ⌝ }
 {
     n as u64
 }
 
-fn wide_byte(b: u8) -> u32
-    ensures { λ r. ⌜ (r ≡ b) × (r < 256) ⌝ }
-{
-    b as u32
-}
-
 // The byte at a place, 0 where there is none.
 fn byte_at(s: &[u8], at: usize) -> u32
     ensures { λ r. ⌜ (r ≡ getD (now (s .entry)) at 0) × (r < 256) ⌝ }
 {
-    if s.len() <= at {
-        return 0;
-    }
-    wide_byte(s[at])
+    read_utf8::wide(index_compare::compare::byte_at(s, at))
 }
 
 // The number of the four bytes after the code, high byte first.

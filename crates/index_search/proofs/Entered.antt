@@ -1,7 +1,7 @@
 -- The memory that is indexed and can be searched: for no records, and after a record of each kind is entered.
 -- Assumes nothing.
 use mathlib.Core.Path.{_≡_, refl, sym, ap, _∙_, subst}
-use Prim.Native.Nat.{ℕ, suc, _+_, _*_, _≤_, _<_}
+use Prim.Native.Nat.{ℕ, suc, _*_, _≤_, _<_}
 use native.Mathlib.Nat.{not-suc-le-zero}
 use native.Mathlib.Omega.{arith}
 use mathlib.Core.List.{List, [], _∷_, _++_}
@@ -22,8 +22,9 @@ use Rattle.index.proofs.Stores.{untouched-then, type-stored, fun-stored, term-s
 use Rattle.index.proofs.Entered as rows
 use Rattle.index.proofs.Names.{Stays, reached-kept, name-last, names-added}
 use Rattle.index.specs.Names.{nameHome, Reached, enumName}
-use Rattle.index_search.specs.Slots.{empties, homeOf, entries}
-use Rattle.index_search.proofs.Ring.{empties-all, empties-same}
+use Rattle.index.specs.Empties.{empties}
+use Rattle.index.proofs.Empties.{empties-all, empties-same}
+use Rattle.index_search.specs.Slots.{homeOf, entries}
 use Rattle.index_search.proofs.Reach.{stored-stays, stored-fewer, reached-new}
 use Rattle.index_search.specs.Searchable.{Indexed}
 use Rattle.index_search.specs.Found.{Enrols}
@@ -45,7 +46,7 @@ indexed-none file work k fits small empty =
             type-slots = λ n l. absurd (not-suc-le-zero l);
             fun-slots = λ n l. absurd (not-suc-le-zero l);
             term-slots = λ n l. absurd (not-suc-le-zero l);
-            taken = omega (arith, empties-all (cell work k hash) k empty);
+            taken = omega (arith, empties-all (cell work k hash) k (λ i l. empty i));
           };
     }
 

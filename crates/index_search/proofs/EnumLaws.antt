@@ -19,7 +19,7 @@ use Rattle.index.specs.Meaning.{Index}
 use Rattle.index.specs.declared.Sizes.{Sizes}
 use Rattle.index_search.specs.Named.{FindsNamed}
 use Rattle.index_search.proofs.Lookup.{equal-texts, other-texts}
-use Rattle.index_search.specs.Enums.{enumAt, membersAt, numberOf, FindsEnum}
+use Rattle.index_search.specs.Enums.{enumAt, membersAt, enumNumber, FindsEnum}
 
 -- ---- a table of texts
 
@@ -66,8 +66,8 @@ lookup-place s (x ∷ xs) = go (same s (x .0)) refl (place (same s) (firsts xs))
 -- ---- the enums
 
 -- the members of a name are those of its enum
-pub number-members : (f : TermFile) (name : Bytes) → members f name ≡ membersAt f (numberOf f name)
-unfolding members membersAt enumAt numberOf orElse chosen
+pub number-members : (f : TermFile) (name : Bytes) → members f name ≡ membersAt f (enumNumber f name)
+unfolding members membersAt enumAt enumNumber orElse chosen
 number-members f name = lookup-place name (enums f)
 
 pub finds-members : {file : Bytes} {work : List ℕ} {sizes : Sizes} {name : Bytes} {r : ℕ} → FindsEnum file work sizes name r → (f : TermFile) → Index file f work sizes
@@ -75,7 +75,7 @@ pub finds-members : {file : Bytes} {work : List ℕ} {sizes : Sizes} {name : Byt
 finds-members {name = name} F f I = number-members f name ∙ ap (membersAt f) (sym (F .go f I))
 
 pub finds-named : {file : Bytes} {work : List ℕ} {sizes : Sizes} {r : ℕ} {name : Bytes} → FindsNamed file work (sizes .rows) (sizes .enums) name r → FindsEnum file work sizes name r
-unfolding numberOf enumName orElse
+unfolding enumNumber enumName orElse
 finds-named {r = r} {name = name} F =
     record {
       go = λ f I.

@@ -2,10 +2,10 @@
 -- Assumes nothing.
 use mathlib.Core.Path.{_≡_, sym, ap, _∙_}
 use Prim.Native.Nat.{ℕ}
-use native.Mathlib.Omega.{arith}
-use mathlib.Core.Bool.{Bool, true, false}
+use mathlib.Core.Bool.{Bool, true, false, true≢false}
 use mathlib.Core.List.{List}
 use Rattle.script_spec.specs.Base.{Bytes}
+use Rattle.script_spec.proofs.Laws.{never}
 use Rattle.index.specs.Standing.{markAt, bodyAt, entryAt}
 use Rattle.index_compare.proofs.Prints.{Octets}
 use Rattle.index_compare.specs.View.{Decides, SameSegments, viewed}
@@ -36,7 +36,7 @@ module _ (file : Bytes) (work : List ℕ) (k o p : ℕ) {a b : Bytes} {r : Bool}
             record {
               true-of = λ e.
                   let marks : a ≡ b = is ∙ entry-mark (markAt file o) (bodyAt file o) (X .reads) ∙ sym (mark-canonical f x) ∙ ap markOf e ∙ mark-canonical f y ∙ sym (entry-mark (markAt file p) (bodyAt file p) (Y .reads)) ∙ sym is′ in
-                  let z : true ≡ false = sym (test .1 marks) ∙ h in let y : _≡_ {A = ℕ} 0 1 = cc in absurd (omega arith);
-              of-true = λ t. let z : _≡_ {A = ℕ} 0 1 = cc in absurd (omega arith);
+                  absurd (true≢false (sym (test .1 marks) ∙ h));
+              of-true = λ t. never cc;
             };
       }

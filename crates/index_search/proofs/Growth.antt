@@ -2,7 +2,7 @@
 -- Assumes nothing.
 use mathlib.Core.Path.{_≡_, refl, sym, ap, _∙_}
 use mathlib.Core.Logic.{_⊎_, inl, inr, ⊎-elim}
-use Prim.Native.Nat.{ℕ, suc, _+_, _*_, _≤_, _<_}
+use Prim.Native.Nat.{ℕ, suc, _*_, _≤_, _<_}
 use native.Mathlib.Omega.{arith}
 use mathlib.Core.List.{List, [], _∷_, _++_}
 use lib.ListN.{length, length-append}
@@ -17,11 +17,13 @@ use Rattle.index.specs.Meaning.{Rows}
 use Rattle.index.proofs.Rows.{all-rows}
 use Rattle.index.proofs.Growth.{types-grown, funs-grown, terms-grown}
 use Rattle.index.proofs.Later.{more-append, canonical-kept}
-use Rattle.index.proofs.Stores.{used, Untouched, untouched-refl, untouched-slot, blank-slot}
+use Rattle.index.proofs.Stores.{usedEntries, Untouched, untouched-refl, untouched-slot, blank-slot}
 use Rattle.index.specs.Names.{slot, Reached}
 use Rattle.index.proofs.Names.{Stays, reached-kept}
-use Rattle.index_search.specs.Slots.{empties, homeOf, entryOr, entries, Slots}
-use Rattle.index_search.proofs.Ring.{slot-inside, empties-same}
+use Rattle.index.specs.Empties.{empties}
+use Rattle.index.proofs.Empties.{empties-same}
+use Rattle.index_search.specs.Slots.{homeOf, entryOr, entries, Slots}
+use Rattle.index_search.proofs.Ring.{slot-inside}
 use Rattle.index_search.proofs.Reach.{reached-equal, stored-stays, stored-fewer, reached-new}
 use Rattle.index_search.specs.Storing.{Stored}
 use Rattle.index_search.specs.Found.{At, Hit, Miss, Enrolled}
@@ -83,15 +85,15 @@ module _ (file : Bytes) (f : TermFile) (r : Named) (k : ℕ) (work work′ : Lis
 
   module _ (I : Rows file f work k) (U : Untouched f k work work′) where
     pub types-kept : (n : ℕ) → n < length (types f) → canonical (f ++ (r ∷ [])) (entries file work′ k typeOffset n) ≡ canonical f (entries file work k typeOffset n)
-    unfolding used
+    unfolding usedEntries
     types-kept = canonicals-kept typeOffset (length (types f)) (type-at I) (λ n l. U .same typeOffset n l)
 
     pub funs-kept : (n : ℕ) → n < length (funs f) → canonical (f ++ (r ∷ [])) (entries file work′ k funOffset n) ≡ canonical f (entries file work k funOffset n)
-    unfolding used
+    unfolding usedEntries
     funs-kept = canonicals-kept funOffset (length (funs f)) (fun-at I) (λ n l. U .same funOffset n l)
 
     pub terms-kept : (n : ℕ) → n < length (terms f) → canonical (f ++ (r ∷ [])) (entries file work′ k termOffset n) ≡ canonical f (entries file work k termOffset n)
-    unfolding used
+    unfolding usedEntries
     terms-kept = canonicals-kept termOffset (length (terms f)) (term-at I) (λ n l. U .same termOffset n l)
 
     -- a number of the longer file is reached

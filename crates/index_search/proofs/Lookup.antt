@@ -7,7 +7,6 @@ use native.Mathlib.Omega.{arith}
 use mathlib.Core.Bool.{Bool, true, false}
 use mathlib.Core.List.{List, [], _∷_}
 use mathlib.Core.Option.{none, some}
-use lib.Dec.{T}
 use lib.ListN.{length, getD}
 use Rattle.script_spec.specs.Base.{Bytes, same, lookup}
 use Rattle.script_spec.specs.File.{TermFile, enums}

@@ -12,7 +12,7 @@ use Rattle.script_spec.specs.Fields.{low}
 use Rattle.index_compare.specs.Segment.{Segment, plain, typeRef, funRef, termRef}
 use Rattle.index_compare.specs.Machine.{ahead}
 use Rattle.index_compare.specs.Printed.{lowBytes}
-use Rattle.index_compare.specs.View.{kindOf, numberOf, bytesOf, after, Sees}
+use Rattle.index_compare.specs.View.{kindOf, referenceNumber, bytesOf, laterSegments, Sees}
 use Rattle.index_compare.proofs.Compared.{kind-none}
 use Rattle.index_compare.specs.declared.compare.Seen.{Seen}
 use Rattle.index.specs.Names.{mixed, mixedBytes}
@@ -78,8 +78,8 @@ kind-small (funRef n ∷ l) = omega arith
 kind-small (termRef n ∷ l) = omega arith
 
 -- the first segment and those after it
-mixed-first : (h : ℕ) (l : List Segment) → 0 < kindOf l → mixedSegments (mixedBytes (mixedSegment h (kindOf l) (numberOf l)) (bytesOf l)) (after l) ≡ mixedSegments h l
-unfolding mixedSegments kindOf numberOf bytesOf after
+mixed-first : (h : ℕ) (l : List Segment) → 0 < kindOf l → mixedSegments (mixedBytes (mixedSegment h (kindOf l) (referenceNumber l)) (bytesOf l)) (laterSegments l) ≡ mixedSegments h l
+unfolding mixedSegments kindOf referenceNumber bytesOf laterSegments
 mixed-first h [] p = absurd (omega arith)
 mixed-first h (plain p ∷ l) q = refl
 mixed-first h (typeRef n ∷ l) q = refl

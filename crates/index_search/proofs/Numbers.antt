@@ -19,7 +19,7 @@ use Rattle.index.specs.Meaning.{Stands, counted, Rows}
 use Rattle.index.proofs.Later.{More, in-range-more}
 use Rattle.index.proofs.Search.{Searched, types-searched, funs-searched, terms-searched}
 use Rattle.index_search.specs.Slots.{entryOr, entries, AllReached}
-use Rattle.index_search.specs.Found.{At, Looks, Hit, Miss}
+use Rattle.index_search.specs.Found.{At, LooksFor, Hit, Miss}
 
 module _ (file : Bytes) (work : List ℕ) (k : ℕ) where
   pub entries-read : (offsets n : ℕ) {x : Entry} → entryAt file (cell work k offsets n) ≡ some x → entries file work k offsets n ≡ x
@@ -65,8 +65,8 @@ module _ {file : Bytes} {f : TermFile} {work : List ℕ} {k : ℕ} (I : Rows fil
       found-number type typeOffset typeFirst (length (types f)) (firstType f) (λ t. place (eqTy t) (types f)) (λ n h. I .type-row n h .first)
       (types-searched f (entries file work k typeOffset) (record { in-range = λ n h. type-at n h .in-range; names = λ n h. ap (named f) (type-entry n h) ∙ I .type-row n h .stands .names })) s F
 
-  pub type-looks : {o : ℕ} {t : Ty} → AllReached file f work k typeOffset 0 (length (types f)) → (s : Stands file f (earlier f) o (type t)) → Looks file work k typeOffset 0 (length (types f)) o f (s .entry) (entries file work k typeOffset)
-  type-looks R s = record { index = I; sought = record { reads = s .reads; in-range = s .in-range }; rows = type-at; kind-is = omega arith; reached = R }
+  pub type-looks : {o : ℕ} {t : Ty} → AllReached file f work k typeOffset 0 (length (types f)) → (s : Stands file f (earlier f) o (type t)) → LooksFor file work k typeOffset 0 (length (types f)) o f (s .entry) (entries file work k typeOffset)
+  type-looks R s = record { index = I; sought = record { reads = s .reads; in-range = s .in-range }; stand = type-at; kind-is = omega arith; reached = R }
 
   fun-entry : (n : ℕ) (h : n < length (funs f)) → entries file work k funOffset n ≡ I .fun-row n h .stands .entry
   fun-entry n h = entries-read file work k funOffset n (I .fun-row n h .stands .reads)
@@ -83,8 +83,8 @@ module _ {file : Bytes} {f : TermFile} {work : List ℕ} {k : ℕ} (I : Rows fil
       found-number func funOffset funFirst (length (funs f)) (firstFun f) (λ g. place (eqFun g) (funs f)) (λ n h. I .fun-row n h .first)
       (funs-searched f (entries file work k funOffset) (record { in-range = λ n h. fun-at n h .in-range; names = λ n h. ap (named f) (fun-entry n h) ∙ I .fun-row n h .stands .names })) s F
 
-  pub fun-looks : {o : ℕ} {g : Fun} → AllReached file f work k funOffset 1 (length (funs f)) → (s : Stands file f (earlier f) o (func g)) → Looks file work k funOffset 1 (length (funs f)) o f (s .entry) (entries file work k funOffset)
-  fun-looks R s = record { index = I; sought = record { reads = s .reads; in-range = s .in-range }; rows = fun-at; kind-is = omega arith; reached = R }
+  pub fun-looks : {o : ℕ} {g : Fun} → AllReached file f work k funOffset 1 (length (funs f)) → (s : Stands file f (earlier f) o (func g)) → LooksFor file work k funOffset 1 (length (funs f)) o f (s .entry) (entries file work k funOffset)
+  fun-looks R s = record { index = I; sought = record { reads = s .reads; in-range = s .in-range }; stand = fun-at; kind-is = omega arith; reached = R }
 
   term-entry : (n : ℕ) (h : n < length (terms f)) → entries file work k termOffset n ≡ I .term-row n h .stands .entry
   term-entry n h = entries-read file work k termOffset n (I .term-row n h .stands .reads)
@@ -101,5 +101,5 @@ module _ {file : Bytes} {f : TermFile} {work : List ℕ} {k : ℕ} (I : Rows fil
       found-number term termOffset termFirst (length (terms f)) (firstTerm f) (λ t. place (eqTm t) (terms f)) (λ n h. I .term-row n h .first)
       (terms-searched f (entries file work k termOffset) (record { in-range = λ n h. term-at n h .in-range; names = λ n h. ap (named f) (term-entry n h) ∙ I .term-row n h .stands .names })) s F
 
-  pub term-looks : {o : ℕ} {t : Tm} → AllReached file f work k termOffset 2 (length (terms f)) → (s : Stands file f (earlier f) o (term t)) → Looks file work k termOffset 2 (length (terms f)) o f (s .entry) (entries file work k termOffset)
-  term-looks R s = record { index = I; sought = record { reads = s .reads; in-range = s .in-range }; rows = term-at; kind-is = omega arith; reached = R }
+  pub term-looks : {o : ℕ} {t : Tm} → AllReached file f work k termOffset 2 (length (terms f)) → (s : Stands file f (earlier f) o (term t)) → LooksFor file work k termOffset 2 (length (terms f)) o f (s .entry) (entries file work k termOffset)
+  term-looks R s = record { index = I; sought = record { reads = s .reads; in-range = s .in-range }; stand = term-at; kind-is = omega arith; reached = R }

@@ -9,7 +9,7 @@ use Rattle.index.specs.Cells.{cell, hash}
 use Rattle.index.proofs.Names.{Stays, path-stays}
 use Rattle.index.proofs.Cells.{cell-store-same, cell-store-other}
 use Rattle.index.specs.Names.{slot, codeOf, Reached}
-use Rattle.index_search.specs.Slots.{empties}
+use Rattle.index.specs.Empties.{empties}
 use Rattle.index_search.specs.Storing.{Stored}
 use Rattle.index_search.proofs.Ring.{slot-inside, empties-taken}
 

@@ -9,7 +9,8 @@ use borrow.Author.Count.{below-more}
 use borrow.Author.Tests.{lt-ltb, le-ltb}
 use Rattle.index.specs.Cells.{placed}
 use Rattle.index.specs.Names.{slot, codeOf}
-use Rattle.index_search.specs.Slots.{oneIfEmpty, empties}
+use Rattle.index.proofs.Empties.{empties-same}
+use Rattle.index.specs.Empties.{oneIfEmpty, empties}
 use Rattle.index_search.specs.Storing.{FirstEmpty}
 
 -- ---- codes
@@ -69,16 +70,6 @@ pub empties-some : (column : ℕ → ℕ) (k : ℕ) → 0 < empties column k →
 unfolding empties
 empties-some column zero h = absurd (omega arith)
 empties-some column (suc k) h = omega arith
-
-pub empties-all : (column : ℕ → ℕ) (k : ℕ) → ((i : ℕ) → column i ≡ 0) → empties column k ≡ k
-unfolding empties oneIfEmpty
-empties-all column zero h = refl
-empties-all column (suc k) h = rw (h k, empties-all column k h) (omega arith)
-
-pub empties-same : (column column′ : ℕ → ℕ) (k : ℕ) → ((i : ℕ) → i < k → column′ i ≡ column i) → empties column′ k ≡ empties column k
-unfolding empties
-empties-same column column′ zero h = refl
-empties-same column column′ (suc k) h = rw (h k (omega arith), empties-same column column′ k (λ i l. h i (omega arith)))
 
 -- an empty slot that is taken
 pub empties-taken : (column column′ : ℕ → ℕ) (i k : ℕ) → i < k → column i ≡ 0

@@ -16,28 +16,28 @@ use Rattle.index_search.specs.Slots.{homeOf}
 use Rattle.index_search.specs.Storing.{Home, FirstEmpty, Stores}
 use Rattle.index_search.proofs.Probing.{held-past, held-other, held-same, Passed, passed-none, passed-more, none-at-all, none-beyond}
 use Rattle.index_search.proofs.Ring.{empties-some, Taken, taken-none, taken-more, empty-here, empty-nowhere}
-use Rattle.index_search.specs.Found.{SameAt, Looks, Holds, Told, Probes, Enrols}
+use Rattle.index_search.specs.Found.{SameAt, LooksFor, HoldsEqual, ToldEqual, Probes, Enrols}
 use Rattle.index_search.specs.declared.search.Answer.{Answer}
 use Rattle.index_search.specs.declared.search.Answer.the-variants.{Known, Absent}
 
 -- ---- one slot
 
 module _ {file : Bytes} {work : List ℕ} {k offsets kind count o v n : ℕ} (is : n ≡ (v - 1) / 4) where
-  pub holds-past : count ≤ n → Holds file work k offsets kind count o v false
+  pub holds-past : count ≤ n → HoldsEqual file work k offsets kind count o v false
   holds-past h = record { go = λ f x ε L. held-past is h }
 
-  pub holds-other : {h : Bool} → h ≡ eqb v (codeOf n kind) → h ≡ false → Holds file work k offsets kind count o v false
+  pub holds-other : {h : Bool} → h ≡ eqb v (codeOf n kind) → h ≡ false → HoldsEqual file work k offsets kind count o v false
   holds-other has not = record { go = λ f x ε L. held-other is has not }
 
-  pub holds-same : {h : Bool} {p : ℕ} {r : Bool} → n < count → h ≡ eqb v (codeOf n kind) → h ≡ true → p ≡ cell work k offsets n → SameAt file work k p o r → Holds file work k offsets kind count o v r
-  holds-same below has it row S = record { go = λ f x ε L. held-same is has below it (S .go f (L .index) (ε n) x (rw row (L .rows n below)) (L .sought)) }
+  pub holds-same : {h : Bool} {p : ℕ} {r : Bool} → n < count → h ≡ eqb v (codeOf n kind) → h ≡ true → p ≡ cell work k offsets n → SameAt file work k p o r → HoldsEqual file work k offsets kind count o v r
+  holds-same below has it row S = record { go = λ f x ε L. held-same is has below it (S .go f (L .index) (ε n) x (rw row (L .stand n below)) (L .sought)) }
 
 -- ---- the slots that were passed
 
 -- no slot in the first d steps from b is empty or has an equal entry
 pub record PassedBy (file : Bytes) (work : List ℕ) (k offsets kind count o b d : ℕ) : Type 0 where
   pub slots : Taken k (cell work k hash) b d
-  pub other : (f : TermFile) (x : Entry) (ε : ℕ → Entry) → Looks file work k offsets kind count o f x ε → Passed (λ m. canonical f (ε m)) (canonical f x) kind count k (cell work k hash) b d
+  pub other : (f : TermFile) (x : Entry) (ε : ℕ → Entry) → LooksFor file work k offsets kind count o f x ε → Passed (λ m. canonical f (ε m)) (canonical f x) kind count k (cell work k hash) b d
 
 module _ {file : Bytes} {work : List ℕ} {k offsets kind count o b : ℕ} where
   pub passed-start : PassedBy file work k offsets kind count o b 0
@@ -65,7 +65,7 @@ module _ {file : Bytes} {work : List ℕ} {k offsets kind count o b : ℕ} where
             };
           }
 
-      module _ {r : Bool} (H : Holds file work k offsets kind count o v r) where
+      module _ {r : Bool} (H : HoldsEqual file work k offsets kind count o v r) where
         pub found-held : {firsts n w : ℕ} → r ≡ true → n ≡ (v - 1) / 4 → w ≡ cell work k firsts n → Probes file work k offsets firsts kind count o b (Known w)
         found-held {firsts} h e q =
             record { told = record { go = λ f x ε L home. let K = H .go f x ε L .of-true h in record { number = (v - 1) / 4; below = K .below; equal = K .equal; is = q ∙ ap (cell work k firsts) e } } }
@@ -76,14 +76,14 @@ module _ {file : Bytes} {work : List ℕ} {k offsets kind count o b : ℕ} where
 -- ---- the search
 
 module _ {file : Bytes} {work : List ℕ} {k offsets firsts kind count o b : ℕ} {r : Answer} (H : Home file work k o b) (P : Probes file work k offsets firsts kind count o b r) where
-  module _ {f : TermFile} {x : Entry} {ε : ℕ → Entry} (L : Looks file work k offsets kind count o f x ε) where
+  module _ {f : TermFile} {x : Entry} {ε : ℕ → Entry} (L : LooksFor file work k offsets kind count o f x ε) where
     home-is : 0 < k → b ≡ homeOf k (canonical f x)
     home-is = H .is f x (L .index) (L .sought .reads) (L .sought .in-range)
 
   pub enrolled-new : {work′ : List ℕ} {d v : ℕ} → r ≡ Absent d → (count < 1048576 → kind < 4 → v ≡ codeOf count kind) → (FirstEmpty k (cell work k hash) b d → Stores work work′ k b v)
       → Enrols file work work′ k offsets firsts kind count o count
   enrolled-new e code S =
-      let A = subst (Told file work k offsets firsts kind count o b) e (P .told) in
+      let A = subst (ToldEqual file work k offsets firsts kind count o b) e (P .told) in
       record {
         go = λ f x ε L few room.
             record { told = inr (record { miss = A .go f x ε L (home-is L); stored = rw (home-is L (empties-some _ k room), code few (L .kind-is)) at (S (A .empty) .go (H .inside) room) }) };
@@ -91,9 +91,5 @@ module _ {file : Bytes} {work : List ℕ} {k offsets firsts kind count o b : ℕ
 
   pub enrolled-old : {n : ℕ} → r ≡ Known n → Enrols file work work k offsets firsts kind count o n
   enrolled-old e =
-      let A = subst (Told file work k offsets firsts kind count o b) e (P .told) in
+      let A = subst (ToldEqual file work k offsets firsts kind count o b) e (P .told) in
       record { go = λ f x ε L few room. record { told = inl (record { hit = A .go f x ε L (home-is L); unchanged = refl }) } }
-
--- the same among as many
-pub enrols-among : {file : Bytes} {work work′ : List ℕ} {k offsets firsts kind count count′ o r : ℕ} → count ≡ count′ → Enrols file work work′ k offsets firsts kind count o r → Enrols file work work′ k offsets firsts kind count′ o r
-enrols-among {file} {work} {work′} {k} {offsets} {firsts} {kind} {o = o} {r} e E = subst (λ (count : ℕ). Enrols file work work′ k offsets firsts kind count o r) e E

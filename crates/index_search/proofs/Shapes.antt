@@ -10,24 +10,24 @@ use Rattle.index.specs.Standing.{markAt, bodyAt}
 use Rattle.index_compare.specs.Segment.{Segment, plain, typeRef, termRef}
 use Rattle.index_compare.specs.Machine.{ahead, segments}
 use Rattle.index_compare.specs.declared.segments.Walk.{Walk}
-use Rattle.index_compare.specs.View.{kindOf, numberOf, bytesOf, termAs, viewed, startAt, segmentsAt}
+use Rattle.index_compare.specs.View.{kindOf, referenceNumber, bytesOf, termAs, viewed, startAt, segmentsAt}
 use Rattle.index_compare.specs.declared.compare.View.the-variants.{First}
 use Rattle.index_search.specs.Hash.{mixedSegment, mixedSegments, hashed, recordHash}
 
 module _ (work : List ℕ) (k : ℕ) where
   mixed-term : (h n : ℕ) (l : List Segment)
       → mixedSegments (mixedSegment h 4 (cell work k termFirst n)) (map (viewed work k First) l) ≡ mixedSegments h (map (viewed work k First) (termRef n ∷ l))
-  unfolding mixedSegments mixedBytes viewed termAs kindOf numberOf bytesOf
+  unfolding mixedSegments mixedBytes viewed termAs kindOf referenceNumber bytesOf
   mixed-term h n l = refl
 
   mixed-type : (h n : ℕ) (l : List Segment)
       → mixedSegments (mixedSegment h 2 (cell work k typeFirst n)) (map (viewed work k First) l) ≡ mixedSegments h (map (viewed work k First) (typeRef n ∷ l))
-  unfolding mixedSegments mixedBytes viewed kindOf numberOf bytesOf
+  unfolding mixedSegments mixedBytes viewed kindOf referenceNumber bytesOf
   mixed-type h n l = refl
 
   mixed-plain : (h : ℕ) (p : Bytes) (l : List Segment)
       → mixedSegments (mixedBytes (mixedSegment h 1 0) p) (map (viewed work k First) l) ≡ mixedSegments h (map (viewed work k First) (plain p ∷ l))
-  unfolding mixedSegments viewed kindOf numberOf bytesOf
+  unfolding mixedSegments viewed kindOf referenceNumber bytesOf
   mixed-plain h p l = refl
 
   pub mixed-none : (h : ℕ) {l : List Segment} → l ≡ [] → h ≡ mixedSegments h (map (viewed work k First) l)

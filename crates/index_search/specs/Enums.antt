@@ -22,9 +22,9 @@ unfoldable pub membersAt : TermFile → ℕ → Option (List Bytes)
 membersAt f n = elim (ltb n (length (enums f))) [ true ↦ some (enumAt f n .1) | false ↦ none ]
 
 -- the number of the enum with a name, or how many enums there are where none has it
-unfoldable pub numberOf : TermFile → Bytes → ℕ
-numberOf f name = orElse (length (enums f)) (place (same name) (firsts (enums f)))
+unfoldable pub enumNumber : TermFile → Bytes → ℕ
+enumNumber f name = orElse (length (enums f)) (place (same name) (firsts (enums f)))
 
 -- the number that was found is that of the enum with the name
 pub record FindsEnum (file : Bytes) (work : List ℕ) (sizes : Sizes) (name : Bytes) (r : ℕ) : Type 0 where
-  pub go : (f : TermFile) → Index file f work sizes → r ≡ numberOf f name
+  pub go : (f : TermFile) → Index file f work sizes → r ≡ enumNumber f name

@@ -16,8 +16,8 @@ use Rattle.index_search.specs.Storing.{Stored}
 use Rattle.index_search.specs.Searchable.{Indexed}
 
 -- the enums among which a name is looked for
-pub record Among (file : Bytes) (work : List ℕ) (k count : ℕ) (f : TermFile) : Type 0 where
-  pub index : Rows file f work k
+pub record Among (file : Bytes) (work : List ℕ) (rows count : ℕ) (f : TermFile) : Type 0 where
+  pub index : Rows file f work rows
   pub count-is : count ≡ length (enums f)
 
 module _ (f : TermFile) (count : ℕ) (name : Bytes) where
@@ -36,16 +36,16 @@ abbrev pub HeldNamed : TermFile → ℕ → Bytes → ℕ → Type 0
 HeldNamed f count name v = Held (enumName f) name 3 count v
 
 -- r is whether a slot that holds v has an enum of the name
-pub record HoldsNamed (file : Bytes) (work : List ℕ) (k count : ℕ) (name : Bytes) (v : ℕ) (r : Bool) : Type 0 where
-  pub go : (f : TermFile) → Among file work k count f → Decides r (HeldNamed f count name v)
+pub record HoldsNamed (file : Bytes) (work : List ℕ) (rows count : ℕ) (name : Bytes) (v : ℕ) (r : Bool) : Type 0 where
+  pub go : (f : TermFile) → Among file work rows count f → Decides r (HeldNamed f count name v)
 
 -- what the search answers from the slot b on, if this is the home of the name
-pub record ProbesNamed (file : Bytes) (work : List ℕ) (k count : ℕ) (name : Bytes) (b r : ℕ) : Type 0 where
-  pub go : (f : TermFile) → Among file work k count f → (0 < k → b ≡ nameHome k name) → HitNamed f count name r ⊎ MissNamed f count name r
+pub record ProbesNamed (file : Bytes) (work : List ℕ) (rows count : ℕ) (name : Bytes) (b r : ℕ) : Type 0 where
+  pub go : (f : TermFile) → Among file work rows count f → (0 < rows → b ≡ nameHome rows name) → HitNamed f count name r ⊎ MissNamed f count name r
 
 -- what the search answers
-pub record FindsNamed (file : Bytes) (work : List ℕ) (k count : ℕ) (name : Bytes) (r : ℕ) : Type 0 where
-  pub go : (f : TermFile) → Among file work k count f → HitNamed f count name r ⊎ MissNamed f count name r
+pub record FindsNamed (file : Bytes) (work : List ℕ) (rows count : ℕ) (name : Bytes) (r : ℕ) : Type 0 where
+  pub go : (f : TermFile) → Among file work rows count f → HitNamed f count name r ⊎ MissNamed f count name r
 
 -- an enum has the name, and the memory is as it was
 pub record KnownName (work work′ : List ℕ) (f : TermFile) (count : ℕ) (name : Bytes) (r : ℕ) : Type 0 where
@@ -53,10 +53,10 @@ pub record KnownName (work work′ : List ℕ) (f : TermFile) (count : ℕ) (nam
   pub unchanged : work′ ≡ work
 
 -- no enum has the name, and it is entered with `count` for its number; how is the search's own
-pub record NewName (work work′ : List ℕ) (k : ℕ) (f : TermFile) (count : ℕ) (name : Bytes) (r : ℕ) : Type 0 where
+pub record NewName (work work′ : List ℕ) (rows : ℕ) (f : TermFile) (count : ℕ) (name : Bytes) (r : ℕ) : Type 0 where
   pub miss : MissNamed f count name r
-  pub stored : Stored work work′ k (nameHome k name) (codeOf count 3)
+  pub stored : Stored work work′ rows (nameHome rows name) (codeOf count 3)
 
 -- what the search answers that enters the name, where there is room for one record more
-pub record EnrolsNamed (file : Bytes) (work work′ : List ℕ) (k count : ℕ) (name : Bytes) (r : ℕ) : Type 0 where
-  pub go : (f : TermFile) → Indexed file f work k → count ≡ length (enums f) → suc (length f) ≤ k → KnownName work work′ f count name r ⊎ NewName work work′ k f count name r
+pub record EnrolsNamed (file : Bytes) (work work′ : List ℕ) (rows count : ℕ) (name : Bytes) (r : ℕ) : Type 0 where
+  pub go : (f : TermFile) → Indexed file f work rows → count ≡ length (enums f) → suc (length f) ≤ rows → KnownName work work′ f count name r ⊎ NewName work work′ rows f count name r

@@ -9,10 +9,10 @@ use Rattle.index_search.specs.Slots.{Slots}
 
 -- the records f can be searched for in the memory; how is the search's own, and those above hand this on and never open it
 abbrev pub Searchable : Bytes → TermFile → List ℕ → ℕ → Type 0
-Searchable file f work k = Slots file f work k
+Searchable file f work rows = Slots file f work rows
 
 -- the memory is the index of the records f, with their depths, and can be searched
-pub record Indexed (file : Bytes) (f : TermFile) (work : List ℕ) (k : ℕ) : Type 0 where
-  pub index : Rows file f work k
-  pub depths : Depths file f work k
-  pub searchable : Searchable file f work k
+pub record Indexed (file : Bytes) (f : TermFile) (work : List ℕ) (rows : ℕ) : Type 0 where
+  pub index : Rows file f work rows
+  pub depths : Depths file f work rows
+  pub searchable : Searchable file f work rows

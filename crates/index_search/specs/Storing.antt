@@ -12,37 +12,38 @@ use Rattle.index.specs.First.{canonical, InRange}
 use Rattle.index.specs.Standing.{entryAt}
 use Rattle.index.specs.Meaning.{Rows}
 use Rattle.index.specs.Names.{slot, scaled, nameHome}
-use Rattle.index_search.specs.Slots.{empties, homeOf}
+use Rattle.index.specs.Empties.{empties}
+use Rattle.index_search.specs.Slots.{homeOf}
 
--- b is the home slot of a hash, of k slots
-pub record Scales (k h b : ℕ) : Type 0 where
-  pub is : b ≡ scaled k h
-  pub inside : 0 < k → b < k
+-- b is the home slot of a hash, of `rows` slots
+pub record Scales (rows h b : ℕ) : Type 0 where
+  pub is : b ≡ scaled rows h
+  pub inside : 0 < rows → b < rows
 
--- b is the home slot of the entry at an offset, of k slots
-pub record Home (file : Bytes) (work : List ℕ) (k o b : ℕ) : Type 0 where
-  pub inside : 0 < k → b < k
-  pub is : (f : TermFile) (x : Entry) → Rows file f work k → entryAt file o ≡ some x → InRange (earlier f) x → 0 < k → b ≡ homeOf k (canonical f x)
+-- b is the home slot of the entry at an offset, of `rows` slots
+pub record Home (file : Bytes) (work : List ℕ) (rows o b : ℕ) : Type 0 where
+  pub inside : 0 < rows → b < rows
+  pub is : (f : TermFile) (x : Entry) → Rows file f work rows → entryAt file o ≡ some x → InRange (earlier f) x → 0 < rows → b ≡ homeOf rows (canonical f x)
 
--- b is the home slot of a name, of k slots
-pub record NameHome (k : ℕ) (name : Bytes) (b : ℕ) : Type 0 where
-  pub inside : 0 < k → b < k
-  pub is : 0 < k → b ≡ nameHome k name
+-- b is the home slot of a name, of `rows` slots
+pub record NameHome (rows : ℕ) (name : Bytes) (b : ℕ) : Type 0 where
+  pub inside : 0 < rows → b < rows
+  pub is : 0 < rows → b ≡ nameHome rows name
 
--- r is how many steps after slot b the first empty slot is, or k
-pub record FirstEmpty (k : ℕ) (column : ℕ → ℕ) (b r : ℕ) : Type 0 where
-  pub most : r ≤ k
-  pub taken : (d : ℕ) → d < r → column (slot k b d) ≡ 0 → ⊥
-  pub empty : r < k → column (slot k b r) ≡ 0
+-- r is how many steps after slot b the first empty slot is, or `rows`
+pub record FirstEmpty (rows : ℕ) (column : ℕ → ℕ) (b r : ℕ) : Type 0 where
+  pub most : r ≤ rows
+  pub taken : (d : ℕ) → d < r → column (slot rows b d) ≡ 0 → ⊥
+  pub empty : r < rows → column (slot rows b r) ≡ 0
 
 -- v is stored in the first empty slot from slot b on
-pub record Stored (work work′ : List ℕ) (k b v : ℕ) : Type 0 where
-  pub inside : b < k
+pub record Stored (work work′ : List ℕ) (rows b v : ℕ) : Type 0 where
+  pub inside : b < rows
   pub distance : ℕ
-  pub near : distance < k
-  pub first : FirstEmpty k (cell work k hash) b distance
-  pub is : work′ ≡ store work k hash (slot k b distance) v
+  pub near : distance < rows
+  pub first : FirstEmpty rows (cell work rows hash) b distance
+  pub is : work′ ≡ store work rows hash (slot rows b distance) v
 
 -- v is stored from slot b on, if a slot is empty
-pub record Stores (work work′ : List ℕ) (k b v : ℕ) : Type 0 where
-  pub go : (0 < k → b < k) → 0 < empties (cell work k hash) k → Stored work work′ k b v
+pub record Stores (work work′ : List ℕ) (rows b v : ℕ) : Type 0 where
+  pub go : (0 < rows → b < rows) → 0 < empties (cell work rows hash) rows → Stored work work′ rows b v

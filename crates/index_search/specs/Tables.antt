@@ -2,7 +2,6 @@
 -- Assumes nothing.
 use Prim.Native.Nat.{ℕ}
 use Rattle.index.specs.Cells.{typeOffset, typeFirst, funOffset, funFirst, termOffset, termFirst}
-use Rattle.index.specs.declared.Sizes.{Sizes}
 use Rattle.index_search.specs.declared.search.Table.{Table}
 use Rattle.index_search.specs.declared.search.Table.the-variants.{Types, Funs, Terms}
 
@@ -23,9 +22,3 @@ abbrev pub firstsOf : Table → ℕ
 firstsOf Types = typeFirst
 firstsOf Funs = funFirst
 firstsOf Terms = termFirst
-
--- how many there are
-abbrev pub countOf : Sizes → Table → ℕ
-countOf sizes Types = sizes .types
-countOf sizes Funs = sizes .funs
-countOf sizes Terms = sizes .terms

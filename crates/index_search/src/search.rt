@@ -1,9 +1,8 @@
 // The search for a record that is equal to one, among the types, the functions or the terms, or of a name, among the enums, by the slots of the hash table.
 
-use index::Sizes;
 ghost use mathlib.Core.Path.{_≡_};
-ghost use Rattle.index_search.specs.Tables.{slotKind, offsetsOf, firstsOf, countOf};
-ghost use Rattle.index_search.specs.Found.{SameAt, Holds, Probes, Enrols};
+ghost use Rattle.index_search.specs.Tables.{slotKind, offsetsOf, firstsOf};
+ghost use Rattle.index_search.specs.Found.{SameAt, HoldsEqual, Probes, Enrols};
 
 // The tables of records that are searched by marks and bodies.
 pub enum Table {
@@ -52,17 +51,6 @@ fn firsts(table: Table) -> usize
     }
 }
 
-// How many records a table has.
-fn count_of(sizes: Sizes, table: Table) -> u32
-    ensures { λ r. ⌜ r ≡ countOf sizes table ⌝ }
-{
-    match table {
-        Table::Types => sizes.types,
-        Table::Funs => sizes.funs,
-        Table::Terms => sizes.terms,
-    }
-}
-
 // Whether the records at two offsets are equal: the same mark, and bodies that agree by the index.
 fn same_at(file: &[u8], work: &[u32], rows: usize, offset: usize, other: usize) -> bool
     ensures { λ r. ⌜ SameAt (now (file .entry)) (now (work .entry)) rows offset other r ⌝ }
@@ -85,7 +73,7 @@ fn holds(
     offset: usize,
     v: u32,
 ) -> bool
-    ensures { λ r. ⌜ Holds (now (file .entry)) (now (work .entry)) rows (offsetsOf table) (slotKind table) count offset v r ⌝ }
+    ensures { λ r. ⌜ HoldsEqual (now (file .entry)) (now (work .entry)) rows (offsetsOf table) (slotKind table) count offset v r ⌝ }
 {
     let n = crate::slots::number_of(v);
     if count <= n {
@@ -129,13 +117,18 @@ fn probe(
     Answer::Absent(d)
 }
 
-// The number of the first record of a table that is equal to the one at an offset; where there is none, how many there are, and a slot is
+// The number of the first record of a table, of `count`, that is equal to the one at an offset; where there is none, the count, and a slot is
 // taken for the record with that number.
-pub fn enrol(file: &[u8], work: &mut [u32], sizes: Sizes, table: Table, offset: usize) -> u32
-    ensures { λ r. ⌜ Enrols (now (file .entry)) (now (work .entry)) (now (work .exit)) (sizes .rows) (offsetsOf table) (firstsOf table) (slotKind table) (countOf sizes table) offset r ⌝ }
+pub fn enrol(
+    file: &[u8],
+    work: &mut [u32],
+    rows: usize,
+    table: Table,
+    count: u32,
+    offset: usize,
+) -> u32
+    ensures { λ r. ⌜ Enrols (now (file .entry)) (now (work .entry)) (now (work .exit)) rows (offsetsOf table) (firstsOf table) (slotKind table) count offset r ⌝ }
 {
-    let rows = sizes.rows;
-    let count = count_of(sizes, table);
     let b = crate::slots::home(file, work, rows, offset);
     match probe(file, work, rows, table, count, offset, b) {
         Answer::Known(n) => n,

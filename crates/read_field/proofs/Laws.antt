@@ -142,9 +142,9 @@ pub between-low : (low high n : ℕ) → low ≤ n → leb n high ≡ between lo
 unfolding between
 between-low low high n h = rw (le-leb low n h)
 
-pub between-below : (low high n : ℕ) → n < low → leb low n ≡ between low high n
+pub leb-between : (low high n : ℕ) → n < low → leb low n ≡ between low high n
 unfolding between
-between-below low high n h = rw (lt-leb low n h)
+leb-between low high n h = rw (lt-leb low n h)
 
 -- ---- primitive fields
 

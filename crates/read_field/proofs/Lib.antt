@@ -1,3 +1,4 @@
 pub mod Laws
 pub mod Skims
 pub mod Coded
+pub mod Words

@@ -10,16 +10,6 @@ use Rattle.read_field.specs.Items.{itemReader, listReader}
 use Rattle.read_field.specs.declared.list.Item.{Item}
 use Rattle.read_field.specs.declared.list.Item.the-variants as item
 
--- one field after the other, where the first gives a value or a refusal
-module _ {A B : Type 0} (r : Reader A) (k : A → Reader B) {s : Bytes} where
-  pub bind-got : {a : A} {rest : Bytes} → r s ≡ got a rest → _>>=_ r k s ≡ k a rest
-  unfolding _>>=_
-  bind-got e = rw (_>>=_, e)
-
-  pub bind-bad : {n : ℕ} → r s ≡ bad n → _>>=_ r k s ≡ bad n
-  unfolding _>>=_
-  bind-bad e = rw (_>>=_, e)
-
 module _ {A B : Type 0} (r : Reader A) where
   -- what follows a field may be skimmed apart
   pub skim-bind : (k : A → Reader B) (q : A → Reader (Unit {0})) → ((a : A) (s : Bytes) → skim (k a) s ≡ q a s) → (s : Bytes) → skim (_>>=_ r k) s ≡ _>>=_ r q s

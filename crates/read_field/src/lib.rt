@@ -12,6 +12,9 @@ ghost use Rattle.script_spec.specs.Fields.{low, byte, part, u32, text, ref, wid
 ghost use Rattle.read_field.specs.Reads.{Reads, Ensured, code, isElement};
 ghost use Rattle.read_field.specs.Answers.{numberTold, textTold, numberMoved, textMoved};
 
+// What stands for a prefix that is absent.
+pub const NO_PREFIX: u32 = 255;
+
 // A place in a body.
 pub struct Cursor {
     pub at: usize,
@@ -158,7 +161,7 @@ impl Cursor {
         }
     }
 
-    // A prefix below `bound`, or 255 for an absent one.
+    // A prefix below `bound`, or the number for an absent one.
     pub fn prefix(self, body: &[u8], bound: u32) -> ReadNumber
         ensures { λ r. ⌜ Reads (prefix bound) (now (body .entry)) (self .at) (numberTold r) ⌝ }
     {
@@ -180,17 +183,17 @@ impl Cursor {
 }
 
 // Whether a bit vector can have n bits.
-fn is_width(n: u32) -> bool
+pub fn is_width(n: u32) -> bool
     ensures { λ r. ⌜ r ≡ between 1 128 n ⌝ }
 {
     1 <= n && n <= 128
 }
 
-// Whether an address can have a prefix: below a bound, or 255 for none.
+// Whether an address can have a prefix: below a bound, or the number for none.
 fn is_prefix(n: u32, bound: u32) -> bool
     ensures { λ r. ⌜ r ≡ (ltb n bound || eqb n 255) ⌝ }
 {
-    n < bound || n == 255
+    n < bound || n == NO_PREFIX
 }
 
 // Whether a number is that of a surrogate.
@@ -204,7 +207,7 @@ fn is_surrogate(n: u32) -> bool
 fn is_element(n: u32) -> bool
     ensures { λ r. ⌜ r ≡ isElement n ⌝ }
 {
-    if n == 4294967295 {
+    if n == read_utf8::WILDCARD {
         return true;
     }
     n <= 1114111 && !is_surrogate(n)

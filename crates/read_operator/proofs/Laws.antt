@@ -9,6 +9,7 @@ use lib.ListN.{take, drop}
 use Rattle.script_spec.specs.Base.{Bytes, at}
 use Rattle.script_spec.specs.Tree as tree
 use Rattle.script_spec.specs.Fields.{Read, got, bad, _>>=_, pure, element, times, plain, operators}
+use Rattle.script_spec.proofs.Laws.{never}
 use Rattle.read_field.specs.Reads.{value, refusal, asRead, Within, Reads, skim, repeat}
 use Rattle.read_field.proofs.Laws.{reads-pure, tells}
 use Rattle.read_field.proofs.Skims.{skim-times, skim-bad}
@@ -47,7 +48,7 @@ times-elements n s rest h = go (times n element s) refl (skim-times element n s 
   where
     go : (x : Read (List ℕ)) → times n element s ≡ x → skim (λ _. x) s ≡ got tt rest → x ≡ got (elements (take (4 * n) s)) rest
     go (got cs r) e k = let left : r ≡ rest = cc in rw (elements-read n s cs r e, left)
-    go (bad m) e k = let z : _≡_ {A = ℕ} 0 1 = cc in absurd (omega arith)
+    go (bad m) e k = never cc
 
 module _ (n : ℕ) {body : Bytes} {from : ℕ} where
   pub reads-elements : {to : ℕ} → Reads (repeat n (skim element)) body from (value tt to) → Reads (times n element) body from (value (elements (take (4 * n) (drop from body))) to)

@@ -94,8 +94,8 @@ unfoldable pub extOperator : Reader (tree.Op ℕ)
 extOperator = do o ← extOp; pure (tree.Ext o)
 
 -- `RecordGet`, by the name of an attribute
-unfoldable pub recordGet : Reader (tree.Op ℕ)
-recordGet = do a ← text; pure (tree.RecordGet a)
+unfoldable pub recordGetOperand : Reader (tree.Op ℕ)
+recordGetOperand = do a ← text; pure (tree.RecordGet a)
 
 -- `StringLike`, by its pattern
 unfoldable pub stringLike : Reader (tree.Op ℕ)

@@ -10,20 +10,98 @@ ghost use mathlib.Core.Path.{_≡_};
 ghost use Prim.Native.Nat.{_<_, _≤_};
 ghost use Rattle.script_spec.specs.Fields.{operators, operator};
 ghost use Rattle.read_field.specs.Reads.{Reads, chosen};
-ghost use Rattle.read_operator.specs.Operators.{IsExt, Operand, patternBytes, opTold, extOperator, recordGet, stringLike, uninterpreted, zeroExtend};
+ghost use Rattle.read_operator.specs.Codes.{extCount, bvsmodCode, extCode, recordGetCode};
+ghost use Rattle.read_operator.specs.Operators.{IsExt, Operand, patternBytes, opTold, extOperator, recordGetOperand, stringLike, uninterpreted, zeroExtend};
 
-// The codes that are asked for apart from the reading of an operator: those of the operators with an operand, and that of `Bvnego`.
+// The codes of the operators; others ask for those with an operand and for that of `Bvnego`.
+const AND: u8 = 0;
+
+const BVADD: u8 = 1;
+
+const BVLSHR: u8 = 2;
+
+const BVMUL: u8 = 3;
+
+const BVNEG: u8 = 4;
+
 pub const BVNEGO: u8 = 5;
+
+const BVSADDO: u8 = 6;
+
+const BVSDIV: u8 = 7;
+
+const BVSHL: u8 = 8;
+
+const BVSLE: u8 = 9;
+
+const BVSLT: u8 = 10;
+
+const BVSMOD: u8 = 11;
+
+const BVSMULO: u8 = 12;
+
+const BVSREM: u8 = 13;
+
+const BVSSUBO: u8 = 14;
+
+const BVSUB: u8 = 15;
+
+const BVUDIV: u8 = 16;
+
+const BVULE: u8 = 17;
+
+const BVULT: u8 = 18;
+
+const BVUREM: u8 = 19;
+
+const EQ: u8 = 20;
 
 pub const EXT: u8 = 21;
 
+const ITE: u8 = 22;
+
+const NOT: u8 = 23;
+
+const OPTION_GET: u8 = 24;
+
+const OR: u8 = 25;
+
 pub const RECORD_GET: u8 = 26;
+
+const SET_INTER: u8 = 27;
+
+const SET_MEMBER: u8 = 28;
+
+const SET_SUBSET: u8 = 29;
 
 pub const STRING_LIKE: u8 = 30;
 
 pub const UUF: u8 = 31;
 
 pub const ZERO_EXTEND: u8 = 32;
+
+// The codes of the extension operators, and how many there are.
+const DATETIME_OF_BIT_VEC: u32 = 0;
+
+const DATETIME_VAL: u32 = 1;
+
+const DECIMAL_VAL: u32 = 2;
+
+const DURATION_OF_BIT_VEC: u32 = 3;
+
+const DURATION_VAL: u32 = 4;
+
+const IPADDR_ADDR_V4: u32 = 5;
+
+const IPADDR_ADDR_V6: u32 = 6;
+
+const IPADDR_IS_V4: u32 = 7;
+
+const IPADDR_PREFIX_V4: u32 = 8;
+
+const IPADDR_PREFIX_V6: u32 = 9;
+
+const EXT_OPS: u32 = 10;
 
 // The extension operators, in the order of `ExtOp`.
 pub enum ExtOp {
@@ -90,19 +168,19 @@ pub enum ReadOp {
 
 // The extension operator of a code.
 fn ext_of(code: u32) -> ExtOp
-    requires { ⌜ code < 10 ⌝ }
+    requires { ⌜ code < extCount ⌝ }
     ensures { λ r. ⌜ IsExt code r ⌝ }
 {
     match code {
-        0 => ExtOp::DatetimeOfBitVec,
-        1 => ExtOp::DatetimeVal,
-        2 => ExtOp::DecimalVal,
-        3 => ExtOp::DurationOfBitVec,
-        4 => ExtOp::DurationVal,
-        5 => ExtOp::IpaddrAddrV4,
-        6 => ExtOp::IpaddrAddrV6,
-        7 => ExtOp::IpaddrIsV4,
-        8 => ExtOp::IpaddrPrefixV4,
+        DATETIME_OF_BIT_VEC => ExtOp::DatetimeOfBitVec,
+        DATETIME_VAL => ExtOp::DatetimeVal,
+        DECIMAL_VAL => ExtOp::DecimalVal,
+        DURATION_OF_BIT_VEC => ExtOp::DurationOfBitVec,
+        DURATION_VAL => ExtOp::DurationVal,
+        IPADDR_ADDR_V4 => ExtOp::IpaddrAddrV4,
+        IPADDR_ADDR_V6 => ExtOp::IpaddrAddrV6,
+        IPADDR_IS_V4 => ExtOp::IpaddrIsV4,
+        IPADDR_PREFIX_V4 => ExtOp::IpaddrPrefixV4,
         _ => ExtOp::IpaddrPrefixV6,
     }
 }
@@ -114,7 +192,7 @@ fn ext(c: Cursor, body: &[u8]) -> ReadOp
     match c.byte(body) {
         ReadNumber::Bad(n) => ReadOp::Bad(n),
         ReadNumber::Value(code, d) => {
-            if code < 10 {
+            if code < EXT_OPS {
                 ReadOp::Is(Op::Ext(ext_of(code)), d)
             } else {
                 ReadOp::Bad(7)
@@ -125,7 +203,7 @@ fn ext(c: Cursor, body: &[u8]) -> ReadOp
 
 // The name of the attribute of a `RecordGet`.
 fn record_get(c: Cursor, body: &[u8]) -> ReadOp
-    ensures { λ r. ⌜ Reads recordGet (now (body .entry)) (c .at) (opTold (now (body .entry)) r) ⌝ }
+    ensures { λ r. ⌜ Reads recordGetOperand (now (body .entry)) (c .at) (opTold (now (body .entry)) r) ⌝ }
 {
     match c.text(body) {
         ReadText::Bad(n) => ReadOp::Bad(n),
@@ -177,86 +255,86 @@ fn zero_extend(c: Cursor, body: &[u8]) -> ReadOp
 }
 
 // The operators by their codes, in four ranges, since a match of all in one function takes long to prove: `And` to `Bvslt`.
-fn and_to_bvslt(c: Cursor, code: u32) -> ReadOp
-    requires { ⌜ code < 11 ⌝ }
+fn and_to_bvslt(c: Cursor, code: u8) -> ReadOp
+    requires { ⌜ code < bvsmodCode ⌝ }
     ensures { λ r. ⌜ Operand code (c .at) r ⌝ }
 {
     match code {
-        0 => ReadOp::Is(Op::And, c),
-        1 => ReadOp::Is(Op::Bvadd, c),
-        2 => ReadOp::Is(Op::Bvlshr, c),
-        3 => ReadOp::Is(Op::Bvmul, c),
-        4 => ReadOp::Is(Op::Bvneg, c),
-        5 => ReadOp::Is(Op::Bvnego, c),
-        6 => ReadOp::Is(Op::Bvsaddo, c),
-        7 => ReadOp::Is(Op::Bvsdiv, c),
-        8 => ReadOp::Is(Op::Bvshl, c),
-        9 => ReadOp::Is(Op::Bvsle, c),
+        AND => ReadOp::Is(Op::And, c),
+        BVADD => ReadOp::Is(Op::Bvadd, c),
+        BVLSHR => ReadOp::Is(Op::Bvlshr, c),
+        BVMUL => ReadOp::Is(Op::Bvmul, c),
+        BVNEG => ReadOp::Is(Op::Bvneg, c),
+        BVNEGO => ReadOp::Is(Op::Bvnego, c),
+        BVSADDO => ReadOp::Is(Op::Bvsaddo, c),
+        BVSDIV => ReadOp::Is(Op::Bvsdiv, c),
+        BVSHL => ReadOp::Is(Op::Bvshl, c),
+        BVSLE => ReadOp::Is(Op::Bvsle, c),
         _ => ReadOp::Is(Op::Bvslt, c),
     }
 }
 
 // `Bvsmod` to `Eq`.
-fn bvsmod_to_eq(c: Cursor, code: u32) -> ReadOp
-    requires { ⌜ (11 ≤ code) × (code < 21) ⌝ }
+fn bvsmod_to_eq(c: Cursor, code: u8) -> ReadOp
+    requires { ⌜ (bvsmodCode ≤ code) × (code < extCode) ⌝ }
     ensures { λ r. ⌜ Operand code (c .at) r ⌝ }
 {
     match code {
-        11 => ReadOp::Is(Op::Bvsmod, c),
-        12 => ReadOp::Is(Op::Bvsmulo, c),
-        13 => ReadOp::Is(Op::Bvsrem, c),
-        14 => ReadOp::Is(Op::Bvssubo, c),
-        15 => ReadOp::Is(Op::Bvsub, c),
-        16 => ReadOp::Is(Op::Bvudiv, c),
-        17 => ReadOp::Is(Op::Bvule, c),
-        18 => ReadOp::Is(Op::Bvult, c),
-        19 => ReadOp::Is(Op::Bvurem, c),
+        BVSMOD => ReadOp::Is(Op::Bvsmod, c),
+        BVSMULO => ReadOp::Is(Op::Bvsmulo, c),
+        BVSREM => ReadOp::Is(Op::Bvsrem, c),
+        BVSSUBO => ReadOp::Is(Op::Bvssubo, c),
+        BVSUB => ReadOp::Is(Op::Bvsub, c),
+        BVUDIV => ReadOp::Is(Op::Bvudiv, c),
+        BVULE => ReadOp::Is(Op::Bvule, c),
+        BVULT => ReadOp::Is(Op::Bvult, c),
+        BVUREM => ReadOp::Is(Op::Bvurem, c),
         _ => ReadOp::Is(Op::Eq, c),
     }
 }
 
 // `Ext` to `Or`.
-fn ext_to_or(c: Cursor, code: u32, body: &[u8], funs: u32) -> ReadOp
-    requires { ⌜ (21 ≤ code) × (code < 26) ⌝ }
+fn ext_to_or(c: Cursor, code: u8, body: &[u8], funs: u32) -> ReadOp
+    requires { ⌜ (extCode ≤ code) × (code < recordGetCode) ⌝ }
     ensures { λ r. ⌜ Reads (chosen (operators funs) code) (now (body .entry)) (c .at) (opTold (now (body .entry)) r) ⌝ }
 {
     match code {
-        21 => ext(c, body),
-        22 => ReadOp::Is(Op::Ite, c),
-        23 => ReadOp::Is(Op::Not, c),
-        24 => ReadOp::Is(Op::OptionGet, c),
+        EXT => ext(c, body),
+        ITE => ReadOp::Is(Op::Ite, c),
+        NOT => ReadOp::Is(Op::Not, c),
+        OPTION_GET => ReadOp::Is(Op::OptionGet, c),
         _ => ReadOp::Is(Op::Or, c),
     }
 }
 
 // `RecordGet` to `ZeroExtend`.
-fn record_get_to_zero_extend(c: Cursor, code: u32, body: &[u8], funs: u32) -> ReadOp
-    requires { ⌜ 26 ≤ code ⌝ }
+fn record_get_to_zero_extend(c: Cursor, code: u8, body: &[u8], funs: u32) -> ReadOp
+    requires { ⌜ recordGetCode ≤ code ⌝ }
     ensures { λ r. ⌜ Reads (chosen (operators funs) code) (now (body .entry)) (c .at) (opTold (now (body .entry)) r) ⌝ }
 {
     match code {
-        26 => record_get(c, body),
-        27 => ReadOp::Is(Op::SetInter, c),
-        28 => ReadOp::Is(Op::SetMember, c),
-        29 => ReadOp::Is(Op::SetSubset, c),
-        30 => string_like(c, body),
-        31 => uuf(c, body, funs),
-        32 => zero_extend(c, body),
+        RECORD_GET => record_get(c, body),
+        SET_INTER => ReadOp::Is(Op::SetInter, c),
+        SET_MEMBER => ReadOp::Is(Op::SetMember, c),
+        SET_SUBSET => ReadOp::Is(Op::SetSubset, c),
+        STRING_LIKE => string_like(c, body),
+        UUF => uuf(c, body, funs),
+        ZERO_EXTEND => zero_extend(c, body),
         _ => ReadOp::Bad(7),
     }
 }
 
 // The operator of a code, with its operand.
-fn operand(c: Cursor, code: u32, body: &[u8], funs: u32) -> ReadOp
+fn operand(c: Cursor, code: u8, body: &[u8], funs: u32) -> ReadOp
     ensures { λ r. ⌜ Reads (chosen (operators funs) code) (now (body .entry)) (c .at) (opTold (now (body .entry)) r) ⌝ }
 {
-    if code < 11 {
+    if code < BVSMOD {
         return and_to_bvslt(c, code);
     }
-    if code < 21 {
+    if code < EXT {
         return bvsmod_to_eq(c, code);
     }
-    if code < 26 {
+    if code < RECORD_GET {
         return ext_to_or(c, code, body, funs);
     }
     record_get_to_zero_extend(c, code, body, funs)
@@ -266,8 +344,9 @@ fn operand(c: Cursor, code: u32, body: &[u8], funs: u32) -> ReadOp
 pub fn operator(c: Cursor, body: &[u8], funs: u32) -> ReadOp
     ensures { λ r. ⌜ Reads (operator funs) (now (body .entry)) (c .at) (opTold (now (body .entry)) r) ⌝ }
 {
-    match c.byte(body) {
-        ReadNumber::Bad(n) => ReadOp::Bad(n),
-        ReadNumber::Value(code, d) => operand(d, code, body, funs),
+    let at = c.at;
+    if c.left(body) < 1 {
+        return ReadOp::Bad(5);
     }
+    operand(Cursor { at: at + 1 }, body[at], body, funs)
 }

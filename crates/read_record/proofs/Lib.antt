@@ -3,4 +3,3 @@ pub mod Bodies
 pub mod Values
 pub mod Verdicts
 pub mod Records
-pub mod Alike

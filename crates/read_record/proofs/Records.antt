@@ -13,11 +13,13 @@ use borrow.Author.Tests.{le-leb, lt-leb}
 use Rattle.script_spec.specs.Base.{Bytes, isSome, lookup}
 use Rattle.script_spec.specs.Fields.{Read, got, bad, Reader, Entry, Earlier, _>>=_, pure, part, number, low, u32, marks, whole}
 use Rattle.script_spec.specs.File.{TermFile, Named, named, earlier, kept, judged, nextRecord}
+use Rattle.script_spec.proofs.Laws.{never}
+use Rattle.script_spec.proofs.Lists.{take-two}
+use Rattle.script_spec.proofs.Readers.{bind-got}
 use Rattle.read_field.specs.Reads.{value, refusal, asRead, Reads}
-use Rattle.read_field.proofs.Skims.{bind-got}
 use Rattle.read_record.specs.Marks.{readerOf, Marked}
 use Rattle.read_record.specs.Bodies.{verdictAs, valueless, bodyRead}
-use Rattle.read_record.specs.Records.{followed, readRecord, numberOf, Said, NextRecord}
+use Rattle.read_record.specs.Records.{followed, readRecord, numberRead, Said, NextRecord}
 use Rattle.read_record.specs.declared.mark.Kind.{Kind}
 use Rattle.read_record.specs.declared.Next.the-variants as next
 use Rattle.read_record.specs.declared.body.Verdict.the-variants as verdict
@@ -64,28 +66,23 @@ valueless-bad (bad m) n h = let q : n ≡ m = cc in rw q
 valueless-fine : (x : Read Entry) → verdictAs verdict.Fine ≡ valueless x → (e : Entry) × ((rest : Bytes) → followed rest x ≡ got e rest)
 unfolding valueless verdictAs followed
 valueless-fine (got e left) h = (e, λ rest. refl)
-valueless-fine (bad m) h = let z : _≡_ {A = ℕ} 0 1 = cc in absurd (omega arith)
+valueless-fine (bad m) h = never cc
 
-take-two : (s : Bytes) → 2 ≤ length s → take 2 s ≡ getD s 0 0 ∷ getD s 1 0 ∷ []
-take-two [] h = absurd (omega arith)
-take-two (a ∷ []) h = absurd (omega arith)
-take-two (a ∷ b ∷ s) h = refl
-
-number-four : (s : Bytes) → 4 ≤ length s → numberOf (u32 s) ≡ low (take 4 s)
-unfolding numberOf u32 number part pure
+number-four : (s : Bytes) → 4 ≤ length s → numberRead (u32 s) ≡ low (take 4 s)
+unfolding numberRead u32 number part pure
 number-four s h =
     let p : part 4 s ≡ got (take 4 s) (drop 4 s) = rw (part, le-leb 4 (length s) h) in
-    ap numberOf (bind-got (part 4) (λ bs. pure (low bs)) p)
+    ap numberRead (bind-got (part 4) (λ bs. pure (low bs)) p)
 
 -- the number that is read
 module _ (body : Bytes) (from : ℕ) where
-  pub number-got : {n to : ℕ} → Reads u32 body from (value n to) → n ≡ numberOf (u32 (drop from body))
-  unfolding asRead numberOf
-  number-got h = sym (ap numberOf (h .is))
+  pub number-got : {n to : ℕ} → Reads u32 body from (value n to) → n ≡ numberRead (u32 (drop from body))
+  unfolding asRead numberRead
+  number-got h = sym (ap numberRead (h .is))
 
-  pub number-none : {m : ℕ} → Reads u32 body from (refusal m) → 0 ≡ numberOf (u32 (drop from body))
-  unfolding asRead numberOf
-  number-none h = sym (ap numberOf (h .is))
+  pub number-none : {m : ℕ} → Reads u32 body from (refusal m) → 0 ≡ numberRead (u32 (drop from body))
+  unfolding asRead numberRead
+  number-none h = sym (ap numberRead (h .is))
 
 -- the record at a place of a file
 module _ (e : Earlier) (file : Bytes) (at : ℕ) where
@@ -107,7 +104,7 @@ module _ (e : Earlier) (file : Bytes) (at : ℕ) where
     unfolding Said
     next-unknown h = record { is = record-unknown e (drop at file) six-bytes (lookup-mark ∙ is-none (readerOf e k) h) }
 
-    module _ (known : isSome (readerOf e k) ≡ true) (size : ℕ) (sized : size ≡ numberOf (u32 (drop (at + 2) file))) where
+    module _ (known : isSome (readerOf e k) ≡ true) (size : ℕ) (sized : size ≡ numberRead (u32 (drop (at + 2) file))) where
       size-is : low (take 4 (drop 2 (drop at file))) ≡ size
       size-is = rw (drop-drop 2 at file) (sym (sized ∙ number-four (drop (at + 2) file) (rw length-drop (omega arith))))
 

@@ -14,11 +14,12 @@ use Rattle.script_spec.specs.Base.{Bytes, bytes, same, at}
 use Rattle.script_spec.specs.Tree.{Value}
 use Rattle.script_spec.specs.Fields.{got, bad, Reader, _>>=_, pure, present, part, low, number, address, prefix}
 use Rattle.script_spec.proofs.Laws.{and-false, and-true}
+use Rattle.script_spec.proofs.Readers.{bind-got}
 use Rattle.read_field.specs.Reads.{Told, value, refusal, asRead, Within, Reads, skim, chosen}
 use Rattle.read_field.specs.Answers.{movedTold}
 use Rattle.read_field.specs.declared.Moved.{Moved}
 use Rattle.read_field.proofs.Laws.{reads-alike, reads-next, reads-skim, skimmed}
-use Rattle.read_field.proofs.Skims.{bind-got, skim-bind, skim-map}
+use Rattle.read_field.proofs.Skims.{skim-bind, skim-map}
 use Rattle.read_operator.specs.Operators.{opOf, opTold}
 use Rattle.read_operator.specs.declared.ReadOp.{ReadOp}
 use Rattle.read_operator.specs.declared.ReadOp.the-variants as answer

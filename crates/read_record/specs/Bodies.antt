@@ -20,8 +20,8 @@ unfoldable pub isEntityAt : Bytes → List ℕ → ℕ → Bool
 isEntityAt file offsets n = ltb n (length offsets) && same (take 2 (drop (getD offsets n 0) file)) (bytes "TE")
 
 -- what a record may refer to after so many types, functions and terms, the types standing at these offsets
-unfoldable pub after : ℕ → ℕ → ℕ → Bytes → List ℕ → Earlier
-after types funs terms file offsets = record { types = types; funs = funs; terms = terms; isEntity = isEntityAt file offsets }
+unfoldable pub earlierWith : ℕ → ℕ → ℕ → Bytes → List ℕ → Earlier
+earlierWith types funs terms file offsets = record { types = types; funs = funs; terms = terms; isEntity = isEntityAt file offsets }
 
 -- an answer without its operator
 unfoldable pub opMoved : ReadOp → Moved
@@ -44,7 +44,7 @@ bodyRead none body = bad 4
 bodyRead (some reader) body = valueless (whole (reader body))
 
 -- the fields have been read: refusal 5 if bytes are left over
-unfoldable pub ended : Read (Unit {0}) → Read (Unit {0})
-ended (bad n) = bad n
-ended (got u []) = got tt []
-ended (got u (b ∷ rest)) = bad 5
+unfoldable pub allRead : Read (Unit {0}) → Read (Unit {0})
+allRead (bad n) = bad n
+allRead (got u []) = got tt []
+allRead (got u (b ∷ rest)) = bad 5

@@ -58,8 +58,8 @@ valueBelow n = do
   skim (ensure 7 (ltb v (2 ^ n)) v)
 
 -- a width and a value
-unfoldable pub bitVec : Reader (Unit {0})
-bitVec = do
+unfoldable pub bitVecField : Reader (Unit {0})
+bitVecField = do
   n ← width
   valueBelow n
 
@@ -87,7 +87,7 @@ fieldReader isEntity field.Width = skim width
 fieldReader isEntity (field.Code n) = skim (code n)
 fieldReader isEntity (field.Reference n) = skim (ref n)
 fieldReader isEntity (field.Entity n) = entity isEntity n
-fieldReader isEntity field.Number = bitVec
+fieldReader isEntity field.Number = bitVecField
 fieldReader isEntity field.Value = skim value
 fieldReader isEntity (field.Operator n) = skim (operator n)
 fieldReader isEntity (field.List k) = listReader k

@@ -8,6 +8,7 @@ use lib.Dec.{leb}
 use lib.ListN.{length, take, drop}
 use Rattle.script_spec.specs.Base.{Bytes, lookup}
 use Rattle.script_spec.specs.Fields.{Read, got, bad, Entry, Earlier, low, marks, whole}
+use Rattle.read_field.specs.Reads.{Told, value, refusal}
 use Rattle.read_record.specs.Marks.{Marked}
 use Rattle.read_record.specs.declared.mark.Kind.{Kind}
 use Rattle.read_record.specs.declared.Next.{Next}
@@ -34,9 +35,9 @@ readRecord e s =
     ]
 
 -- a number that was read, and else 0
-unfoldable pub numberOf : Read ℕ → ℕ
-numberOf (got n rest) = n
-numberOf (bad n) = 0
+unfoldable pub numberRead : Read ℕ → ℕ
+numberRead (got n rest) = n
+numberRead (bad n) = 0
 
 -- a record of this kind stands at a place of the file, its body from `start` to `end`
 pub record IsRecord (e : Earlier) (file : Bytes) (at : ℕ) (kind : Kind) (start end : ℕ) : Type 0 where
@@ -47,10 +48,19 @@ pub record IsRecord (e : Earlier) (file : Bytes) (at : ℕ) (kind : Kind) (start
   pub entry : Entry
   pub is : readRecord e (drop at file) ≡ got entry (drop end file)
 
--- what each answer says
+-- an answer in document 01's terms: the record's kind, the start of its body and the place after it, or the refusal's number
+abbrev pub nextTold : Next → Told (Kind × ℕ)
+nextTold (next.Record k start end) = value (k, start) end
+nextTold (next.Bad n) = refusal n
+
+-- what is told is the record at a place of the file, or its refusal
+abbrev pub RecordTold : Earlier → Bytes → ℕ → Told (Kind × ℕ) → Type 0
+RecordTold e file at (value x end) = IsRecord e file at (x .0) (x .1) end
+RecordTold e file at (refusal n) = readRecord e (drop at file) ≡ bad n
+
+-- what an answer says
 unfoldable pub Said : Earlier → Bytes → ℕ → Next → Type 0
-Said e file at (next.Record k start end) = IsRecord e file at k start end
-Said e file at (next.Bad n) = readRecord e (drop at file) ≡ bad n
+Said e file at r = RecordTold e file at (nextTold r)
 
 -- r is the record at a place of the file
 pub record NextRecord (e : Earlier) (file : Bytes) (at : ℕ) (r : Next) : Type 0 where

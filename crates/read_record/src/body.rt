@@ -13,8 +13,8 @@ ghost use Rattle.script_spec.specs.Fields.{got, value};
 ghost use Rattle.read_field.specs.Reads.{Reads, skim, chosen};
 ghost use Rattle.read_field.specs.Answers.{movedTold};
 ghost use Rattle.read_record.specs.Marks.{readerOf};
-ghost use Rattle.read_record.specs.Fields.{entity, valueBelow, bitVec, addressed, values, fieldReader};
-ghost use Rattle.read_record.specs.Bodies.{isEntityAt, opMoved, after, verdictAs, bodyRead, ended};
+ghost use Rattle.read_record.specs.Fields.{entity, valueBelow, bitVecField, addressed, values, fieldReader};
+ghost use Rattle.read_record.specs.Bodies.{isEntityAt, opMoved, earlierWith, verdictAs, bodyRead, allRead};
 
 // A body that can be read, or the number of its refusal.
 pub enum Verdict {
@@ -23,7 +23,7 @@ pub enum Verdict {
 }
 
 // Whether the record at the offset of type n has the mark `TE`.
-pub fn is_entity(file: &[u8], offsets: &[u32], n: u32) -> bool
+fn is_entity(file: &[u8], offsets: &[u32], n: u32) -> bool
     ensures { λ r. ⌜ r ≡ isEntityAt (now (file .entry)) (now (offsets .entry)) n ⌝ }
 {
     let i = n as usize;
@@ -76,7 +76,7 @@ fn below(c: Cursor, body: &[u8], width: u32) -> Moved
 
 // A bit vector's width and value.
 fn bit_vec(c: Cursor, body: &[u8]) -> Moved
-    ensures { λ r. ⌜ Reads bitVec (now (body .entry)) (c .at) (movedTold r) ⌝ }
+    ensures { λ r. ⌜ Reads bitVecField (now (body .entry)) (c .at) (movedTold r) ⌝ }
 {
     match c.width(body) {
         ReadNumber::Bad(n) => Moved::Bad(n),
@@ -172,7 +172,7 @@ fn skip_field(c: Cursor, body: &[u8], field: Field, file: &[u8], offsets: &[u32]
 
 // The end of a body.
 fn end(c: Cursor, body: &[u8]) -> Verdict
-    ensures { λ r. ⌜ verdictAs r ≡ ended (got tt (drop (c .at) (now (body .entry)))) ⌝ }
+    ensures { λ r. ⌜ verdictAs r ≡ allRead (got tt (drop (c .at) (now (body .entry)))) ⌝ }
 {
     if c.left(body) == 0 {
         Verdict::Fine
@@ -191,7 +191,7 @@ pub fn read_body(
     file: &[u8],
     offsets: &[u32],
 ) -> Verdict
-    ensures { λ r. ⌜ verdictAs r ≡ bodyRead (readerOf (after types funs terms (now (file .entry)) (now (offsets .entry))) kind) (now (body .entry)) ⌝ }
+    ensures { λ r. ⌜ verdictAs r ≡ bodyRead (readerOf (earlierWith types funs terms (now (file .entry)) (now (offsets .entry))) kind) (now (body .entry)) ⌝ }
 {
     let all = fields::fields_of(kind, types, funs, terms);
     let first = all.0;

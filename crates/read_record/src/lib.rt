@@ -10,8 +10,8 @@ use read_field::ReadNumber;
 ghost use mathlib.Core.Path.{_≡_};
 ghost use lib.ListN.{drop};
 ghost use Rattle.script_spec.specs.Fields.{u32};
-ghost use Rattle.read_record.specs.Bodies.{after};
-ghost use Rattle.read_record.specs.Records.{NextRecord, numberOf};
+ghost use Rattle.read_record.specs.Bodies.{earlierWith};
+ghost use Rattle.read_record.specs.Records.{NextRecord, numberRead};
 
 // The next record: its kind and where its body starts and ends in the file; or the number of its refusal.
 pub enum Next {
@@ -25,7 +25,7 @@ pub enum Next {
 
 // A number of four bytes, 0 where they are not there.
 fn number_at(file: &[u8], at: usize) -> usize
-    ensures { λ r. ⌜ r ≡ numberOf (u32 (drop at (now (file .entry)))) ⌝ }
+    ensures { λ r. ⌜ r ≡ numberRead (u32 (drop at (now (file .entry)))) ⌝ }
 {
     match (Cursor { at }).u32_le(file) {
         ReadNumber::Value(n, _) => n as usize,
@@ -42,7 +42,7 @@ pub fn next_record(
     terms: u32,
     offsets: &[u32],
 ) -> Next
-    ensures { λ r. ⌜ NextRecord (after types funs terms (now (file .entry)) (now (offsets .entry))) (now (file .entry)) at r ⌝ }
+    ensures { λ r. ⌜ NextRecord (earlierWith types funs terms (now (file .entry)) (now (offsets .entry))) (now (file .entry)) at r ⌝ }
 {
     if (Cursor { at }).left(file) < 6 {
         return Next::Bad(3);

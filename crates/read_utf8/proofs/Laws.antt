@@ -14,10 +14,11 @@ use lib.Seq.{drop-drop}
 use Rattle.script_spec.specs.Base.{Bytes, between, isSome}
 use Rattle.script_spec.specs.Utf8.{decode, codePoints?, codePoints, isUtf8}
 use Rattle.script_spec.specs.Walk.{lowEnough}
+use Rattle.script_spec.proofs.Laws.{never}
 use Rattle.read_utf8.specs.declared.Cursor.{Cursor}
 use Rattle.read_utf8.specs.declared.Next.{Next}
 use Rattle.read_utf8.specs.declared.Next.the-variants.{Point, Malformed, End}
-use Rattle.read_utf8.specs.Decoding.{First, nothing, malformed, point, longer, follow, led, first, points, pointsBy, nextAt, isLow}
+use Rattle.read_utf8.specs.Decoding.{First, nothing, malformed, point, longer, follow, led, first, points, pointsBy, nextSaid, Finds, isLow}
 use Rattle.read_utf8.proofs.Decode.{after, decode-first}
 
 -- ---- how far a code point reaches
@@ -145,7 +146,7 @@ points-decoded (suc n) s cs h e = points-first s ∙ utf8-step s cs (first s) (�
 
 utf8-cases : (s : Bytes) (o : Option (List ℕ)) → decode zero 0 0 0 s ≡ o → isSome o ≡ true → points s ≡ Option·getD o []
 unfolding isSome
-utf8-cases s none e h = let z : _≡_ {A = ℕ} 0 1 = cc in absurd (omega arith)
+utf8-cases s none e h = never cc
 utf8-cases s (some cs) e h = points-decoded (length s) s cs (omega arith) e
 
 -- the code points of UTF-8
@@ -183,40 +184,36 @@ utf8-first : (s : Bytes) → isUtf8 s ≡ utf8Then (first s) s
 unfolding isUtf8 codePoints?
 utf8-first s = ap isSome (decode-first s) ∙ utf8-after (first s) s
 
-point-at : (s : Bytes) (at v : ℕ) (c : Cursor) (f : First) → first (drop at s) ≡ f → Within 1 (length (drop at s)) f → nextAt at f ≡ Point v c → PointAt s at v c
-unfolding nextAt pointed utf8Then
-point-at s at v c nothing e w h = let z : _≡_ {A = ℕ} 0 1 = cc in absurd (omega arith)
-point-at s at v c malformed e w h = let z : _≡_ {A = ℕ} 0 1 = cc in absurd (omega arith)
-point-at s at v c (point u k) e w h =
-    let p : at + k ≡ c .at = cc in
-    let q : u ≡ v = cc in
-    let d : drop k (drop at s) ≡ drop (c .at) s = drop-drop k at s ∙ ap (λ (n : ℕ). drop n s) p in
+-- a cursor that finds a code point
+pub next-point : {s : Bytes} {at v : ℕ} {r : Next} {c : Cursor} → Finds (first (drop at s)) at r → r ≡ Point v c → PointAt s at v c
+unfolding nextSaid pointed utf8Then
+next-point {s} {at} {v} {r} {c} F h =
+    let G : Finds (first (drop at s)) at (Point v c) = subst (λ (r : Next). Finds (first (drop at s)) at r) h F in
+    let e : first (drop at s) ≡ point v (c .at - at) = sym (G .is) in
+    let w : Within 1 (length (drop at s)) (point v (c .at - at)) = subst (λ (f : First). Within 1 (length (drop at s)) f) e (within-first (drop at s)) in
+    let on : at ≤ c .at = G .onward in
+    let p : at + (c .at - at) ≡ c .at = omega arith in
+    let d : drop (c .at - at) (drop at s) ≡ drop (c .at) s = drop-drop (c .at - at) at s ∙ ap (λ (n : ℕ). drop n s) p in
     let l : length (drop at s) ≡ length s - at = length-drop at s in
     record {
-      value = points-first (drop at s) ∙ ap (λ (f : First). pointed f (drop at s)) e ∙ (rw (d, q));
+      value = points-first (drop at s) ∙ ap (λ (f : First). pointed f (drop at s)) e ∙ (rw d);
       utf8 = utf8-first (drop at s) ∙ ap (λ (f : First). utf8Then f (drop at s)) e ∙ ap isUtf8 d;
       moves = omega (arith, w .0);
       inside = omega (arith, w .0, w .1);
     }
 
--- a cursor that finds a code point
-pub next-point : {s : Bytes} {at v : ℕ} {c : Cursor} → nextAt at (first (drop at s)) ≡ Point v c → PointAt s at v c
-next-point {s} {at} {v} {c} h = point-at s at v c (first (drop at s)) refl (within-first (drop at s)) h
-
 -- a cursor at bytes that are not UTF-8, and at the end
-stop-at : (s : Bytes) (n : Next) (f : First) (at : ℕ) → first s ≡ f → nextAt at f ≡ n → (n ≡ Malformed → (isUtf8 s ≡ false) × (points s ≡ [])) × (n ≡ End → (isUtf8 s ≡ true) × (points s ≡ []))
-unfolding nextAt pointed utf8Then
-stop-at s n nothing at e h =
-    (λ q. let z : _≡_ {A = ℕ} 0 1 = cc in absurd (omega arith), λ q. (utf8-first s ∙ ap (λ (f : First). utf8Then f s) e, points-first s ∙ ap (λ (f : First). pointed f s) e))
-stop-at s n malformed at e h =
-    (λ q. (utf8-first s ∙ ap (λ (f : First). utf8Then f s) e, points-first s ∙ ap (λ (f : First). pointed f s) e), λ q. let z : _≡_ {A = ℕ} 0 1 = cc in absurd (omega arith))
-stop-at s n (point v k) at e h = (λ q. let z : _≡_ {A = ℕ} 0 1 = cc in absurd (omega arith), λ q. let z : _≡_ {A = ℕ} 0 1 = cc in absurd (omega arith))
+pub next-malformed : (s : Bytes) (at : ℕ) {r : Next} → Finds (first (drop at s)) at r → r ≡ Malformed → (isUtf8 (drop at s) ≡ false) × (points (drop at s) ≡ [])
+unfolding nextSaid pointed utf8Then
+next-malformed s at F h =
+    let e : first (drop at s) ≡ malformed = sym (F .is) ∙ ap (nextSaid at) h in
+    (utf8-first (drop at s) ∙ ap (λ (f : First). utf8Then f (drop at s)) e, points-first (drop at s) ∙ ap (λ (f : First). pointed f (drop at s)) e)
 
-pub next-malformed : (s : Bytes) (at : ℕ) → nextAt at (first (drop at s)) ≡ Malformed → (isUtf8 (drop at s) ≡ false) × (points (drop at s) ≡ [])
-next-malformed s at h = stop-at (drop at s) _ (first (drop at s)) at refl refl .0 h
-
-pub next-end : (s : Bytes) (at : ℕ) → nextAt at (first (drop at s)) ≡ End → (isUtf8 (drop at s) ≡ true) × (points (drop at s) ≡ [])
-next-end s at h = stop-at (drop at s) _ (first (drop at s)) at refl refl .1 h
+pub next-end : (s : Bytes) (at : ℕ) {r : Next} → Finds (first (drop at s)) at r → r ≡ End → (isUtf8 (drop at s) ≡ true) × (points (drop at s) ≡ [])
+unfolding nextSaid pointed utf8Then
+next-end s at F h =
+    let e : first (drop at s) ≡ nothing = sym (F .is) ∙ ap (nextSaid at) h in
+    (utf8-first (drop at s) ∙ ap (λ (f : First). utf8Then f (drop at s)) e, points-first (drop at s) ∙ ap (λ (f : First). pointed f (drop at s)) e)
 
 -- ---- code points that SMT-LIB's strings have
 

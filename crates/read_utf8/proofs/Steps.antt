@@ -1,6 +1,6 @@
 -- One law for each way through the code that finds a code point.
 -- Assumes nothing.
-use mathlib.Core.Path.{_≡_, refl, ap}
+use mathlib.Core.Path.{_≡_, refl, sym, ap, _∙_}
 use mathlib.Core.Bool.{Bool, true, false}
 use mathlib.Core.List.{_∷_}
 use Prim.Native.Nat.{ℕ, zero, suc, _+_, _-_, _*_, _^_, _≤_, _<_}
@@ -14,40 +14,55 @@ use lib.Seq.{drop-cons}
 use Rattle.script_spec.specs.Base.{Bytes, between}
 use Rattle.read_utf8.specs.declared.Next.{Next}
 use Rattle.read_utf8.specs.declared.Next.the-variants.{Point, Malformed, End}
-use Rattle.read_utf8.specs.Decoding.{First, nothing, malformed, point, longer, follow, led, first, choose, nextAt, Small}
+use Rattle.read_utf8.specs.Decoding.{First, nothing, malformed, point, longer, follow, led, first, choose, nextSaid, Finds, Small}
+
+-- bytes that are not UTF-8
+finds-malformed : {f : First} {at : ℕ} → f ≡ malformed → Finds f at Malformed
+unfolding nextSaid
+finds-malformed e = record { is = sym e; onward = tt }
+
+-- a code point of k bytes
+finds-point : {f : First} {at v n : ℕ} (k : ℕ) → f ≡ point v k → n ≡ at + k → Finds f at (Point v (record { at = n }))
+unfolding nextSaid
+finds-point {f} {at} {v} {n} k e h =
+    let d : n - at ≡ k = omega arith in
+    record { is = ap (λ (m : ℕ). point v m) d ∙ sym e; onward = omega arith }
 
 -- one byte more is one place further
-next-longer : (at : ℕ) (f : First) → nextAt (at + 1) f ≡ nextAt at (longer f)
-unfolding nextAt longer
-next-longer at nothing = refl
-next-longer at malformed = refl
-next-longer at (point v k) = let e : at + 1 + k ≡ at + suc k = omega arith in ap (λ (n : ℕ). Point v (record { at = n })) e
+finds-longer : (at : ℕ) {f : First} (r : Next) → Finds f (at + 1) r → Finds (longer f) at r
+unfolding nextSaid longer
+finds-longer at End F = record { is = ap longer (F .is); onward = tt }
+finds-longer at Malformed F = record { is = ap longer (F .is); onward = tt }
+finds-longer at (Point v c) F =
+    let h : at + 1 ≤ c .at = F .onward in
+    let d : c .at - at ≡ suc (c .at - (at + 1)) = omega arith in
+    record { is = ap (λ (m : ℕ). point v m) d ∙ ap longer (F .is); onward = omega arith }
 
 -- ---- a byte that continues a code point
 
-pub follow-done : (more low high v at : ℕ) (s : Bytes) → more ≡ 0 → Point v (record { at = at }) ≡ nextAt at (follow more low high v s)
-unfolding nextAt follow
-follow-done zero low high v at s h = let e : at ≡ at + 0 = omega arith in ap (λ (n : ℕ). Point v (record { at = n })) e
+pub follow-done : (more low high v at : ℕ) (s : Bytes) → more ≡ 0 → Finds (follow more low high v s) at (Point v (record { at = at }))
+unfolding follow
+follow-done zero low high v at s h = finds-point 0 refl (omega arith)
 follow-done (suc m) low high v at s h = absurd (omega arith)
 
-pub follow-short : (more low high v at : ℕ) (s : Bytes) → (more ≡ 0 → ⊥) → length s ≤ at → Malformed ≡ nextAt at (follow more low high v (drop at s))
-unfolding nextAt follow
+pub follow-short : (more low high v at : ℕ) (s : Bytes) → (more ≡ 0 → ⊥) → length s ≤ at → Finds (follow more low high v (drop at s)) at Malformed
+unfolding follow
 follow-short zero low high v at s h k = absurd (h refl)
-follow-short (suc m) low high v at s h k = rw (drop-of-length-le s k)
+follow-short (suc m) low high v at s h k = finds-malformed (rw (drop-of-length-le s k))
 
 pub follow-outside : (more low high v b at : ℕ) (s : Bytes) → (more ≡ 0 → ⊥) → at < length s → b ≡ getD s at 0 → between low high b ≡ false
-    → Malformed ≡ nextAt at (follow more low high v (drop at s))
-unfolding nextAt follow
+    → Finds (follow more low high v (drop at s)) at Malformed
+unfolding follow
 follow-outside zero low high v b at s h k e q = absurd (h refl)
-follow-outside (suc m) low high v b at s h k e q = rw (drop-cons s at 0 k, ← e, q, follow)
+follow-outside (suc m) low high v b at s h k e q = finds-malformed (rw (drop-cons s at 0 k, ← e, q, follow))
 
-pub follow-more : (more low high v b at : ℕ) (s : Bytes) → (more ≡ 0 → ⊥) → at < length s → b ≡ getD s at 0 → between low high b ≡ true
-    → nextAt (at + 1) (follow (more - 1) 128 191 (v * 64 + (b - 128)) (drop (at + 1) s)) ≡ nextAt at (follow more low high v (drop at s))
-unfolding nextAt follow
-follow-more zero low high v b at s h k e q = absurd (h refl)
-follow-more (suc m) low high v b at s h k e q =
+pub follow-more : (more low high v b at : ℕ) (s : Bytes) (r : Next) → (more ≡ 0 → ⊥) → at < length s → b ≡ getD s at 0 → between low high b ≡ true
+    → Finds (follow (more - 1) 128 191 (v * 64 + (b - 128)) (drop (at + 1) s)) (at + 1) r → Finds (follow more low high v (drop at s)) at r
+unfolding follow
+follow-more zero low high v b at s r h k e q F = absurd (h refl)
+follow-more (suc m) low high v b at s r h k e q F =
     let d : drop at s ≡ b ∷ drop (at + 1) s = rw (drop-cons s at 0 k, add-one, e) in
-    rw (d, q, follow, sub-one) (next-longer at (follow m 128 191 (v * 64 + (b - 128)) (drop (at + 1) s)))
+    rw (d, q, follow) (finds-longer at r (rw sub-one at F))
 
 -- ---- the bits of a code point
 
@@ -82,42 +97,42 @@ small-chosen more low high v x y false false e f h k b = record { bits = b; from
 -- ---- a first byte of 128 or more, by its range
 
 module _ (a at : ℕ) (s : Bytes) where
-  pub led-low : a < 194 → Malformed ≡ nextAt at (led a s)
-  unfolding led nextAt
-  led-low h = rw (lt-ltb a 194 h, led)
+  pub led-low : a < 194 → Finds (led a s) at Malformed
+  unfolding led
+  led-low h = finds-malformed (rw (lt-ltb a 194 h, led))
 
-  pub led-two : (r : Next) → 194 ≤ a → a < 224 → r ≡ nextAt at (follow 1 128 191 (a - 192) s) → r ≡ nextAt at (led a s)
+  pub led-two : (r : Next) → 194 ≤ a → a < 224 → Finds (follow 1 128 191 (a - 192) s) at r → Finds (led a s) at r
   unfolding led
   led-two r h k e = rw (le-ltb a 194 h, lt-ltb a 224 k, led) e
 
   pub led-three : (r : Next) (low high : ℕ) → 224 ≤ a → a < 240 → low ≡ choose (eqb a 224) 160 128 → high ≡ choose (eqb a 237) 159 191
-      → r ≡ nextAt at (follow 2 low high (a - 224) s) → r ≡ nextAt at (led a s)
+      → Finds (follow 2 low high (a - 224) s) at r → Finds (led a s) at r
   unfolding led
   led-three r low high h k i j e = rw (le-ltb a 194 (omega arith), le-ltb a 224 h, lt-ltb a 240 k, led) (rw (i, j) at e)
 
   pub led-four : (r : Next) (low high : ℕ) → 240 ≤ a → a < 245 → low ≡ choose (eqb a 240) 144 128 → high ≡ choose (eqb a 244) 143 191
-      → r ≡ nextAt at (follow 3 low high (a - 240) s) → r ≡ nextAt at (led a s)
+      → Finds (follow 3 low high (a - 240) s) at r → Finds (led a s) at r
   unfolding led
   led-four r low high h k i j e = rw (le-ltb a 194 (omega arith), le-ltb a 224 (omega arith), le-ltb a 240 h, lt-ltb a 245 k, led) (rw (i, j) at e)
 
-  pub led-high : 245 ≤ a → Malformed ≡ nextAt at (led a s)
-  unfolding led nextAt
-  led-high h = rw (le-ltb a 194 (omega arith), le-ltb a 224 (omega arith), le-ltb a 240 (omega arith), le-ltb a 245 h, led)
+  pub led-high : 245 ≤ a → Finds (led a s) at Malformed
+  unfolding led
+  led-high h = finds-malformed (rw (le-ltb a 194 (omega arith), le-ltb a 224 (omega arith), le-ltb a 240 (omega arith), le-ltb a 245 h, led))
 
 -- ---- what stands at a place
 
-pub first-end : (at : ℕ) (s : Bytes) → length s ≤ at → End ≡ nextAt at (first (drop at s))
-unfolding first nextAt
-first-end at s h = rw (drop-of-length-le s h)
+pub first-end : (at : ℕ) (s : Bytes) → length s ≤ at → Finds (first (drop at s)) at End
+unfolding first nextSaid
+first-end at s h = record { is = rw (drop-of-length-le s h); onward = tt }
 
-pub first-ascii : (a at : ℕ) (s : Bytes) → at < length s → a ≡ getD s at 0 → a < 128 → Point a (record { at = at + 1 }) ≡ nextAt at (first (drop at s))
-unfolding first nextAt
+pub first-ascii : (a at : ℕ) (s : Bytes) → at < length s → a ≡ getD s at 0 → a < 128 → Finds (first (drop at s)) at (Point a (record { at = at + 1 }))
+unfolding first
 first-ascii a at s h e k =
     let d : drop at s ≡ a ∷ drop (suc at) s = rw (drop-cons s at 0 h, e) in
-    rw (d, lt-ltb a 128 k, first)
+    finds-point 1 (rw (d, lt-ltb a 128 k, first)) refl
 
-pub first-led : (a at : ℕ) (s : Bytes) → at < length s → a ≡ getD s at 0 → 128 ≤ a → nextAt (at + 1) (led a (drop (at + 1) s)) ≡ nextAt at (first (drop at s))
+pub first-led : (a at : ℕ) (s : Bytes) (r : Next) → at < length s → a ≡ getD s at 0 → 128 ≤ a → Finds (led a (drop (at + 1) s)) (at + 1) r → Finds (first (drop at s)) at r
 unfolding first
-first-led a at s h e k =
+first-led a at s r h e k F =
     let d : drop at s ≡ a ∷ drop (at + 1) s = rw (drop-cons s at 0 h, add-one, e) in
-    rw (d, le-ltb a 128 k, first) (next-longer at (led a (drop (at + 1) s)))
+    rw (d, le-ltb a 128 k, first) (finds-longer at r F)

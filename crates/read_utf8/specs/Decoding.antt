@@ -1,5 +1,6 @@
 -- Code points one by one: what a text starts with, what a cursor finds, and the code points of any bytes.
 -- Assumes nothing.
+use mathlib.Core.Path.{_≡_}
 use Prim.Native.Nat.{ℕ, zero, suc, _+_, _-_, _*_, _^_, _≤_}
 use mathlib.Core.Bool.{Bool, true, false, _||_}
 use mathlib.Core.List.{List, [], _∷_}
@@ -67,11 +68,22 @@ pointsBy (suc fuel) s = elim (first s) [ nothing ↦ [] | malformed ↦ [] | poi
 unfoldable pub points : Bytes → List ℕ
 points s = pointsBy (length s) s
 
--- what a cursor finds at a place
-unfoldable pub nextAt : ℕ → First → Next
-nextAt at nothing = End
-nextAt at malformed = Malformed
-nextAt at (point v k) = Point v (record { at = at + k })
+-- an answer at a place in terms of the text from there on: nothing, bytes that are not UTF-8, or a code point and the number of its bytes
+unfoldable pub nextSaid : ℕ → Next → First
+nextSaid at End = nothing
+nextSaid at Malformed = malformed
+nextSaid at (Point v c) = point v (c .at - at)
+
+-- an answer's cursor is not before a place
+abbrev pub NotBefore : ℕ → Next → Type 0
+NotBefore at End = Unit {0}
+NotBefore at Malformed = Unit {0}
+NotBefore at (Point v c) = at ≤ c .at
+
+-- an answer at a place is what is decoded there
+pub record Finds (f : First) (at : ℕ) (r : Next) : Type 0 where
+  pub is : nextSaid at r ≡ f
+  pub onward : NotBefore at r
 
 -- a code point that SMT-LIB's strings have, or the wildcard
 unfoldable pub isLow : ℕ → Bool

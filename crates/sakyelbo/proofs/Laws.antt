@@ -17,20 +17,21 @@ use Rattle.smtlib_script.specs.Writes.{commandAnswer, Writes}
 use Rattle.check_file.specs.declared.Checked.{Checked}
 use Rattle.check_file.specs.Promise.{checkedAs, withoutRecords, Checks}
 use Rattle.encoder.specs.declared.Encoded.{Encoded}
+use Rattle.encoder.specs.Printing.{written}
 use Rattle.encoder.specs.Promise.{encodedAs, Encodes}
-use Rattle.sakyelbo.specs.Answers.{code, sizeOf, Says}
+use Rattle.sakyelbo.specs.Answers.{code, SaysAnswer}
 use Rattle.sakyelbo.specs.Promise.{ChecksFile, EncodesFile, WritesCommand}
 use Rattle.sakyelbo.proofs.Numbers.{Numbered, checked-numbered, encoded-numbered, command-numbered}
 
 -- a length is said by itself, with the number 0
-pub says-length : {a : Answer ℕ} {n : ℕ} → a ≡ accepted n → Says a n 0
-unfolding code sizeOf
-says-length {n = n} e = subst (λ (a : Answer ℕ). Says a n 0) (sym e) (record { number = refl; size = refl })
+pub says-length : {a : Answer ℕ} {n : ℕ} → a ≡ accepted n → SaysAnswer a n 0
+unfolding code written
+says-length {n = n} e = subst (λ (a : Answer ℕ). SaysAnswer a n 0) (sym e) (record { number = refl; size = refl })
 
 -- a refusal is said by its number, with the size 0
-pub says-refusal : {a : Answer ℕ} {n p r : ℕ} → a ≡ refused n p → r ≡ n * 4294967296 + p → Says a 0 r
-unfolding code sizeOf
-says-refusal {r = r} e h = subst (λ (a : Answer ℕ). Says a 0 r) (sym e) (record { number = h; size = refl })
+pub says-refusal : {a : Answer ℕ} {n p r : ℕ} → a ≡ refused n p → r ≡ n * 4294967296 + p → SaysAnswer a 0 r
+unfolding code written
+says-refusal {r = r} e h = subst (λ (a : Answer ℕ). SaysAnswer a 0 r) (sym e) (record { number = h; size = refl })
 
 -- the number of an answer is that of the answer without its records
 code-withoutRecords : (a : Answer TermFile) → code (withoutRecords a) ≡ code a
@@ -51,12 +52,12 @@ code-zero (accepted x) h e = (x, refl)
 code-zero (refused n p) h e = absurd (code-refused h refl e)
 
 -- what is no refusal stands at the start of its buffer
-starts : (w : Answer Bytes) (room : ℕ) {y : Bytes} {n r : ℕ} → Says (lengthOf w) n r → y ≡ left w room → ((m q : ℕ) → w ≡ refused m q → ⊥) → w ≡ accepted (take n y)
-unfolding lengthOf sizeOf left
+starts : (w : Answer Bytes) (room : ℕ) {y : Bytes} {n r : ℕ} → SaysAnswer (lengthOf w) n r → y ≡ left w room → ((m q : ℕ) → w ≡ refused m q → ⊥) → w ≡ accepted (take n y)
+unfolding lengthOf written left
 starts (accepted s) room S h never = ap accepted (sym (rw (S .size, h) (take-at s _ (length s) refl)))
 starts (refused m q) room S h never = absurd (never m q refl)
 
-module _ (w : Answer Bytes) (room : ℕ) {y : Bytes} {n r : ℕ} (S : Says (lengthOf w) n r) (h : y ≡ left w room) where
+module _ (w : Answer Bytes) (room : ℕ) {y : Bytes} {n r : ℕ} (S : SaysAnswer (lengthOf w) n r) (h : y ≡ left w room) where
   -- the number 0 is that of a text
   starts-zero : Numbered 20 w → r ≡ 0 → w ≡ accepted (take n y)
   unfolding lengthOf code
@@ -64,8 +65,8 @@ module _ (w : Answer Bytes) (room : ℕ) {y : Bytes} {n r : ℕ} (S : Says (leng
 
   -- a size above 0 is that of a text
   starts-sized : 0 < n → w ≡ accepted (take n y)
-  unfolding lengthOf sizeOf
-  starts-sized p = starts w room S h (λ m q e. let z : n ≡ 0 = S .size ∙ ap (λ (a : Answer Bytes). sizeOf (lengthOf a)) e in omega arith)
+  unfolding lengthOf written
+  starts-sized p = starts w room S h (λ m q e. let z : n ≡ 0 = S .size ∙ ap (λ (a : Answer Bytes). written (lengthOf a)) e in omega arith)
 
 -- ---- promises
 
@@ -80,16 +81,16 @@ checks-file {file} {work} {r = r} k e =
     }
 
 -- the promise of a call that writes a command
-pub writes-command : {c : Command} {x y : Bytes} {w : WrittenCommand} {n r : ℕ} → Writes c x y w → Says (commandAnswer w) n r → WritesCommand c x y n r
+pub writes-command : {c : Command} {x y : Bytes} {w : WrittenCommand} {n r : ℕ} → Writes c x y w → SaysAnswer (commandAnswer w) n r → WritesCommand c x y n r
 writes-command {c} {x} {n = n} {r = r} k s =
-    let says : Says (lengthOf (commandWritten c (length x))) n r = subst (λ (a : Answer ℕ). Says a n r) (k .leaves .says) s in
+    let says : SaysAnswer (lengthOf (commandWritten c (length x))) n r = subst (λ (a : Answer ℕ). SaysAnswer a n r) (k .leaves .says) s in
     record { says = says; accepts = starts-zero (commandWritten c (length x)) (length x) says (k .leaves .holds) (command-numbered c (length x)); holds = k .leaves .holds }
 
 -- encode's promise
-pub encodes-file : {file : Bytes} {work : List ℕ} {x : Bytes} {work′ : List ℕ} {y : Bytes} {e : Encoded} {n r : ℕ} → Encodes file work x work′ y e → Says (encodedAs e) n r
+pub encodes-file : {file : Bytes} {work : List ℕ} {x : Bytes} {work′ : List ℕ} {y : Bytes} {e : Encoded} {n r : ℕ} → Encodes file work x work′ y e → SaysAnswer (encodedAs e) n r
     → EncodesFile file work x work′ y n r
 encodes-file {file} {work} {x} {y = y} {n = n} {r = r} k s =
-    let says : Says (lengthOf (encoded file (length work) (length x))) n r = subst (λ (a : Answer ℕ). Says a n r) (k .answer) s in
+    let says : SaysAnswer (lengthOf (encoded file (length work) (length x))) n r = subst (λ (a : Answer ℕ). SaysAnswer a n r) (k .answer) s in
     record {
       says = says;
       accepts = starts-zero (encoded file (length work) (length x)) (length x) says (k .script-is) (encoded-numbered file (length work) (length x));

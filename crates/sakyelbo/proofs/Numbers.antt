@@ -20,7 +20,7 @@ use Rattle.script_spec.specs.Walk.{encoding, encoded}
 use Rattle.script_spec.specs.Faithful.{Every, every, also}
 use Rattle.script_spec.proofs.Lists.{every-append}
 use Rattle.script_spec.proofs.Demand.{encoding-refusal}
-use Rattle.script_spec.proofs.Laws.{either-way}
+use Rattle.script_spec.proofs.Laws.{either-way, never}
 use Rattle.sakyelbo.proofs.Readers.{OfField, five, six, seven, eight, Reading, read, refusal, Reads, mark-reads, reading-whole}
 
 -- a number from 1 to a greatest one
@@ -38,7 +38,7 @@ pub record Numbered {A : Type 0} (greatest : ℕ) (a : Answer A) : Type 0 where
 
 module _ {A : Type 0} where
   numbered-result : (greatest : ℕ) (a : A) → Numbered greatest (accepted a)
-  numbered-result greatest a = record { number = λ n p e. absurd (let z : _≡_ {A = ℕ} 0 1 = cc in omega arith) }
+  numbered-result greatest a = record { number = λ n p e. never cc }
 
   numbered-refusal : (greatest n p : ℕ) → Within greatest n → Numbered {A = A} greatest (refused n p)
   numbered-refusal greatest n p w = record { number = λ m q e. let h : n ≡ m = cc in record { least = omega arith; most = omega arith } }

@@ -3,18 +3,14 @@
 use mathlib.Core.Path.{_≡_}
 use Prim.Native.Nat.{ℕ, _+_, _*_}
 use Rattle.script_spec.specs.Base.{Answer, accepted, refused}
+use Rattle.encoder.specs.Printing.{written}
 
 -- an answer as one number
 unfoldable pub code : {A : Type 0} → Answer A → ℕ
 code (accepted a) = 0
 code (refused n p) = n * 4294967296 + p
 
--- the length that an answer says; 0 with a refusal
-unfoldable pub sizeOf : Answer ℕ → ℕ
-sizeOf (accepted n) = n
-sizeOf (refused n p) = 0
-
 -- a call that writes says an answer by a number r and a size n
-pub record Says (a : Answer ℕ) (n r : ℕ) : Type 0 where
+pub record SaysAnswer (a : Answer ℕ) (n r : ℕ) : Type 0 where
   pub number : r ≡ code a
-  pub size : n ≡ sizeOf a
+  pub size : n ≡ written a

@@ -10,7 +10,7 @@ use Rattle.script_spec.specs.Command.{Command, commandWritten, left}
 use Rattle.script_spec.specs.Walk.{encoded}
 use Rattle.script_spec.specs.Faithful.{Faithful}
 use Rattle.write_bytes.specs.Writing.{lengthOf}
-use Rattle.sakyelbo.specs.Answers.{code, Says}
+use Rattle.sakyelbo.specs.Answers.{code, SaysAnswer}
 
 -- check's promise on a file, the memory at entry and at exit, and its answer
 pub record ChecksFile (file : Bytes) (work work′ : List ℕ) (r : ℕ) : Type 0 where
@@ -22,7 +22,7 @@ pub record ChecksFile (file : Bytes) (work work′ : List ℕ) (r : ℕ) : Type 
 -- encode's promise on a file, the memory and the script's buffer at entry and at exit, with a size n and the answer r
 pub record EncodesFile (file : Bytes) (work : List ℕ) (script : Bytes) (work′ : List ℕ) (script′ : Bytes) (n r : ℕ) : Type 0 where
   -- the script's length and 0, or 0 and the refusal
-  pub says : Says (lengthOf (encoded file (length work) (length script))) n r
+  pub says : SaysAnswer (lengthOf (encoded file (length work) (length script))) n r
   -- 0 is acceptance: the script is the first n bytes
   pub accepts : r ≡ 0 → encoded file (length work) (length script) ≡ accepted (take n script′)
   -- the script and zeros past it, or zeros alone
@@ -34,7 +34,7 @@ pub record EncodesFile (file : Bytes) (work : List ℕ) (script : Bytes) (work�
 
 -- a command is written into a buffer x, which becomes y, with a size n and the answer r
 pub record WritesCommand (c : Command) (x y : Bytes) (n r : ℕ) : Type 0 where
-  pub says : Says (lengthOf (commandWritten c (length x))) n r
+  pub says : SaysAnswer (lengthOf (commandWritten c (length x))) n r
   -- 0 is acceptance: the line is the first n bytes
   pub accepts : r ≡ 0 → commandWritten c (length x) ≡ accepted (take n y)
   pub holds : y ≡ left (commandWritten c (length x)) (length x)

@@ -7,7 +7,7 @@ ghost use Prim.Native.Nat.{_+_, _*_};
 ghost use Rattle.smtlib_script.specs.Writes.{commandAnswer};
 ghost use Rattle.encoder.specs.Promise.{encodedAs};
 ghost use Rattle.check_file.specs.Promise.{checkedAs};
-ghost use Rattle.sakyelbo.specs.Answers.{code, Says};
+ghost use Rattle.sakyelbo.specs.Answers.{code, SaysAnswer};
 
 // A refusal as one number.
 fn refusal(number: u32, place: u32) -> u64
@@ -28,7 +28,7 @@ pub fn of_check(checked: Checked) -> u64
 
 // The answer of a call that writes a command: the length behind `size`, and the number.
 pub fn of_command(written: WrittenCommand, size: &mut usize) -> u64
-    ensures { λ r. ⌜ Says (commandAnswer written) (now (size .exit)) r ⌝ }
+    ensures { λ r. ⌜ SaysAnswer (commandAnswer written) (now (size .exit)) r ⌝ }
 {
     match written {
         WrittenCommand::Length(n) => {
@@ -48,7 +48,7 @@ pub fn of_command(written: WrittenCommand, size: &mut usize) -> u64
 
 // Encode's answer: the script's length behind `size`, and the number.
 pub fn of_encode(encoded: Encoded, size: &mut usize) -> u64
-    ensures { λ r. ⌜ Says (encodedAs encoded) (now (size .exit)) r ⌝ }
+    ensures { λ r. ⌜ SaysAnswer (encodedAs encoded) (now (size .exit)) r ⌝ }
 {
     match encoded {
         Encoded::Script(n) => {

@@ -14,7 +14,7 @@ use Rattle.script_spec.specs.Tree.{Tm, Mark, Forest, node, nil, cons, trees, ch
 use Rattle.script_spec.specs.File.{distinct}
 use Rattle.script_spec.specs.Spelling.{Names, sort}
 use Rattle.script_spec.specs.Smtlib.{Token, flat, wordEnd}
-use Rattle.script_spec.specs.Faithful.{Thing, term, func, type, Needed, NeededTerm, isInput, isChild, nameOf, wellNamed, lettered, full, Role, declares, defines, asserts, command, named, asserted, Definition, definitions, unfolded, Right, inOrder, unique, Every, every, also, things, Says}
+use Rattle.script_spec.specs.Faithful.{Thing, term, func, type, Needed, NeededTerm, isInput, isChild, nameOf, wellNamed, lettered, full, Role, declares, defines, asserts, command, introduced, asserted, Definition, definitions, unfolded, Right, inOrder, unique, Every, every, also, things, Says}
 use Rattle.script_spec.proofs.Computes
 use Rattle.script_spec.proofs.Laws.{and-parts, or-left, or-right, all-parts, eqTy-eq, eqTm-refl}
 use Rattle.script_spec.proofs.Defined.{definitions-append}
@@ -32,8 +32,8 @@ module _ (e : Enums) (ν : Names) where
   unfolding things collect
   names-read [] h = refl
   names-read (r ∷ rs) h =
-      let q = all-parts (wellNamed ν) (named r) (things rs) h in
-      rw (role-name e ν r (q .0), names-read rs (q .1)) (sym (map-append (nameOf ν) (named r) (things rs)))
+      let q = all-parts (wellNamed ν) (introduced r) (things rs) h in
+      rw (role-name e ν r (q .0), names-read rs (q .1)) (sym (map-append (nameOf ν) (introduced r) (things rs)))
 
   assertions-read : (ds : List Definition) (rs : List Role) → Every (Right e ν ds) rs
       → map (λ b. flat (unfolded ds b)) (collect assertionRead (map (command e ν) rs)) ≡ map (full e ν) (collect asserted rs)
@@ -78,8 +78,8 @@ booleanThing (term t) = boolean t
 booleanThing (func f) = true
 booleanThing (type ty) = true
 
-role-boolean : (ν : Names) (r : Role) → T (all booleanThing (named r)) → DefinesBool ν r
-unfolding named all booleanThing DefinesBool
+role-boolean : (ν : Names) (r : Role) → T (all booleanThing (introduced r)) → DefinesBool ν r
+unfolding introduced all booleanThing DefinesBool
 role-boolean ν (declares th) h = tt
 role-boolean ν (defines t b) h = boolean-sort ν t (and-parts (boolean t) true h .0)
 role-boolean ν (asserts t b) h = tt
@@ -89,17 +89,17 @@ module _ (e : Enums) (ν : Names) where
   unfolding things collect definitionsRead definitions
   definitions-read [] h k = refl
   definitions-read (r ∷ rs) h k =
-      let p = all-parts (wellNamed ν) (named r) (things rs) h in
-      let q = all-parts booleanThing (named r) (things rs) k in
+      let p = all-parts (wellNamed ν) (introduced r) (things rs) h in
+      let q = all-parts booleanThing (introduced r) (things rs) k in
       rw (role-definition e ν r (p .0) (role-boolean ν r (q .0)), definitions-read rs (p .1) (q .1)) (sym (definitions-append ν (r ∷ []) rs))
 
   order-read : (seen : List Bytes) (rs : List Role) → T (all (wellNamed ν) (things rs)) → T (all booleanThing (things rs)) → inOrder e ν seen rs ≡ orderRead seen (map (command e ν) rs)
   unfolding things collect inOrder orderRead
   order-read seen [] h k = refl
   order-read seen (r ∷ rs) h k =
-      let p = all-parts (wellNamed ν) (named r) (things rs) h in
-      let q = all-parts booleanThing (named r) (things rs) k in
-      rw (role-own e ν r (p .0), role-name e ν r (p .0), role-uses e ν r (p .0) (role-boolean ν r (q .0)), order-read (map (nameOf ν) (named r) ++ seen) rs (p .1) (q .1)) refl
+      let p = all-parts (wellNamed ν) (introduced r) (things rs) h in
+      let q = all-parts booleanThing (introduced r) (things rs) k in
+      rw (role-own e ν r (p .0), role-name e ν r (p .0), role-uses e ν r (p .0) (role-boolean ν r (q .0)), order-read (map (nameOf ν) (introduced r) ++ seen) rs (p .1) (q .1)) refl
 
 -- ---- unlike terms
 

@@ -10,10 +10,11 @@ use mathlib.Core.Option.{some, Option·map}
 use lib.Dec.{T, eqb}
 use lib.ListN.{length, getD, getElem?, drop}
 use Rattle.script_spec.specs.Base.{Bytes, bytes, any, collect}
-use Rattle.script_spec.specs.Tree.{Ty, Tm, node, nil, forest, Bool·, Var, App, Plain, PlainOp, And, Eq, Not}
+use Rattle.script_spec.specs.Tree.{Tm, node, nil, Var, And, Eq, Not}
 use Rattle.script_spec.specs.File.{TermFile, type, term, input, members, inputs}
 use Rattle.script_spec.specs.Smtlib.{word, commandsOf}
 use Rattle.script_spec.specs.Faithful.{Faithful, Says, full, isInput, isChild, also, every}
+use Rattle.script_spec.proofs.Asked.{bool, apply}
 use Rattle.script_spec.proofs.Computes
 use Rattle.script_spec.proofs.Laws.{any-left, any-right}
 use Rattle.script_examples.proofs.Lines.{lines, afterOption}
@@ -23,17 +24,9 @@ use Rattle.script_examples.proofs.Inversion.{boolean, names-unique, ass
 
 -- ---- terms and files
 
--- the type Bool
-abbrev pub bool : Ty
-bool = node Bool· nil
-
 -- a variable of type Bool
 abbrev pub var : String → Tm
 var id = node (Var (bytes id) bool) nil
-
--- an operator with result Bool
-abbrev pub apply : PlainOp → List Tm → Tm
-apply o ts = node (App bool (Plain o)) (forest ts)
 
 -- two variables, and terms of them
 abbrev pub a : Tm

@@ -42,7 +42,7 @@ unfolding Command.spaced Command.headed Command.listed Command.constructorList C
 command = tt
 
 unfoldable pub spelling : Unit {0}
-unfolding Spelling.extName Spelling.bitVecSort Spelling.datatypeSort Spelling.sortFrom Spelling.sort Spelling.plainName Spelling.extOpName Spelling.bitVec Spelling.asSort Spelling.prefixBy Spelling.prefixLength Spelling.extValue Spelling.elementBy Spelling.patternElement Spelling.pattern Spelling.memberName Spelling.attributeName Spelling.selectorBy Spelling.selector Spelling.application Spelling.negated Spelling.memberBy Spelling.entityBy Spelling.setValue Spelling.recordValue Spelling.bodyAt Spelling.body Spelling.inlined Spelling.atom Spelling.optionDeclaration Spelling.numberedFrom Spelling.entityConstructors Spelling.recordConstructor Spelling.extConstructors Spelling.constructors Spelling.typeDeclaration Spelling.entityComment Spelling.typeComment Spelling.funDeclaration
+unfolding Spelling.extName Spelling.bitVecSort Spelling.datatypeSort Spelling.sortFrom Spelling.sort Spelling.plainName Spelling.extOpName Spelling.bitVec Spelling.asSort Spelling.prefixBy Spelling.prefixLength Spelling.extValue Spelling.elementBy Spelling.patternElement Spelling.pattern Spelling.memberName Spelling.attributeName Spelling.selectorBy Spelling.selector Spelling.application Spelling.negated Spelling.memberBy Spelling.entityBy Spelling.setValue Spelling.recordValue Spelling.bodyOver Spelling.body Spelling.inlined Spelling.atom Spelling.optionDeclaration Spelling.numberedFrom Spelling.entityConstructors Spelling.recordConstructor Spelling.extConstructors Spelling.constructors Spelling.typeDeclaration Spelling.entityComment Spelling.typeComment Spelling.funDeclaration
 spelling = tt
 
 unfoldable pub walk : Unit {0}
@@ -50,9 +50,9 @@ unfolding Walk.start Walk.enterType Walk.enterFun Walk.enterTerm Walk.write Walk
 walk = tt
 
 unfoldable pub smtlib : Unit {0}
-unfolding Smtlib.next Smtlib.kept Smtlib.uncommented Smtlib.wordEnd Smtlib.separator Smtlib.stepOutside Smtlib.step Smtlib.final Smtlib.tokensFrom Smtlib.tokens Smtlib.flat Smtlib.isZero Smtlib.closed Smtlib.depthAfter Smtlib.ended Smtlib.readOn Smtlib.lastCommand Smtlib.commandsFrom Smtlib.commandsOf Smtlib.byteUnless Smtlib.undoubled Smtlib.hexDigit Smtlib.hexRun Smtlib.braced Smtlib.escapeFrom Smtlib.escapeAt Smtlib.unescaped Smtlib.readBack
+unfolding Smtlib.next Smtlib.outsideComment Smtlib.uncommented Smtlib.wordEnd Smtlib.separator Smtlib.stepOutside Smtlib.step Smtlib.final Smtlib.tokensFrom Smtlib.tokens Smtlib.flat Smtlib.isZero Smtlib.closed Smtlib.depthAfter Smtlib.ended Smtlib.readOn Smtlib.lastCommand Smtlib.commandsFrom Smtlib.commandsOf Smtlib.byteUnless Smtlib.undoubled Smtlib.hexDigit Smtlib.hexRun Smtlib.braced Smtlib.escapeFrom Smtlib.escapeAt Smtlib.unescaped Smtlib.readBack
 smtlib = tt
 
 unfoldable pub faithful : Unit {0}
-unfolding Faithful.Needed Faithful.nameOf Faithful.digitsOnly Faithful.lettered Faithful.datatypeNamed Faithful.wellNamed Faithful.unique Faithful.full Faithful.declaration Faithful.command Faithful.named Faithful.asserted Faithful.definitions Faithful.replacedWord Faithful.replaced Faithful.unfolded Faithful.Right Faithful.stem Faithful.isExtName Faithful.used Faithful.namesIn Faithful.afterExtName Faithful.operands Faithful.uses Faithful.own Faithful.inOrder Faithful.things Faithful.Faithful
+unfolding Faithful.Needed Faithful.nameOf Faithful.digitsOnly Faithful.lettered Faithful.datatypeNamed Faithful.wellNamed Faithful.unique Faithful.full Faithful.declaration Faithful.command Faithful.introduced Faithful.asserted Faithful.definitions Faithful.replacedWord Faithful.replaced Faithful.unfolded Faithful.Right Faithful.stem Faithful.isExtName Faithful.used Faithful.namesIn Faithful.afterExtName Faithful.operands Faithful.uses Faithful.own Faithful.inOrder Faithful.things Faithful.Faithful
 faithful = tt

@@ -12,6 +12,10 @@ use borrow.Author.Tests.{eq-eqb}
 use Rattle.script_spec.specs.Base.{Bytes, isYes, same, any, all, place, placeFrom, collect, isSome}
 use Rattle.script_spec.specs.Tree.{Ty, Fun, Tm, eqTy, eqFun, eqTm, tyDec, funDec, tmDec}
 
+-- from a case that does not occur
+pub never : {A : Type 0} → _≡_ {A = ℕ} 0 1 → A
+never h = absurd (omega arith)
+
 -- ---- Booleans
 
 pub and-parts : (x y : Bool) → T (x && y) → T x × T y
@@ -56,7 +60,7 @@ never-true false h = refl
 
 -- what is neither is false on both sides
 pub or-false : (x y : Bool) → (x || y) ≡ false → (x ≡ false) × (y ≡ false)
-or-false true y h = let z : _≡_ {A = ℕ} 0 1 = cc in absurd (omega arith)
+or-false true y h = never cc
 or-false false y h = (refl, h)
 
 pub and-false : (x : Bool) → (x && false) ≡ false
@@ -71,10 +75,6 @@ and-true false = refl
 pub either-way : {A : Type 0} (P : A → Type 0) (x y : A) (b : Bool) → P x → P y → P (elim b [ false ↦ x | true ↦ y ])
 either-way P x y true h k = k
 either-way P x y false h k = h
-
--- from a case that does not occur
-pub never : {A : Type 0} → _≡_ {A = ℕ} 0 1 → A
-never h = absurd (omega arith)
 
 -- ---- lists
 

@@ -1,7 +1,8 @@
 -- The theorems about the definitions, by subject.
--- laws of tests and lists, and a name for each module's definitions
+-- laws of tests, lists and readers, and a name for each module's definitions
 pub mod Laws
 pub mod Lists
+pub mod Readers
 pub mod Computes
 -- reading a script: its commands, and texts that may stand inside one
 pub mod Reading

@@ -16,7 +16,7 @@ use Rattle.script_spec.specs.Command.{Command, defineFun}
 use Rattle.script_spec.specs.Spelling.{Names, sort, body, atom, inlined}
 use Rattle.script_spec.specs.Walk.{State, _>>_, names, typeName, enterTerm, write, ensure, enter, declareVar, defineTerm, lowEnough, defineEntity, recordGet, operatorStep, defineApp, encodeNew}
 use Rattle.script_spec.specs.Faithful.{Thing, term, func, type, NeededTerm, isApplied, Needed}
-use Rattle.script_spec.proofs.Laws.{is-false}
+use Rattle.script_spec.proofs.Laws.{is-false, never}
 use Rattle.script_spec.proofs.Log.{commandOf, silent, HasType, HasParts, nameable}
 use Rattle.script_spec.proofs.Steps.{Ends, goes, ends-then, ends-ensure, ends-map, goes-map}
 use Rattle.script_spec.proofs.Negated.{isFalsehood-by}
@@ -240,10 +240,10 @@ module _ (e : Enums) (ins : List Tm) where
       go : (n : Negation) → negation t ≡ n → Ends (Finished (App ty op) ts s log) (Refusal ins) (defineApp e t op n s)
       go ordinary p = ends-then (operatorStep e t op) (defineTerm e t) s (ends-map (λ s₁ l. after s₁ l p) (operatorStep-logs op r))
       go falsehood p =
-          goes (entered-inlined r (rw (isFalsehood-by t falsehood p) tt) (negation-applied log (App ty op) ts (λ q. let z : _≡_ {A = ℕ} 0 1 = cc in omega arith)))
+          goes (entered-inlined r (rw (isFalsehood-by t falsehood p) tt) (negation-applied log (App ty op) ts (λ q. never cc)))
       go (comparison n) p =
           defined r (rw (isFalsehood-by t (comparison n) p) tt) tt (rw (isFalsehood-by t (comparison n) p) tt)
-          (negation-applied log (App ty op) ts (λ q. let z : _≡_ {A = ℕ} 0 1 = cc in omega arith))
+          (negation-applied log (App ty op) ts (λ q. never cc))
 
   pub encodeNew-logs : (m : Mark) (ts : Forest Mark) (s : State) (log : List Thing) → Ready m ts s log → Ends (Finished m ts s log) (Refusal ins) (encodeNew e (node m ts) s)
   unfolding encodeNew inlined isVariable isFalsehood negation markDec Applied declareVar commandOf silent collect

@@ -113,10 +113,10 @@ command e ν (defines t b) =
 command e ν (asserts t b) = tokens (bytes "(assert ") ++ (b ++ tokens (bytes ")"))
 
 -- the thing that a command declares or defines
-unfoldable pub named : Role → List Thing
-named (declares th) = th ∷ []
-named (defines t b) = term t ∷ []
-named (asserts t b) = []
+unfoldable pub introduced : Role → List Thing
+introduced (declares th) = th ∷ []
+introduced (defines t b) = term t ∷ []
+introduced (asserts t b) = []
 
 -- the input that a command asserts
 unfoldable pub asserted : Role → List Tm
@@ -219,7 +219,7 @@ own (asserts t b) = []
 unfoldable pub inOrder : Enums → Names → List Bytes → List Role → Bool
 inOrder e ν seen [] = true
 inOrder e ν seen (r ∷ rs) =
-    all (λ n. any (same n) (map (nameOf ν) (own r) ++ seen)) (uses e ν r) && inOrder e ν (map (nameOf ν) (named r) ++ seen) rs
+    all (λ n. any (same n) (map (nameOf ν) (own r) ++ seen)) (uses e ν r) && inOrder e ν (map (nameOf ν) (introduced r) ++ seen) rs
 
 -- ---- demand 3
 
@@ -230,7 +230,7 @@ pub data Every {A : Type 0} (P : A → Type 0) : List A → Type 0 where
 
 -- the things that commands declare or define
 unfoldable pub things : List Role → List Thing
-things rs = collect named rs
+things rs = collect introduced rs
 
 -- these commands declare, define and assert what these inputs need, and nothing else
 pub record Says (e : Enums) (ins : List Tm) (cs : List (List Token)) : Type 0 where

@@ -1,11 +1,12 @@
--- The words that commands begin with.
+-- The words that lines begin with.
 -- Assumes nothing.
 use Rattle.script_spec.specs.Base.{Bytes, bytes}
 use Rattle.smtlib_script.specs.declared.line.Word.{Word}
-use Rattle.smtlib_script.specs.declared.line.Word.the-variants.{DeclareDatatype, DeclareConst, DeclareFun, DefineFun, Assert, SetLogic, SetOption}
+use Rattle.smtlib_script.specs.declared.line.Word.the-variants.{Comment, DeclareDatatype, DeclareConst, DeclareFun, DefineFun, Assert, SetLogic, SetOption}
 
--- a parenthesis, a command's word and a space
+-- a comment's two bytes; else a parenthesis, a command's word and a space
 unfoldable pub opened : Word → Bytes
+opened Comment = bytes "; "
 opened DeclareDatatype = bytes "(declare-datatype "
 opened DeclareConst = bytes "(declare-const "
 opened DeclareFun = bytes "(declare-fun "

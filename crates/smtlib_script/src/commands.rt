@@ -153,7 +153,7 @@ pub fn check_sat(out: &mut [u8]) -> WrittenCommand
     ensures { λ r. ⌜ Writes command.checkSat (now (out .entry)) (now (out .exit)) r ⌝ }
 {
     let room = out.len();
-    let length = write_bytes::put_at(out, 0, room, b"(check-sat)\n");
+    let length = crate::line::check_sat(out, room);
     finish(out, length)
 }
 
@@ -162,7 +162,7 @@ pub fn get_model(out: &mut [u8]) -> WrittenCommand
     ensures { λ r. ⌜ Writes command.getModel (now (out .entry)) (now (out .exit)) r ⌝ }
 {
     let room = out.len();
-    let length = write_bytes::put_at(out, 0, room, b"(get-model)\n");
+    let length = crate::line::get_model(out, room);
     finish(out, length)
 }
 
@@ -171,7 +171,7 @@ pub fn reset(out: &mut [u8]) -> WrittenCommand
     ensures { λ r. ⌜ Writes command.reset (now (out .entry)) (now (out .exit)) r ⌝ }
 {
     let room = out.len();
-    let length = write_bytes::put_at(out, 0, room, b"(reset)\n");
+    let length = crate::line::reset(out, room);
     finish(out, length)
 }
 
@@ -180,6 +180,6 @@ pub fn exit(out: &mut [u8]) -> WrittenCommand
     ensures { λ r. ⌜ Writes command.exit (now (out .entry)) (now (out .exit)) r ⌝ }
 {
     let room = out.len();
-    let length = write_bytes::put_at(out, 0, room, b"(exit)\n");
+    let length = crate::line::exit(out, room);
     finish(out, length)
 }

@@ -1,16 +1,18 @@
-// The line of each command that has texts, written with its final byte 10 into the rest of a lent buffer. Of the rest at most `room`
+// The line of each command, written with its final byte 10 into the rest of a lent buffer. Of the rest at most `room`
 // bytes count, and the answer is the length of the line, or above the room where the line is longer.
 
 ghost use mathlib.Core.Path.{_≡_};
 ghost use mathlib.Core.Bool.{false};
 ghost use mathlib.Core.List.{[], map, zip};
 ghost use Rattle.script_spec.specs.Base.{empty};
-ghost use Rattle.script_spec.specs.Command.{line, spaced, comment as commented, declareDatatype, declareConst, declareFun, defineFun, assertThat, setLogic, setOption};
+ghost use Rattle.script_spec.specs.Command.{line, spaced, comment as commented, declareDatatype, declareConst, declareFun, defineFun, assertThat, setLogic, setOption, checkSat, getModel, reset, exit};
 ghost use Rattle.write_bytes.specs.Writing.{Appends, Wrote};
 ghost use Rattle.smtlib_script.specs.Opened.{opened};
+ghost use Rattle.smtlib_script.specs.declared.line.Word.the-variants.{DefineFun};
 
-// The words of these commands.
+// What lines begin with: a comment, and the words of the commands that have texts.
 pub enum Word {
+    Comment,
     DeclareDatatype,
     DeclareConst,
     DeclareFun,
@@ -20,15 +22,23 @@ pub enum Word {
     SetOption,
 }
 
-// A parenthesis, a command's word and a space.
+// What a definition begins with. Most lines of a script do, and these bytes by themselves cost less than the choice of a word.
+pub fn put_define_fun(out: &mut [u8], at: usize, limit: usize) -> usize
+    ensures { λ r. ⌜ Appends limit (now (out .entry)) at (now (out .exit)) r (opened DefineFun) ⌝ }
+{
+    write_bytes::put_at(out, at, limit, b"(define-fun ")
+}
+
+// What a line begins with: `; `, or a parenthesis, a command's word and a space.
 pub fn put_word(out: &mut [u8], at: usize, limit: usize, word: Word) -> usize
     ensures { λ r. ⌜ Appends limit (now (out .entry)) at (now (out .exit)) r (opened word) ⌝ }
 {
     match word {
+        Word::Comment => write_bytes::put_at(out, at, limit, b"; "),
         Word::DeclareDatatype => write_bytes::put_at(out, at, limit, b"(declare-datatype "),
         Word::DeclareConst => write_bytes::put_at(out, at, limit, b"(declare-const "),
         Word::DeclareFun => write_bytes::put_at(out, at, limit, b"(declare-fun "),
-        Word::DefineFun => write_bytes::put_at(out, at, limit, b"(define-fun "),
+        Word::DefineFun => put_define_fun(out, at, limit),
         Word::Assert => write_bytes::put_at(out, at, limit, b"(assert "),
         Word::SetLogic => write_bytes::put_at(out, at, limit, b"(set-logic "),
         Word::SetOption => write_bytes::put_at(out, at, limit, b"(set-option "),
@@ -42,7 +52,7 @@ pub fn comment(rest: &mut [u8], room: usize, comment: &[u8]) -> usize
     if room == 0 {
         return 1;
     }
-    let a = write_bytes::put_at(rest, 0, room, b"; ");
+    let a = put_word(rest, 0, room, Word::Comment);
     let b = write_text::put_comment_text(rest, a, room, comment);
     write_bytes::put_at(rest, b, room, b"\n")
 }
@@ -189,4 +199,44 @@ pub fn set_option(rest: &mut [u8], room: usize, option: &[u8], value: &[u8]) -> 
     let b = write_bytes::put_at(rest, a, room, b":");
     let c = crate::list::put_two(rest, b, room, option, value);
     write_bytes::put_at(rest, c, room, b")\n")
+}
+
+// `(check-sat)`.
+pub fn check_sat(rest: &mut [u8], room: usize) -> usize
+    ensures { λ r. ⌜ Wrote room (now (rest .entry)) (now (rest .exit)) r (line checkSat) ⌝ }
+{
+    if room == 0 {
+        return 1;
+    }
+    write_bytes::put_at(rest, 0, room, b"(check-sat)\n")
+}
+
+// `(get-model)`.
+pub fn get_model(rest: &mut [u8], room: usize) -> usize
+    ensures { λ r. ⌜ Wrote room (now (rest .entry)) (now (rest .exit)) r (line getModel) ⌝ }
+{
+    if room == 0 {
+        return 1;
+    }
+    write_bytes::put_at(rest, 0, room, b"(get-model)\n")
+}
+
+// `(reset)`.
+pub fn reset(rest: &mut [u8], room: usize) -> usize
+    ensures { λ r. ⌜ Wrote room (now (rest .entry)) (now (rest .exit)) r (line reset) ⌝ }
+{
+    if room == 0 {
+        return 1;
+    }
+    write_bytes::put_at(rest, 0, room, b"(reset)\n")
+}
+
+// `(exit)`.
+pub fn exit(rest: &mut [u8], room: usize) -> usize
+    ensures { λ r. ⌜ Wrote room (now (rest .entry)) (now (rest .exit)) r (line exit) ⌝ }
+{
+    if room == 0 {
+        return 1;
+    }
+    write_bytes::put_at(rest, 0, room, b"(exit)\n")
 }

@@ -2,7 +2,7 @@
 -- other tables and the index.
 -- Assumes nothing.
 use mathlib.Core.Path.{_≡_, refl, sym, ap, _∙_}
-use mathlib.Core.Bool.{Bool, true, false}
+use mathlib.Core.Bool.{Bool, true, true≢false}
 use mathlib.Core.List.{List, [], _∷_, _++_}
 use Prim.Native.Nat.{ℕ, zero, suc, _+_, _-_, _*_, _≤_, _<_}
 use native.Mathlib.Numerals.{add-one}
@@ -37,10 +37,6 @@ kept-refl work k = record { size = refl; others = λ column i h. refl }
 pub kept-trans : {work work′ work″ : List ℕ} {k : ℕ} → Kept work work′ k → Kept work′ work″ k → Kept work work″ k
 kept-trans p q = record { size = q .size ∙ p .size; others = λ column i h. q .others column i h ∙ p .others column i h }
 
--- no column is one of names and not
-not-both : (b : Bool) → b ≡ true → b ≡ false → ⊥
-not-both b p q = let z : _≡_ {A = Bool} true false = sym p ∙ q in absurd (let o : _≡_ {A = ℕ} 0 1 = cc in omega arith)
-
 -- a column of names has names, and so has the one that it shares with
 names-both : (column : ℕ) → isName column ≡ true → (hasNames column ≡ true) × (hasNames (shared column) ≡ true)
 unfolding isName hasNames shared placed
@@ -50,7 +46,7 @@ names-both column h = go (ℕ-discrete column typeName) (ℕ-discrete column fun
     go (yes e) b c = rw e (refl, refl)
     go (no a) (yes e) c = rw e (refl, refl)
     go (no a) (no b) (yes e) = rw e (refl, refl)
-    go (no a) (no b) (no c) = absurd (not-both (isName column) h (rw (ne-eqb column typeName a, ne-eqb column funName b, ne-eqb column termName c)))
+    go (no a) (no b) (no c) = absurd (true≢false (sym h ∙ rw (ne-eqb column typeName a, ne-eqb column funName b, ne-eqb column termName c)))
 
 pub kept-store : (work : List ℕ) (k column i v : ℕ) → isName column ≡ true → Kept work (nameStored work k column i v) k
 unfolding nameStored
@@ -60,7 +56,7 @@ kept-store work k column i v h =
       size = length-store work k column i (raised v);
       others = λ column′ i′ n.
           cell-store-apart work k column i (raised v) column′ i′
-          (record { other = λ e _. not-both (hasNames column′) (ap hasNames (sym e) ∙ both .0) n; facing = λ e _. not-both (hasNames column′) (ap hasNames (sym e) ∙ both .1) n });
+          (record { other = λ e _. true≢false (sym (ap hasNames (sym e) ∙ both .0) ∙ n); facing = λ e _. true≢false (sym (ap hasNames (sym e) ∙ both .1) ∙ n) });
     }
 
 module _ {file : Bytes} {f : TermFile} {work work′ : List ℕ} {k : ℕ} (K : Kept work work′ k) where

@@ -5,7 +5,7 @@ use mathlib.Core.Path.{_≡_, refl, sym, ap, _∙_}
 use mathlib.Core.Bool.{Bool, true, false, not}
 use mathlib.Core.List.{List, [], _∷_, _++_}
 use mathlib.Core.Option.{Option, none, some}
-use Prim.Native.Nat.{ℕ, zero, suc, _+_, _<_}
+use Prim.Native.Nat.{ℕ, zero, suc, _<_}
 use native.Mathlib.Nat.{not-suc-le-zero}
 use native.Mathlib.Decide.{ℕ-discrete}
 use native.Mathlib.Omega.{arith}
@@ -13,9 +13,11 @@ use lib.Dec.{T, eqb}
 use borrow.Author.Tests.{ne-eqb}
 use lib.ListN.{length, length-append}
 use Rattle.script_spec.specs.Base.{place, placeFrom, any, isSome}
-use Rattle.script_spec.proofs.Laws.{is-true}
+use Rattle.script_spec.proofs.Laws.{is-true, never}
 use Rattle.index.proofs.Firsts.{FirstEqual, Equality, any-place, first-below, first-injective}
-use Rattle.walk_names.specs.Naming.{num, placeOf, oneIfFree, free, Table}
+use Rattle.index.proofs.Empties.{empties-all, empties-same}
+use Rattle.index.specs.Empties.{empties, oneIfEmpty}
+use Rattle.walk_names.specs.Naming.{num, placeOf, Table}
 
 -- ---- places
 
@@ -49,31 +51,21 @@ module _ {A : Type 0} (p : A → Bool) where
     where
       go : (b : Bool) (o : Option ℕ) → placeFrom b o ≡ none → (o ≡ none → place p (xs ++ (x ∷ [])) ≡ some (length xs))
           → placeFrom b (place p (xs ++ (x ∷ []))) ≡ some (suc (length xs))
-      go true o h k = absurd (let z : _≡_ {A = ℕ} 0 1 = cc in omega arith)
+      go true o h k = never cc
       go false none h k = rw (k refl)
-      go false (some n) h k = absurd (let z : _≡_ {A = ℕ} 0 1 = cc in omega arith)
+      go false (some n) h k = never cc
 
 -- ---- free entries
 
-free-all : (column : ℕ → ℕ) (k : ℕ) → ((i : ℕ) → i < k → column i ≡ 0) → free column k ≡ k
-unfolding free oneIfFree
-free-all column zero h = refl
-free-all column (suc k) h = rw (h k (omega arith), free-all column k (λ i l. h i (omega arith))) (omega arith)
-
-free-same : (column column′ : ℕ → ℕ) (k : ℕ) → ((i : ℕ) → i < k → column′ i ≡ column i) → free column′ k ≡ free column k
-unfolding free
-free-same column column′ zero h = refl
-free-same column column′ (suc k) h = rw (h k (omega arith), free-same column column′ k (λ i l. h i (omega arith)))
-
 -- a free entry that is taken
-free-taken : (column column′ : ℕ → ℕ) (i v k : ℕ) → i < k → column i ≡ 0 → column′ i ≡ suc v
-    → ((j : ℕ) → (j ≡ i → ⊥) → column′ j ≡ column j) → suc (free column′ k) ≡ free column k
-unfolding free oneIfFree
-free-taken column column′ i v zero l z s h = absurd (not-suc-le-zero l)
-free-taken column column′ i v (suc k) l z s h = go (ℕ-discrete k i) (λ m. free-taken column column′ i v k m z s h)
+empties-less : (column column′ : ℕ → ℕ) (i v k : ℕ) → i < k → column i ≡ 0 → column′ i ≡ suc v
+    → ((j : ℕ) → (j ≡ i → ⊥) → column′ j ≡ column j) → suc (empties column′ k) ≡ empties column k
+unfolding empties oneIfEmpty
+empties-less column column′ i v zero l z s h = absurd (not-suc-le-zero l)
+empties-less column column′ i v (suc k) l z s h = go (ℕ-discrete k i) (λ m. empties-less column column′ i v k m z s h)
   where
-    go : Dec (k ≡ i) → (i < k → suc (free column′ k) ≡ free column k) → suc (free column′ (suc k)) ≡ free column (suc k)
-    go (yes e) less = rw (e, z, s, free-same column column′ i (λ j m. h j (omega arith))) (omega arith)
+    go : Dec (k ≡ i) → (i < k → suc (empties column′ k) ≡ empties column k) → suc (empties column′ (suc k)) ≡ empties column (suc k)
+    go (yes e) less = rw (e, z, s, empties-same column column′ i (λ j m. h j (omega arith))) (omega arith)
     go (no n) less = rw (h k n) (omega (arith, less (omega arith)))
 
 -- ---- tables
@@ -82,12 +74,12 @@ module _ {A : Type 0} {eq : A → A → Bool} {count : ℕ} {name : ℕ → A} {
   -- the empty table
   pub table-start : FirstEqual count name first → (column : ℕ → ℕ) → ((i : ℕ) → i < count → column i ≡ 0) → Table eq count name first column []
   unfolding place num
-  table-start F column h = record { place-is = λ n l. h (first n) (first-below F n l); taken = omega (arith, free-all column count h) }
+  table-start F column h = record { place-is = λ n l. h (first n) (first-below F n l); taken = omega (arith, empties-all column count h) }
 
   -- a column that has the same entries for the records
   pub table-same : FirstEqual count name first → {column : ℕ → ℕ} {table : List A} (column′ : ℕ → ℕ) → ((i : ℕ) → i < count → column′ i ≡ column i)
       → Table eq count name first column table → Table eq count name first column′ table
-  table-same F {column} column′ h t = record { place-is = λ n l. h (first n) (first-below F n l) ∙ t .place-is n l; taken = rw (free-same column column′ count h) (t .taken) }
+  table-same F {column} column′ h t = record { place-is = λ n l. h (first n) (first-below F n l) ∙ t .place-is n l; taken = rw (empties-same column column′ count h) (t .taken) }
 
   -- a record is in the table where its entry is not 0
   pub table-known : {column : ℕ → ℕ} {table : List A} → Table eq count name first column table
@@ -115,7 +107,7 @@ module _ {A : Type 0} {eq : A → A → Bool} {count : ℕ} {name : ℕ → A} {
     table-enter {column} {table} column′ n l t z s h = record {
       place-is = λ m q. entry m q (ℕ-discrete (first m) (first n));
       taken =
-          let less : suc (free column′ count) ≡ free column count = free-taken column column′ (first n) (length table) count (first-below F n l) z s h in
+          let less : suc (empties column′ count) ≡ empties column count = empties-less column column′ (first n) (length table) count (first-below F n l) z s h in
           simp length-append (omega (arith, t .taken));
     }
       where

@@ -3,9 +3,9 @@
 ghost use mathlib.Core.Path.{_≡_};
 ghost use mathlib.Core.List.{[], _∷_};
 ghost use Rattle.script_spec.specs.Walk.{numbered};
-ghost use Rattle.index.specs.Cells.{cell};
+ghost use Rattle.index.specs.Cells.{cell, termFirst};
 ghost use Rattle.write_bytes.specs.Writing.{Appends};
-ghost use Rattle.walk_names.specs.Naming.{nameAt, raised, nameStored, placeOf};
+ghost use Rattle.walk_names.specs.Naming.{nameAt, termName, raised, nameStored, placeOf};
 
 // The columns of the names: those of depths, which only check needs, serve for types and terms.
 pub const TYPE_NAME: usize = index::TYPE_DEPTH;
@@ -14,24 +14,37 @@ pub const FUN_NAME: usize = index::FUN_NAME;
 
 pub const TERM_NAME: usize = index::TERM_DEPTH;
 
+// How much more a name is stored with: the greatest depth.
+const RAISE: u32 = 256;
+
+// The first name that does not fit with that much more.
+const TOO_LARGE: u32 = 4294967040;
+
 // What stands for the name of the record with number n, by the columns of first equal records and of names: 0 where it has none.
 pub fn get(work: &[u32], rows: usize, first: usize, column: usize, n: usize) -> u32
     ensures { λ r. ⌜ r ≡ nameAt (now (work .entry)) rows first column n ⌝ }
 {
     let at = index::get(work, rows, first, n);
     let v = index::get(work, rows, column, at as usize);
-    if v < 256 {
+    if v < RAISE {
         return 0;
     }
-    v - 256
+    v - RAISE
+}
+
+// What stands for the name of the term with number n.
+pub fn term_name(work: &[u32], rows: usize, n: u32) -> u32
+    ensures { λ r. ⌜ r ≡ nameAt (now (work .entry)) rows termFirst termName n ⌝ }
+{
+    get(work, rows, index::TERM_FIRST, TERM_NAME, n as usize)
 }
 
 // What is stored for a name, 0 where that does not fit.
 fn raised(v: u32) -> u32
     ensures { λ r. ⌜ r ≡ raised v ⌝ }
 {
-    if v < 4294967040 {
-        return v + 256;
+    if v < TOO_LARGE {
+        return v + RAISE;
     }
     0
 }

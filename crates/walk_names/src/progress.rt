@@ -3,16 +3,16 @@ ghost use mathlib.Core.Path.{_≡_};
 ghost use Prim.Native.Nat.{_+_, min};
 ghost use Rattle.write_bytes.specs.Writing.{ceiling, moved};
 
-// The place in the script and how many of its bytes count; how many types, functions and terms have a name; the number of a refusal, 0
-// for none, and the number of the refused term.
+// The place in the script and how many of its bytes count; how many types, functions and terms have a name; the number of the refused
+// term, and the number of the refusal, 0 for none, which is asked for at each step and stands last, so that the rest is copied in one go.
 pub struct Progress {
     pub at: usize,
     pub limit: usize,
     pub types: u32,
     pub funs: u32,
     pub terms: u32,
-    pub refused: u32,
     pub term: u32,
+    pub refused: u32,
 }
 
 // One more, or the greatest number of 32 bits again.

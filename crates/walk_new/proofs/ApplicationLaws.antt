@@ -25,7 +25,7 @@ use Rattle.walk_names.specs.declared.progress.Progress.{Progress}
 use Rattle.walk_names.proofs.Running.{advances-by}
 use Rattle.write_atoms.specs.Records.{TermIs}
 use Rattle.write_terms.specs.Definitions.{OrdinaryIs, ComparisonIs}
-use Rattle.walk_new.specs.Steps.{enterWalk, Enters}
+use Rattle.walk_new.specs.Steps.{enterWalk, EntersTerm}
 use Rattle.walk_new.specs.News.{AppAt, KnownAt, defineWalk, operatorWalk, ordinaryWalk, appWalk}
 
 -- the step of an application is that of what becomes of it
@@ -44,7 +44,7 @@ answered : {file : Bytes} {work : List ℕ} {sizes : Sizes} {n : ℕ} {f : TermF
 answered N e I l = sym (N .go _ I l) ∙ ap negationSaid e
 
 module _ {file : Bytes} {sizes : Sizes} {n : ℕ} (s : Bytes) (o : Op) (c : Children) {work work′ : List ℕ} {out : Bytes} {p q : Progress} where
-  pub app-false : {r : Negated} → NegationOf file work sizes n r → r ≡ negated.Falsehood → Enters sizes n work p work′ q
+  pub app-false : {r : Negated} → NegationOf file work sizes n r → r ≡ negated.Falsehood → EntersTerm sizes n work p work′ q
       → Advances file sizes (AppAt n s o c) (appWalk n (opOf s o)) work out p work′ out q
   unfolding enterWalk defineApp negationSaid
   app-false N e E = advances-by (λ f x I y. (y .at, λ S. app-by n (opOf s o) f S falsehood (answered N e I (y .at .below)))) (E .go file out)

@@ -23,7 +23,7 @@ use Rattle.walk_names.proofs.Tables.{table-known}
 use Rattle.walk_names.specs.Progress.{Went}
 use Rattle.walk_names.specs.declared.progress.Progress.{Progress}
 use Rattle.walk_names.proofs.Running.{advances-refused, advances-went}
-use Rattle.walk_new.specs.Steps.{enterWalk, Enters}
+use Rattle.walk_new.specs.Steps.{enterWalk, EntersTerm}
 
 -- the progress with so many terms named
 abbrev pub countedTo : Progress → ℕ → Progress
@@ -51,12 +51,12 @@ module _ {file : Bytes} {f : TermFile} {sizes : Sizes} {limit : ℕ} {o out : By
       }
 
 -- the step after a refusal
-pub enters-refused : {sizes : Sizes} {n : ℕ} {work : List ℕ} {p : Progress} → (p .refused ≡ 0 → ⊥) → Enters sizes n work p work p
+pub enters-refused : {sizes : Sizes} {n : ℕ} {work : List ℕ} {p : Progress} → (p .refused ≡ 0 → ⊥) → EntersTerm sizes n work p work p
 enters-refused h = record { go = λ file out. advances-refused h }
 
 -- the step by a store
 module _ {sizes : Sizes} {n v : ℕ} {work work′ : List ℕ} {p p′ : Progress} where
-  pub enters : (at : ℕ) → at ≡ n → p .refused ≡ 0 → v ≡ min (p .terms + 1) 4294967295 → work′ ≡ nameStored work (sizes .rows) termName (cell work (sizes .rows) termFirst at) v → p′ ≡ countedTo p v → Enters sizes n work p work′ p′
+  pub enters : (at : ℕ) → at ≡ n → p .refused ≡ 0 → v ≡ min (p .terms + 1) 4294967295 → work′ ≡ nameStored work (sizes .rows) termName (cell work (sizes .rows) termFirst at) v → p′ ≡ countedTo p v → EntersTerm sizes n work p work′ p′
   unfolding enterWalk walk.enter isName
   enters at same z sum e′ q =
       let e : work′ ≡ nameStored work (sizes .rows) termName (cell work (sizes .rows) termFirst n) v = e′ ∙ ap (λ (i : ℕ). nameStored work (sizes .rows) termName (cell work (sizes .rows) termFirst i) v) same in

@@ -1,7 +1,7 @@
 -- A term that is still new after a step, and entities by the enum that their type is.
 -- Assumes nothing.
 use Prim.Native.Nat.{ℕ}
-use mathlib.Core.Path.{_≡_, refl, ap, _∙_, subst}
+use mathlib.Core.Path.{_≡_, refl, sym, ap, _∙_, subst}
 use mathlib.Core.Bool.{true, false}
 use mathlib.Core.List.{List}
 use mathlib.Core.Option.{Option, none, some}
@@ -13,7 +13,7 @@ use Rattle.script_spec.specs.File.{TermFile, members, typeAt, termAt}
 use Rattle.script_spec.specs.Walk as walk
 use Rattle.script_spec.specs.Walk.{State, Step, went, stopped, Walk, _>>_, ensure, lowEnough, defineEntity}
 use Rattle.script_spec.proofs.Laws.{any-place}
-use Rattle.script_spec.proofs.Steps.{Ends, ends-went, ends-ensure}
+use Rattle.script_spec.proofs.Steps.{Ends, went-ne-stopped, ends-went, ends-ensure}
 use Rattle.script_spec.proofs.EnteredTerms.{New}
 use Rattle.walk_names.specs.Sticky.{sticky}
 use Rattle.walk_names.specs.Progress.{Advances}
@@ -25,20 +25,17 @@ use Rattle.walk_queries.proofs.AnswerLaws.{Placed, MemberSaid, member-said}
 use Rattle.walk_queries.specs.declared.queries.Member.{Member}
 use Rattle.walk_queries.specs.declared.queries.Member.the-variants as member
 use Rattle.write_terms.specs.Definitions.{PlainIs}
-use Rattle.walk_new.specs.Steps.{NewAt, enterWalk, textWalk, Enters, TestsText}
+use Rattle.walk_new.specs.Steps.{NewAt, enterWalk, textWalk, EntersTerm, TestsText}
 use Rattle.walk_new.specs.News.{KnownAt, StringAt, EntityAt, defineWalk, stringWalk, entityWalk}
 use Rattle.index.specs.declared.Sizes.{Sizes}
 
 -- ---- steps that leave a term new
 
-stopped-ne-went : {n : ℕ} {t : Tm} {s : State} → stopped n t ≡ went s → ⊥
-stopped-ne-went e = let z : _≡_ {A = ℕ} 0 1 = cc in omega arith
-
 -- a step that leaves it new leaves it new after whatever came before
 pub new-after : (n : ℕ) (f : TermFile) (x : Step) (w : Walk) → NewAt n f x → ((S : State) → New (termAt f n) S → Ends (New (termAt f n)) (λ m u. Unit {0}) (w S)) → NewAt n f (sticky w x)
 unfolding sticky
 new-after n f (went S) w r h = record { below = r .below; new = λ S′ e. ends-went (h S (r .new S refl)) e }
-new-after n f (stopped c t) w r h = record { below = r .below; new = λ S′ e. absurd (stopped-ne-went e) }
+new-after n f (stopped c t) w r h = record { below = r .below; new = λ S′ e. absurd (went-ne-stopped (sym e)) }
 
 -- ---- entities
 
@@ -78,7 +75,7 @@ module _ {file : Bytes} {sizes : Sizes} {n t : ℕ} (id : Bytes) {work : List �
       let h : Placed (members f) (typeAt f t) id none = subst (λ (y : Member). MemberSaid y (members f) (typeAt f t) id) e (member-said r (members f) (typeAt f t) id (F .go f I (s .type-below))) in
       (s .at .at .below, not-member (members f) (termAt f n) id _ (h .members) S (h .are) (any-place (same id) (h .members) ∙ ap isSome (h .is))))
 
-  pub entity-member : {i : ℕ} {work′ : List ℕ} → r ≡ member.At i → Enters sizes n work p work′ q → Advances file sizes (EntityAt n t id) (entityWalk n t id) work out p work′ out q
+  pub entity-member : {i : ℕ} {work′ : List ℕ} → r ≡ member.At i → EntersTerm sizes n work p work′ q → Advances file sizes (EntityAt n t id) (entityWalk n t id) work out p work′ out q
   unfolding entityWalk enterWalk MemberSaid isSome
   entity-member {i} e E =
       advances-by (λ f x I s.

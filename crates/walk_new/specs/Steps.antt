@@ -72,7 +72,7 @@ newWalk n f = encodeNew (members f) (termAt f n)
 -- ---- promises
 
 -- memory and progress go on by entering the term with number n; file and script are as they were
-pub record Enters (sizes : Sizes) (n : ℕ) (work : List ℕ) (p : Progress) (work′ : List ℕ) (p′ : Progress) : Type 0 where
+pub record EntersTerm (sizes : Sizes) (n : ℕ) (work : List ℕ) (p : Progress) (work′ : List ℕ) (p′ : Progress) : Type 0 where
   pub go : (file out : Bytes) → Advances file sizes (NewAt n) (enterWalk n) work out p work′ out p′
 
 -- progress goes on by a test of the term with number n; memory and script are as they were

@@ -7,7 +7,7 @@ ghost use Rattle.index_entry.specs.Terms.{childrenIn};
 ghost use Rattle.walk_new.specs.Steps.{TypedAt, ParentAt, Tests, attributeWalk, getWalk};
 
 // Refuses the term with number n where the type with number t has no name, or is no record type with this attribute.
-pub fn check_attribute(
+fn check_attribute(
     file: &[u8],
     work: &[u32],
     sizes: Sizes,

@@ -3,7 +3,7 @@
 use index::Sizes;
 use walk_names::progress::Progress;
 ghost use mathlib.Core.Path.{_≡_};
-ghost use Rattle.walk_new.specs.Steps.{Enters};
+ghost use Rattle.walk_new.specs.Steps.{EntersTerm};
 
 // The progress with so many terms named.
 fn counted(p: Progress, terms: u32) -> Progress
@@ -22,7 +22,7 @@ fn counted(p: Progress, terms: u32) -> Progress
 
 // Names the term with number n.
 pub fn enter(work: &mut [u32], sizes: Sizes, p: Progress, n: u32) -> Progress
-    ensures { λ r. ⌜ Enters sizes n (now (work .entry)) p (now (work .exit)) r ⌝ }
+    ensures { λ r. ⌜ EntersTerm sizes n (now (work .entry)) p (now (work .exit)) r ⌝ }
 {
     if p.refused != 0 {
         return p;

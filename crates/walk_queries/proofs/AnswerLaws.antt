@@ -6,10 +6,10 @@ use mathlib.Core.Path.{_≡_, refl, sym, ap}
 use mathlib.Core.Bool.{true}
 use mathlib.Core.List.{List}
 use mathlib.Core.Option.{Option, none, some}
-use Rattle.script_spec.specs.Base.{Bytes, Answer, accepted, refused, isSome, andThen, same, place}
+use Rattle.script_spec.specs.Base.{Bytes, isSome, andThen, same, place}
 use Rattle.script_spec.specs.Tree.{Ty, Enums, attributes, attribute, enumOf}
 use Rattle.script_spec.proofs.Laws.{never}
-use Rattle.walk_queries.specs.Searches.{attributeAnswer, placeOr, askedAttribute, memberAnswer, askedMember}
+use Rattle.walk_queries.specs.Searches.{Asked, stands, refusal, attributeAnswer, placeOr, askedAttribute, memberAnswer, askedMember}
 use Rattle.walk_queries.specs.declared.queries.Attribute.{Attribute}
 use Rattle.walk_queries.specs.declared.queries.Attribute.the-variants as answer
 use Rattle.walk_queries.specs.declared.queries.Member.{Member}
@@ -24,18 +24,18 @@ AttributeSaid answer.Missing name ty = (isSome (attributes ty) ≡ true) × (att
 AttributeSaid (answer.At i) name ty = (isSome (attributes ty) ≡ true) × (attribute name ty ≡ some i)
 
 -- a place or a refusal tells the place
-place-missing : (n : ℕ) (p : Option ℕ) → refused n 0 ≡ placeOr n p → p ≡ none
+place-missing : (n : ℕ) (p : Option ℕ) → refusal n ≡ placeOr n p → p ≡ none
 unfolding placeOr
 place-missing n none e = refl
 place-missing n (some i) e = never (cc)
 
-place-there : (n i : ℕ) (p : Option ℕ) → accepted i ≡ placeOr n p → p ≡ some i
+place-there : (n i : ℕ) (p : Option ℕ) → stands i ≡ placeOr n p → p ≡ some i
 unfolding placeOr
 place-there n i none e = never (cc)
 place-there n i (some j) e = let same-place : i ≡ j = cc in ap some (sym same-place)
 
 -- 17 is not 16
-not-attribute : (m n : ℕ) (p : Option ℕ) → (m ≡ n → ⊥) → _≡_ {A = Answer ℕ} (refused m 0) (placeOr n p) → ⊥
+not-attribute : (m n : ℕ) (p : Option ℕ) → (m ≡ n → ⊥) → refusal m ≡ placeOr n p → ⊥
 unfolding placeOr
 not-attribute m n none h e = h (cc)
 not-attribute m n (some i) h e = never (cc)

@@ -17,7 +17,7 @@ use Rattle.index.specs.Lists.{texts}
 use Rattle.index.specs.Meaning.{Rows}
 use Rattle.read_field.specs.Answers.{spanned}
 use Rattle.index_entry.specs.Places.{namedItems}
-use Rattle.index_entry.specs.Types.{extTypeOf, typeSaid, TypeAt}
+use Rattle.index_entry.specs.Types.{extTypeSaid, typeSaid, TypeAt}
 use Rattle.index_entry.specs.Symbols.{EnumAt}
 use Rattle.index_entry.specs.declared.symbols.Enum.{Enum}
 use Rattle.index_entry.specs.declared.types.TypeEntry.{TypeEntry}
@@ -35,7 +35,7 @@ datatypeSaid body (entry.BitVec n) = none
 datatypeSaid body (entry.Option n) = none
 datatypeSaid body (entry.Set n) = none
 datatypeSaid body (entry.Entity p) = some (entity (spanned body p))
-datatypeSaid body (entry.Ext x) = some (extension (extTypeOf x))
+datatypeSaid body (entry.Ext x) = some (extension (extTypeSaid x))
 datatypeSaid body (entry.Record n) = some (recordOf (firsts (namedItems n (drop 4 body))))
 datatypeSaid body entry.Unreadable = none
 
@@ -50,7 +50,7 @@ said-mark body m rs (entry.BitVec n) e = marked m (tree.BitVec· n) (cc)
 said-mark body m rs (entry.Option n) e = marked m tree.Option· (cc)
 said-mark body m rs (entry.Set n) e = marked m tree.Set· (cc)
 said-mark body m rs (entry.Entity p) e = marked m (tree.Declared (entity (spanned body p))) (cc)
-said-mark body m rs (entry.Ext x) e = marked m (tree.Declared (extension (extTypeOf x))) (cc)
+said-mark body m rs (entry.Ext x) e = marked m (tree.Declared (extension (extTypeSaid x))) (cc)
 said-mark body m rs (entry.Record n) e = marked m (tree.Declared (recordOf (firsts (namedItems n (drop 4 body))))) (cc)
 said-mark body m rs entry.Unreadable e = never (cc)
 

@@ -11,10 +11,11 @@ use Rattle.script_spec.specs.Tree as tree
 use Rattle.script_spec.specs.Tree.{PlainOp, Op, App, Plain, Bvnego}
 use Rattle.script_spec.specs.Fields.{term, got, Reader, _>>=_, pure, present, byte, u32, text, list, ref, element, extOp, plain, operators, operator, marks}
 use Rattle.script_spec.proofs.Laws.{never}
+use Rattle.script_spec.proofs.Readers.{got-value, bad-not-got}
 use Rattle.index_compare.proofs.Standing.{entry-whole}
 use Rattle.index.specs.First.{All}
 use Rattle.index.specs.Standing.{markAt, bodyAt, entryOf, entryAt, loose}
-use Rattle.index.proofs.Readers.{Gives, gives-after, gives-pure, got-value, bad-not-got}
+use Rattle.index.proofs.Readers.{Gives, gives-after, gives-pure}
 use Rattle.read_field.specs.Reads.{value, asRead, Reads}
 use Rattle.check_rules.specs.Marks.{termBytes, markOf}
 use Rattle.check_rules.proofs.Marks.{entry-mark}

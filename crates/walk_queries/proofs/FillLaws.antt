@@ -11,9 +11,9 @@ use Rattle.script_spec.specs.Base.{Bytes, ascending}
 use Rattle.index.specs.Cells.{placed, cell, store, shared, listRow}
 use Rattle.index.specs.Lists.{texts, Listed}
 use Rattle.index.proofs.Cells.{length-store, cell-store-same, cell-store-apart}
-use Rattle.index_entry.specs.Places.{PastText}
+use Rattle.index_entry.specs.Places.{afterText}
 use Rattle.index_entry.proofs.Places.{length-texts}
-use Rattle.walk_queries.specs.Made.{RowsOf, Fits, afterText, afterTexts, RowsStored, RowsFilled, RowsMade, ListAt, left-out, made}
+use Rattle.walk_queries.specs.Made.{RowsOf, Fits, afterTexts, RowsStored, RowsFilled, RowsMade, ListAt, left-out, made}
 use Rattle.walk_queries.proofs.Order.{untrue}
 
 -- ---- texts
@@ -28,10 +28,6 @@ unfolding afterTexts afterText texts
 texts-after skip zero m t s e = let same : m ≡ t = omega arith in ap (λ (n : ℕ). texts skip n s) same
 texts-after skip (suc n) m zero s e = absurd (omega arith)
 texts-after skip (suc n) m (suc t) s e = texts-after skip n m t (afterText skip s) (omega arith)
-
-pub after-text-is : {body : Bytes} {at : ℕ} (skip next : ℕ) {end : ℕ} → PastText body at end → drop next body ≡ drop skip (drop end body) → drop next body ≡ afterText skip (drop at body)
-unfolding afterText
-after-text-is skip next T e = e ∙ ap (λ (s : Bytes). drop skip s) (T .rest)
 
 -- ---- rows
 
@@ -95,7 +91,7 @@ rows-list {body} {rows = rows} {from} {count} {skip} {names = names} R P e up sa
     let size : length names ≡ count = ap length e ∙ length-texts skip count (drop from body) in
     record {
       ordered = up;
-      rows = λ j l.
+      held = λ j l.
           let inside : j < rows = omega (arith, R .enough) in
           let left : length names - 2 * j ≡ count - 2 * j = omega arith in
           rw (same j inside, P .place j inside, e, length-texts skip count (drop from body)) (texts-after skip (2 * j) (count - 2 * j) count (drop from body) (omega arith));

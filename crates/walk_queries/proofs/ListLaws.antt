@@ -12,13 +12,13 @@ use Rattle.script_spec.specs.File.{TermFile, types, enums}
 use Rattle.index.specs.Cells.{placed, cell, store, shared, Apart, typeOffset, enumOffset, hash, enumList, typeList, listRow}
 use Rattle.index.specs.Standing.{bodyAt}
 use Rattle.index.specs.Lists.{texts, Listed}
-use Rattle.index.specs.Meaning.{used, HasAttributes, HasMembers}
+use Rattle.index.specs.Meaning.{usedEntries, HasAttributes, HasMembers}
 use Rattle.index.proofs.Cells.{length-store, cell-store-same, cell-store-apart}
 use Rattle.index.proofs.Growth.{counts-together}
 use Rattle.index.proofs.Rows.{listed-same}
 use Rattle.index.proofs.Names.{names-same}
 use Rattle.index_entry.proofs.Places.{length-texts}
-use Rattle.walk_queries.specs.Made.{RowsOf, RowsStored, RowsFilled, ListAt, left-out, made, Side, Listing, Known, Relisted}
+use Rattle.walk_queries.specs.Made.{RowsOf, RowsStored, RowsFilled, ListAt, left-out, made, Side, Listing, KnownRecords, Relisted}
 use Rattle.walk_queries.proofs.FillLaws.{rows-list}
 use Rattle.walk_queries.proofs.Attributes.{attributes-here, members-here}
 use Rattle.index_entry.specs.Types.{TypeAt}
@@ -87,17 +87,17 @@ module _ (k column n : ℕ) (c : column < 24) (inside : n < k) (filled : List �
 
 -- ---- rows
 
-module _ {file : Bytes} {f : TermFile} {k terms : ℕ} {work₀ : List ℕ} (K : Known file f k terms work₀) where
+module _ {file : Bytes} {f : TermFile} {k terms : ℕ} {work₀ : List ℕ} (K : KnownRecords file f k terms work₀) where
   -- the rows of a list that is not noted yet
   rows-kept : {ty en next rows : ℕ} {work filled : List ℕ} → ty ≤ length (types f) → en ≤ length (enums f) → (0 < rows → next + rows + terms ≤ k) → RowsStored k next rows work filled → Listing file f k work₀ ty en next work
       → Listing file f k work₀ ty en next filled
-  unfolding used shared placed
+  unfolding usedEntries shared placed
   rows-kept {next = next} {rows} {work} {filled} ty en room S L =
       record {
         same-size = S .same-size ∙ L .same-size;
         same = λ column i l. S .same column i (λ j g. record {
-          other = λ e q. let z : i < used f listRow = rw (← e) at l in omega arith;
-          facing = λ e q. let z : i < used f 7 = rw (← e) at l in omega (arith, K .terms-are, room (omega arith));
+          other = λ e q. let z : i < usedEntries f listRow = rw (← e) at l in omega arith;
+          facing = λ e q. let z : i < usedEntries f 7 = rw (← e) at l in omega (arith, K .terms-are, room (omega arith));
         }) ∙ L .same column i l;
         slots = λ i. S .same hash i (λ j g. record { other = λ e q. omega arith; facing = λ e q. omega arith }) ∙ L .slots i;
         of-types =
@@ -115,7 +115,7 @@ module _ {file : Bytes} {f : TermFile} {k terms : ℕ} {work₀ : List ℕ} (K :
       → ((base : ℕ) → cell work′ k typeList t ≡ suc base → (names : List Bytes) → HasAttributes f t names
       → Listed (bodyAt file (cell work′ k typeOffset t)) 4 names work′ k base × ((j : ℕ) → 2 * j < length names → base + j < next′))
       → Listing file f k work₀ (t + 1) 0 next′ work′
-  unfolding used shared placed
+  unfolding usedEntries shared placed
   type-noted v {t} {next} {next′} {work} {work′} l more e L new =
       let few = counts-together f in
       let fit = K .index .fit in
@@ -123,8 +123,8 @@ module _ {file : Bytes} {f : TermFile} {k terms : ℕ} {work₀ : List ℕ} (K :
       record {
         same-size = rw e (length-store work k typeList t v ∙ L .same-size);
         same = λ column i g. kept column i (record {
-          other = λ h q. let z : i < used f typeList = rw (← h) at g in omega arith;
-          facing = λ h q. let z : i < used f 4 = rw (← h) at g in omega arith;
+          other = λ h q. let z : i < usedEntries f typeList = rw (← h) at g in omega arith;
+          facing = λ h q. let z : i < usedEntries f 4 = rw (← h) at g in omega arith;
         }) ∙ L .same column i g;
         slots = λ i. kept hash i (record { other = λ h q. omega arith; facing = λ h q. omega arith }) ∙ L .slots i;
         of-types =
@@ -144,7 +144,7 @@ module _ {file : Bytes} {f : TermFile} {k terms : ℕ} {work₀ : List ℕ} (K :
       → ((base : ℕ) → cell work′ k enumList en ≡ suc base → (names : List Bytes) → HasMembers f en names
       → Listed (bodyAt file (cell work′ k enumOffset en)) 0 names work′ k base × ((j : ℕ) → 2 * j < length names → base + j < next′))
       → Listing file f k work₀ ty (en + 1) next′ work′
-  unfolding used shared placed
+  unfolding usedEntries shared placed
   enum-noted v {ty} {en} {next} {next′} {work} {work′} l more e L new =
       let few = counts-together f in
       let fit = K .index .fit in
@@ -152,8 +152,8 @@ module _ {file : Bytes} {f : TermFile} {k terms : ℕ} {work₀ : List ℕ} (K :
       record {
         same-size = rw e (length-store work k enumList en v ∙ L .same-size);
         same = λ column i g. kept column i (record {
-          other = λ h q. let z : i < used f enumList = rw (← h) at g in omega arith;
-          facing = λ h q. let z : i < used f 1 = rw (← h) at g in omega arith;
+          other = λ h q. let z : i < usedEntries f enumList = rw (← h) at g in omega arith;
+          facing = λ h q. let z : i < usedEntries f 1 = rw (← h) at g in omega arith;
         }) ∙ L .same column i g;
         slots = λ i. kept hash i (record { other = λ h q. omega arith; facing = λ h q. omega arith }) ∙ L .slots i;
         of-types =
@@ -170,7 +170,7 @@ module _ {file : Bytes} {f : TermFile} {k terms : ℕ} {work₀ : List ℕ} (K :
 
   pub type-listed : {t n : ℕ} {r : TypeEntry} {o w next next′ : ℕ} {work work′ : List ℕ} {body : Bytes} → t < length (types f) → Listing file f k work₀ t 0 next work → o ≡ cell work k typeOffset t → TypeAt file o r → r ≡ entry.Record n → body ≡ bodyAt file o → w ≡ t
       → ListAt body k terms typeList w 4 n 4 next work next′ work′ → Listing file f k work₀ (t + 1) 0 next′ work′
-  unfolding used shared placed
+  unfolding usedEntries shared placed
   type-listed {t} {n} {r} {o} {w} {next} {next′} {work} {work′} {body} l L at T e′ b wide A = go (subst (λ (y : ℕ). ListAt body k terms typeList y 4 n 4 next work next′ work′) wide A)
     where
       few : t < k
@@ -198,7 +198,7 @@ module _ {file : Bytes} {f : TermFile} {k terms : ℕ} {work₀ : List ℕ} (K :
 
   pub enum-listed : {n : ℕ} {x : Enum} {o w next next′ : ℕ} {work work′ : List ℕ} {body : Bytes} → n < length (enums f) → Listing file f k work₀ (length (types f)) n next work → o ≡ cell work k enumOffset n → EnumAt file o x → body ≡ bodyAt file o → w ≡ n
       → ListAt body k terms enumList w (x .from) (x .members) 0 next work next′ work′ → Listing file f k work₀ (length (types f)) (n + 1) next′ work′
-  unfolding used shared placed
+  unfolding usedEntries shared placed
   enum-listed {n} {x} {o} {w} {next} {next′} {work} {work′} {body} l L at E b wide A = go (subst (λ (y : ℕ). ListAt body k terms enumList y (x .from) (x .members) 0 next work next′ work′) wide A)
     where
       few : n < k
@@ -231,11 +231,11 @@ module _ {file : Bytes} {f : TermFile} {k terms : ℕ} {work₀ : List ℕ} (K :
       }
 
   pub listing-end : {next : ℕ} {work : List ℕ} → Listing file f k work₀ (length (types f)) (length (enums f)) next work → Relisted file f k work₀ work
-  unfolding used
+  unfolding usedEntries
   listing-end {next} {work} L =
       let I = K .index in
       record {
-        rows =
+        index =
             record {
               fits = rw (L .same-size) (I .fits);
               type-row = λ n l. let r = I .type-row n l in record { stands = rw (L .same 0 n l) (r .stands); first = L .same 1 n l ∙ r .first; place-is = L .same 15 n l ∙ r .place-is };

@@ -8,7 +8,7 @@ use lib.ListN.{length}
 use Rattle.script_spec.specs.Base.{Bytes}
 use Rattle.script_spec.specs.File.{TermFile, types, enums}
 use Rattle.index.specs.declared.Sizes.{Sizes}
-use Rattle.walk_queries.specs.Made.{Listing, Known, ListsType, ListsTypes, ListsEnum, ListsEnums, MakesLists}
+use Rattle.walk_queries.specs.Made.{Listing, KnownRecords, ListsType, ListsTypes, ListsEnum, ListsEnums, MakesLists}
 use Rattle.walk_queries.proofs.ListLaws.{listing-start, listing-end}
 
 module _ (file : Bytes) (k terms count : ℕ) where
@@ -16,13 +16,13 @@ module _ (file : Bytes) (k terms count : ℕ) where
   pub record TypesSoFar (work₀ : List ℕ) (t next : ℕ) (work : List ℕ) : Type 0 where
     pub most : t ≤ count
     pub same-size : length work ≡ length work₀
-    pub go : (f : TermFile) → Known file f k terms work₀ → count ≡ length (types f) → Listing file f k work₀ t 0 next work
+    pub go : (f : TermFile) → KnownRecords file f k terms work₀ → count ≡ length (types f) → Listing file f k work₀ t 0 next work
 
   -- and of the first enums, after those of the types
   pub record EnumsSoFar (work₁ : List ℕ) (first e next : ℕ) (work : List ℕ) : Type 0 where
     pub most : e ≤ count
     pub same-size : length work ≡ length work₁
-    pub go : (f : TermFile) (work₀ : List ℕ) → Known file f k terms work₀ → count ≡ length (enums f) → Listing file f k work₀ (length (types f)) 0 first work₁ → Listing file f k work₀ (length (types f)) e next work
+    pub go : (f : TermFile) (work₀ : List ℕ) → KnownRecords file f k terms work₀ → count ≡ length (enums f) → Listing file f k work₀ (length (types f)) 0 first work₁ → Listing file f k work₀ (length (types f)) e next work
 
 module _ {file : Bytes} {k terms count : ℕ} where
   pub types-start : (work : List ℕ) → TypesSoFar file k terms count work 0 0 work
@@ -53,8 +53,8 @@ pub lists-made : {file : Bytes} {sizes : Sizes} {next : ℕ} {work work₁ work�
     → ListsEnums file (sizes .rows) (sizes .terms) (sizes .enums) next work₁ work′ → MakesLists file sizes work work′
 lists-made {file} {sizes} {next} {work} {work₁} T E = record {
   go = λ f I A.
-      let K : Known file f (sizes .rows) (sizes .terms) work = record { index = I .rows; ascends = A; terms-are = I .sizes-are .terms-are } in
+      let K : KnownRecords file f (sizes .rows) (sizes .terms) work = record { index = I .rows; ascends = A; terms-are = I .sizes-are .terms-are } in
       let a = I .sizes-are .types-are in
       let R = E .go f work K (I .sizes-are .enums-are) (subst (λ (n : ℕ). Listing file f (sizes .rows) work n 0 next work₁) a (T .go f K a)) in
-      record { index = record { rows = R .rows; sizes-are = I .sizes-are; small = I .small }; unnamed = R .unnamed };
+      record { index = record { rows = R .index; sizes-are = I .sizes-are; small = I .small }; unnamed = R .unnamed };
 }

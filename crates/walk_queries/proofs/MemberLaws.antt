@@ -28,7 +28,7 @@ use Rattle.index_entry.specs.declared.types.TypeEntry.the-variants as entry
 use Rattle.index_entry.proofs.types.TypeEntry.{the-type}
 use Rattle.index_search.specs.Enums.{enumAt, membersAt, FindsEnum}
 use Rattle.index_search.proofs.EnumLaws.{finds-members}
-use Rattle.walk_queries.specs.Searches.{FindsAttribute, IsEnum, FindsIn, FindsMember}
+use Rattle.walk_queries.specs.Searches.{FindsAttribute, IsEnumType, FindsIn, FindsMember}
 use Rattle.walk_queries.proofs.AnswerLaws.{AttributeSaid, attribute-answer, MemberSaid, member-answer}
 use Rattle.walk_queries.specs.Found.{placeSaid, FindsText, Finds}
 use Rattle.walk_queries.specs.declared.positions.Found.{Found}
@@ -101,7 +101,7 @@ module _ {file : Bytes} {work : List ℕ} {sizes : Sizes} {t o : ℕ} {r : TypeE
 
   -- ---- enums
 
-  pub not-entity : OneOf not-entities (tagOf the-type r) → IsEnum file work sizes t (sizes .enums)
+  pub not-entity : OneOf not-entities (tagOf the-type r) → IsEnumType file work sizes t (sizes .enums)
   unfolding enumOf entityName andThen membersAt
   not-entity h = record {
     go = λ f I l.
@@ -110,7 +110,7 @@ module _ {file : Bytes} {work : List ℕ} {sizes : Sizes} {t o : ℕ} {r : TypeE
   }
 
   pub entity-enum : {q : ℕ} {p : Span} {body name : Bytes} → r ≡ entry.Entity p → body ≡ bodyAt file o → name ≡ take (p .len) (drop (p .start) body) → FindsEnum file work sizes name q
-      → IsEnum file work sizes t q
+      → IsEnumType file work sizes t q
   unfolding enumOf entityName andThen datatypeSaid nameOfEntity spanned
   entity-enum {p = p} {body} {name} e b h F = record {
     go = λ f I l.
@@ -132,7 +132,7 @@ finds-in {file} {work} {sizes} {e} {o} {body = body} {id} {x} {q} place-is E v l
       ap (place (same id)) are ∙ found .is;
 }
 
-module _ {file : Bytes} {work : List ℕ} {sizes : Sizes} {t e : ℕ} {id : Bytes} (E : IsEnum file work sizes t e) where
+module _ {file : Bytes} {work : List ℕ} {sizes : Sizes} {t e : ℕ} {id : Bytes} (E : IsEnumType file work sizes t e) where
   pub no-enum : sizes .enums ≤ e → FindsMember file work sizes t id member.NoEnum
   unfolding MemberSaid membersAt
   no-enum h = record {

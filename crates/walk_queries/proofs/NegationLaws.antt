@@ -1,6 +1,6 @@
 -- What a term is as a `Bvnego`: by its own record, the record of its type and that of its argument's type.
 -- Assumes nothing.
-use Prim.Native.Nat.{ℕ, _+_, _<_, _≤_}
+use Prim.Native.Nat.{ℕ, _+_, _<_}
 use native.Mathlib.Omega.{arith}
 use mathlib.Core.Path.{_≡_, refl, sym, ap, _∙_, subst}
 use mathlib.Core.Bool.{Bool, true, false}
@@ -26,7 +26,7 @@ use Rattle.read_field.specs.Answers.{spanned}
 use Rattle.read_operator.specs.Operators.{opOf}
 use Rattle.read_operator.specs.declared.Op.{Op}
 use Rattle.index_entry.specs.Places.{namedItems}
-use Rattle.index_entry.specs.Types.{extTypeOf, typeSaid, TypeAt}
+use Rattle.index_entry.specs.Types.{extTypeSaid, typeSaid, TypeAt}
 use Rattle.index_entry.proofs.types.TypeEntry as types-entry
 use Rattle.index_entry.proofs.TermRows.{term-stands}
 use Rattle.index_entry.specs.declared.types.TypeEntry.{TypeEntry}
@@ -78,7 +78,7 @@ module _ (body : Bytes) {m : TypeMark} {rs : List ℕ} where
   not-bits-said (entry.Option n) h e = false-over m tree.Option· refl (cc)
   not-bits-said (entry.Set n) h e = false-over m tree.Set· refl (cc)
   not-bits-said (entry.Entity p) h e = false-over m (tree.Declared (tree.entity (spanned body p))) refl (cc)
-  not-bits-said (entry.Ext x) h e = false-over m (tree.Declared (tree.extension (extTypeOf x))) refl (cc)
+  not-bits-said (entry.Ext x) h e = false-over m (tree.Declared (tree.extension (extTypeSaid x))) refl (cc)
   not-bits-said (entry.Record n) h e = false-over m (tree.Declared (tree.recordOf (firsts (namedItems n (drop 4 body))))) refl (cc)
   not-bits-said entry.Unreadable h e = never (cc)
 

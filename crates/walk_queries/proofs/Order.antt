@@ -10,9 +10,10 @@ use lib.Dec.{ltb, eqb}
 use lib.ListN.{length, getD}
 use borrow.Author.Tests.{ltb-true, eqb-true, lt-ltb, le-ltb, eq-eqb}
 use Rattle.script_spec.specs.Base.{Bytes, before, ascending}
+use Rattle.script_spec.proofs.Laws.{never}
 
 pub untrue : {A : Type 0} → false ≡ true → A
-untrue h = let z : _≡_ {A = ℕ} 0 1 = cc in absurd (omega arith)
+untrue h = never cc
 
 and-true : (a b : Bool) → (a && b) ≡ true → (a ≡ true) × (b ≡ true)
 and-true true b h = (refl, h)

@@ -6,7 +6,7 @@ use native.Mathlib.Omega.{arith}
 use native.Mathlib.Decide.{ℕ-discrete}
 use mathlib.Core.Path.{_≡_, refl, sym, ap, _∙_, subst}
 use mathlib.Core.Bool.{Bool, true, false}
-use mathlib.Core.Logic.{_⊎_, inl, inr, ⊎-elim}
+use mathlib.Core.Logic.{inl, inr, ⊎-elim}
 use mathlib.Core.List.{List, [], _∷_}
 use lib.ListN.{length, take, drop, getD}
 use lib.Seq.{drop-cons}
@@ -84,10 +84,10 @@ head-text skip (suc n) s names i l g e = let d = drop-cons names i [] l in cc
 module _ {body : Bytes} {work : List ℕ} {k base count skip : ℕ} {names : List Bytes} (L : Listed body skip names work k base) (size : length names ≡ count) where
   row-text : (j : ℕ) → 2 * j < count → rowText body work k base j ≡ getD names (2 * j) []
   unfolding rowText
-  row-text j l = head-text skip _ _ names (2 * j) (omega arith) (omega arith) (L .rows j (omega arith))
+  row-text j l = head-text skip _ _ names (2 * j) (omega arith) (omega arith) (L .held j (omega arith))
 
   row-few : (j m : ℕ) → 2 * j < count → m ≤ count - 2 * j → texts skip m (drop (cell work k listRow (base + j)) body) ≡ take m (drop (2 * j) names)
-  row-few j m l g = sym (ap (take m) (sym (L .rows j (omega arith))) ∙ texts-take skip m _ _ (omega arith))
+  row-few j m l g = sym (ap (take m) (sym (L .held j (omega arith))) ∙ texts-take skip m _ _ (omega arith))
 
   module _ {name : Bytes} {rows low m : ℕ} (R : RowsOf count rows) (H : Halves body work k base rows name low (low + 1)) (F : Few (count - low * 2) m) where
     low-inside : 2 * low < count

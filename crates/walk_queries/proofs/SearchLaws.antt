@@ -9,7 +9,7 @@ use lib.ListN.{drop}
 use Rattle.script_spec.specs.Base.{Bytes, same, place, placeFrom}
 use Rattle.script_spec.proofs.Laws.{same-eq, same-refl, is-true}
 use Rattle.index.specs.Lists.{firstText, textSize, texts}
-use Rattle.index_entry.specs.Places.{PastText}
+use Rattle.index_entry.specs.Places.{afterText}
 use Rattle.walk_queries.specs.Found.{placeSaid, FindsText}
 use Rattle.walk_queries.specs.declared.positions.Found.the-variants as found
 
@@ -67,10 +67,11 @@ module _ {body : Bytes} {from count skip : ℕ} {name : Bytes} where
     unfolding placeSaid
     found-here e = record { is = P .is ∙ ap (after i) first-left ∙ after-here i _ e }
 
-    pub passed-on : {end : ℕ} (next : ℕ) → b ≡ false → PastText body at end → drop next body ≡ drop skip (drop end body) → Passed body from count skip name (i + 1) next
-    passed-on next e E on = record {
+    pub passed-on : (next : ℕ) → b ≡ false → drop next body ≡ afterText skip (drop at body) → Passed body from count skip name (i + 1) next
+    unfolding afterText
+    passed-on next e on = record {
       within = omega arith;
-      is = P .is ∙ ap (after i) first-left ∙ (rw (e, ← (E .rest), ← on)) ∙ after-one i _;
+      is = P .is ∙ ap (after i) first-left ∙ (rw (e, ← on)) ∙ after-one i _;
     }
 
   pub found-nowhere : {i at : ℕ} → Passed body from count skip name i at → count ≤ i → FindsText body from count skip name found.Nowhere

@@ -8,6 +8,7 @@ use mathlib.Core.List.{List, [], _∷_}
 use mathlib.Core.Option.{Option, none, some}
 use lib.ListN.{length, take, drop, getD}
 use Rattle.script_spec.specs.Base.{place, placeFrom}
+use Rattle.script_spec.proofs.Laws.{never}
 use Rattle.walk_queries.proofs.SearchLaws.{after}
 
 after-suc : (a : ℕ) (o : Option ℕ) → placeFrom false (after a o) ≡ after (suc a) o
@@ -43,10 +44,10 @@ module _ {A : Type 0} (p : A → Bool) (d : A) where
   -- a place is one of the list's
   pub place-below : (xs : List A) (n : ℕ) → place p xs ≡ some n → n < length xs
   unfolding place placeFrom
-  place-below [] n h = let z : _≡_ {A = ℕ} 0 1 = cc in absurd (omega arith)
+  place-below [] n h = never cc
   place-below (x ∷ xs) n h = go (p x) (place p xs) n h (λ k e. place-below xs k e)
     where
       go : (b : Bool) (o : Option ℕ) (n : ℕ) → placeFrom b o ≡ some n → ((k : ℕ) → o ≡ some k → k < length xs) → n < suc (length xs)
       go true o n e f = let z : 0 ≡ n = cc in omega arith
-      go false none n e f = let z : _≡_ {A = ℕ} 0 1 = cc in absurd (omega arith)
+      go false none n e f = never cc
       go false (some k) n e f = let z : suc k ≡ n = cc in omega (arith, f k refl)

@@ -23,23 +23,23 @@ pub record FindsText (body : Bytes) (from count skip : ℕ) (name : Bytes) (r : 
   pub is : place (same name) (texts skip count (drop from body)) ≡ placeSaid r
 
 -- the same, of texts that have a list
-pub record FindsListed (body : Bytes) (work : List ℕ) (k base from count skip : ℕ) (name : Bytes) (r : Found) : Type 0 where
-  pub go : Listed body skip (texts skip count (drop from body)) work k base → FindsText body from count skip name r
+pub record FindsListed (body : Bytes) (work : List ℕ) (rows base from count skip : ℕ) (name : Bytes) (r : Found) : Type 0 where
+  pub go : Listed body skip (texts skip count (drop from body)) work rows base → FindsText body from count skip name r
 
 -- the same, by the entry of their list
-pub record Finds (body : Bytes) (work : List ℕ) (k list from count skip : ℕ) (name : Bytes) (r : Found) : Type 0 where
-  pub go : ((base : ℕ) → list ≡ suc base → Listed body skip (texts skip count (drop from body)) work k base) → FindsText body from count skip name r
+pub record Finds (body : Bytes) (work : List ℕ) (rows list from count skip : ℕ) (name : Bytes) (r : Found) : Type 0 where
+  pub go : ((base : ℕ) → list ≡ suc base → Listed body skip (texts skip count (drop from body)) work rows base) → FindsText body from count skip name r
 
 -- the text of a row
 unfoldable pub rowText : Bytes → List ℕ → ℕ → ℕ → ℕ → Bytes
-rowText body work k base j = firstText (drop (cell work k listRow (base + j)) body)
+rowText body work rows base j = firstText (drop (cell work rows listRow (base + j)) body)
 
 -- the text can only be between two of the rows: it is not before the text of the lower one, and before that of the higher one
-pub record Halves (body : Bytes) (work : List ℕ) (k base rows : ℕ) (name : Bytes) (low high : ℕ) : Type 0 where
+pub record Halves (body : Bytes) (work : List ℕ) (rows base taken : ℕ) (name : Bytes) (low high : ℕ) : Type 0 where
   pub apart : low < high
-  pub within : high ≤ rows
-  pub not-below : (low ≡ 0) ⊎ (before name (rowText body work k base low) ≡ false)
-  pub below : (high ≡ rows) ⊎ (before name (rowText body work k base high) ≡ true)
+  pub within : high ≤ taken
+  pub not-below : (low ≡ 0) ⊎ (before name (rowText body work rows base low) ≡ false)
+  pub below : (high ≡ taken) ⊎ (before name (rowText body work rows base high) ≡ true)
 
 -- n, and two where it is more
 pub record Few (n r : ℕ) : Type 0 where

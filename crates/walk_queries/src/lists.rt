@@ -6,9 +6,8 @@ use index_entry::types::TypeEntry;
 ghost use mathlib.Core.Path.{_≡_};
 ghost use mathlib.Core.Bool.{true};
 ghost use Prim.Native.Nat.{_+_, _≤_};
-ghost use lib.ListN.{drop};
 ghost use Rattle.index.specs.Cells.{store};
-ghost use Rattle.walk_queries.specs.Made.{afterText, RowsOf, Fits, RowsMade, ListAt, ListsType, ListsTypes, ListsEnum, ListsEnums, MakesLists};
+ghost use Rattle.walk_queries.specs.Made.{RowsOf, Fits, RowsMade, ListAt, ListsType, ListsTypes, ListsEnum, ListsEnums, MakesLists};
 
 // Fewer texts than this have no list.
 const ENOUGH: u32 = 4;
@@ -31,14 +30,6 @@ fn fits(sizes: Sizes, next: u32, rows: u32) -> bool
     end + index_entry::records::wide(sizes.terms) <= sizes.rows
 }
 
-// The place after the text at a place and so many bytes.
-fn after_text(body: &[u8], at: usize, skip: usize) -> usize
-    ensures { λ r. ⌜ drop r (now (body .entry)) ≡ afterText skip (drop at (now (body .entry))) ⌝ }
-{
-    let end = index_entry::lists::past_text(body, at);
-    index_entry::lists::past(body, end, skip)
-}
-
 // Notes the place of every second text in so many rows, if all the places fit.
 fn fill_rows(
     body: &[u8],
@@ -59,7 +50,8 @@ fn fill_rows(
             return false;
         }
         index::set(work, sizes.rows, index::LIST_ROW, base + j, at as u32);
-        at = after_text(body, after_text(body, at, skip), skip);
+        let next = index_entry::lists::after_text(body, at, skip);
+        at = index_entry::lists::after_text(body, next, skip);
         j += 1;
     }
     true

@@ -32,8 +32,7 @@ fn find_text(body: &[u8], among: Texts, name: &[u8]) -> Found
         if check::same(name, index_entry::lists::text_at(body, at)) {
             return Found::At(i);
         }
-        let end = index_entry::lists::past_text(body, at);
-        at = index_entry::lists::past(body, end, among.skip);
+        at = index_entry::lists::after_text(body, at, among.skip);
         i += 1;
     }
     Found::Nowhere

@@ -8,7 +8,7 @@ use index_entry::types::TypeEntry;
 use read_field::Cursor;
 use read_field::ReadNumber;
 use read_operator::Op;
-ghost use Rattle.walk_queries.specs.Searches.{FindsAttribute, IsEnum, FindsIn, FindsMember};
+ghost use Rattle.walk_queries.specs.Searches.{FindsAttribute, IsEnumType, FindsIn, FindsMember};
 ghost use Rattle.walk_queries.specs.Negations.{IsNego, IsBool, NegationOver, Negates, OtherCode, IsOther, NegationOf};
 
 // What a term is as a `Bvnego`: over an argument of so many bits a comparison, over any other `false`.
@@ -186,7 +186,7 @@ pub fn index_of_attr(file: &[u8], work: &[u32], sizes: Sizes, t: u32, name: &[u8
 
 // The number of the enum that the type with number t is; how many enums there are where it is none.
 fn enum_of(file: &[u8], work: &[u32], sizes: Sizes, t: u32) -> u32
-    ensures { λ r. ⌜ IsEnum (now (file .entry)) (now (work .entry)) sizes t r ⌝ }
+    ensures { λ r. ⌜ IsEnumType (now (file .entry)) (now (work .entry)) sizes t r ⌝ }
 {
     let offset = index::get(
         work,

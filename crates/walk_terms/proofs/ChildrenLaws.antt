@@ -5,14 +5,14 @@ use Prim.Native.Nat.{ℕ}
 use native.Mathlib.Omega.{arith}
 use mathlib.Core.Path.{_≡_, refl, sym, ap, _∙_, subst}
 use mathlib.Core.Bool.{Bool, true, false}
-use mathlib.Core.Logic.{inl, inr}
+use mathlib.Core.Logic.{inl}
 use mathlib.Core.List.{List, [], _∷_, map}
 use mathlib.Core.Option.{some}
 use lib.ListN.{getD}
 use package.types.Run.{OneOf, miss}
 use denote.Enum.Declared.{tagOf}
 use Rattle.script_spec.specs.Base.{Bytes, bytes}
-use Rattle.script_spec.specs.Tree.{Tm, Mark, Forest, forest, isFalsehood, falsehood, negation}
+use Rattle.script_spec.specs.Tree.{Tm, Mark, Forest, forest, isFalsehood, negation}
 use Rattle.script_spec.specs.File.{members, termAt}
 use Rattle.script_spec.specs.Walk.{encodeTerm, encodeTerms}
 use Rattle.index.specs.Cells.{cell, termOffset}
@@ -23,10 +23,10 @@ use Rattle.index.specs.declared.Sizes.{Sizes}
 use Rattle.walk_names.proofs.Sticky.{unless-known, unless-new}
 use Rattle.index_entry.proofs.TermRows.{term-stands}
 use Rattle.index_entry.specs.Terms.{childrenIn}
-use Rattle.index_entry.specs.Children.{IsChildren, ChildrenAt}
+use Rattle.index_entry.specs.Children.{ListedAt, IsChildren, ChildrenAt}
 use Rattle.index_entry.specs.declared.terms.Children.{Children}
 use Rattle.index_entry.proofs.ChildLaws.{no-children}
-use Rattle.index_entry.proofs.ChildEntries.{bare-children, children-some, under, children-at}
+use Rattle.index_entry.proofs.ChildEntries.{bare-children, children-some, children-set, children-record, under, children-at}
 use Rattle.walk_queries.specs.Negations.{negationSaid, OtherCode, NegationOf}
 use Rattle.walk_queries.specs.declared.queries.Negated.{Negated}
 use Rattle.walk_queries.specs.declared.queries.Negated.the-variants as negated
@@ -94,10 +94,6 @@ module _ {file : Bytes} {work : List ℕ} {sizes : Sizes} {n : ℕ} {body : Byte
 
 -- ---- letters
 
--- the letters of sets and records
-abbrev collections : List ℕ
-collections = 67 ∷ 82 ∷ []
-
 module _ {file : Bytes} {work : List ℕ} {sizes : Sizes} {n o l : ℕ} (place : o ≡ cell work (sizes .rows) termOffset n) (i : l ≡ getD (markAt file o) 1 0) where
   pub encode-app : {body : Bytes} {c : Children} → l ≡ 65 → body ≡ bodyAt file o → ArgumentsToEncode file work sizes n body c → ToEncode file work sizes n c
   encode-app e here A = A .go o place (sym i ∙ e) here
@@ -110,9 +106,13 @@ module _ {file : Bytes} {work : List ℕ} {sizes : Sizes} {n o l : ℕ} (place :
   unfolding bytes
   encode-some e = encode-other (λ h. omega arith) (children-at i refl (under e children-some))
 
-  pub encode-collection : {c : Children} → OneOf collections l → ChildrenAt file o c → ToEncode file work sizes n c
-  encode-collection (inl e) C = encode-other (λ h. omega arith) C
-  encode-collection (inr e) C = encode-other (λ h. omega arith) C
+  pub encode-set : {body : Bytes} {c : Children} → l ≡ 67 → body ≡ bodyAt file o → ListedAt body 4 false c → ToEncode file work sizes n c
+  unfolding bytes
+  encode-set e here L = encode-other (λ h. omega arith) (children-at i here (under e (children-set L)))
 
-  pub encode-leaf : (l ≡ 49 → ⊥) → (l ≡ 65 → ⊥) → (OneOf collections l → ⊥) → ToEncode file work sizes n (record { from = 0; left = 0; named = false })
-  encode-leaf s a c = encode-other a (children-at i refl (bare-children _ s (λ h. c (inl h)) (λ h. c (inr h)) a))
+  pub encode-record : {body : Bytes} {c : Children} → l ≡ 82 → body ≡ bodyAt file o → ListedAt body 0 true c → ToEncode file work sizes n c
+  unfolding bytes
+  encode-record e here L = encode-other (λ h. omega arith) (children-at i here (under e (children-record L)))
+
+  pub encode-leaf : (l ≡ 49 → ⊥) → (l ≡ 65 → ⊥) → (l ≡ 67 → ⊥) → (l ≡ 82 → ⊥) → ToEncode file work sizes n (record { from = 0; left = 0; named = false })
+  encode-leaf s a c r = encode-other a (children-at i refl (bare-children _ s c r a))

@@ -8,13 +8,17 @@ use Rattle.script_spec.specs.Base.{Bytes}
 use Rattle.script_spec.specs.Tree.{Tm, Mark, Forest, node, forest, typeOf, isFalsehood}
 use Rattle.script_spec.specs.File.{TermFile, terms, members, termAt}
 use Rattle.script_spec.specs.Walk.{State, Walk, unless, encodeType, encodeTerm, encodeTerms}
-use Rattle.index.specs.Cells.{cell, termOffset}
+use Rattle.index.specs.Cells.{cell, termOffset, termFirst}
 use Rattle.index.specs.First.{Below}
 use Rattle.index.specs.Standing.{markAt, bodyAt}
 use Rattle.index.specs.Meaning.{Index}
 use Rattle.index.specs.declared.Sizes.{Sizes}
+use Rattle.walk_names.specs.Naming.{termName, nameAt}
+use Rattle.walk_names.specs.Progress.{Advances}
+use Rattle.walk_names.specs.declared.progress.Progress.{Progress}
 use Rattle.index_entry.specs.Terms.{childrenIn}
 use Rattle.index_entry.specs.declared.terms.Children.{Children}
+use Rattle.walk_new.specs.Steps.{termReady}
 
 -- the term with number n is encoded
 unfoldable pub termWalk : ℕ → TermFile → Walk
@@ -48,3 +52,7 @@ pub record ToEncode (file : Bytes) (work : List ℕ) (sizes : Sizes) (n : ℕ) (
 -- the arguments that are encoded, where the record of the term with number n has the letter of an application and this body
 pub record ArgumentsToEncode (file : Bytes) (work : List ℕ) (sizes : Sizes) (n : ℕ) (body : Bytes) (r : Children) : Type 0 where
   pub go : (o : ℕ) → o ≡ cell work (sizes .rows) termOffset n → getD (markAt file o) 1 0 ≡ 65 → body ≡ bodyAt file o → ToEncode file work sizes n r
+
+-- where nothing was refused and the term with number n has no name, memory, script and progress go on by encoding it
+pub record EncodesUnnamed (file : Bytes) (sizes : Sizes) (n : ℕ) (work : List ℕ) (out : Bytes) (p : Progress) (work′ : List ℕ) (out′ : Bytes) (p′ : Progress) : Type 0 where
+  pub go : p .refused ≡ 0 → nameAt work (sizes .rows) termFirst termName n ≡ 0 → Advances file sizes (termReady n) (termWalk n) work out p work′ out′ p′

@@ -4,34 +4,18 @@ use index_entry::terms::Child;
 use index_entry::terms::Children;
 use walk_names::progress::Progress;
 use walk_queries::queries::Negated;
-ghost use mathlib.Core.Path.{_≡_};
-ghost use Rattle.index.specs.Cells.{termFirst};
 ghost use Rattle.index.specs.Standing.{bodyAt};
-ghost use Rattle.walk_names.specs.Naming.{nameAt, termName};
 ghost use Rattle.walk_names.specs.Progress.{Advances};
 ghost use Rattle.index_entry.specs.Children.{TakesChild};
 ghost use Rattle.walk_new.specs.Steps.{termReady};
-ghost use Rattle.walk_terms.specs.Terms.{termWalk, ownTypeWalk, childrenWalk, ToEncode, ArgumentsToEncode};
-
-// What stands for the name of the term with number n.
-fn term_name(work: &[u32], rows: usize, n: u32) -> u32
-    ensures { λ r. ⌜ r ≡ nameAt (now (work .entry)) rows termFirst termName n ⌝ }
-{
-    walk_names::naming::get(
-        work,
-        rows,
-        index::TERM_FIRST,
-        walk_names::naming::TERM_NAME,
-        index_entry::records::wide(n),
-    )
-}
+ghost use Rattle.walk_terms.specs.Terms.{termWalk, ownTypeWalk, childrenWalk, ToEncode, ArgumentsToEncode, EncodesUnnamed};
 
 // The arguments of the application with number n that are encoded before it, by its body: none under the `false` of a `Bvnego`.
 fn arguments_to_encode(file: &[u8], work: &[u32], sizes: Sizes, n: u32, body: &[u8]) -> Children
     ensures { λ r. ⌜ ArgumentsToEncode (now (file .entry)) (now (work .entry)) sizes n (now (body .entry)) r ⌝ }
 {
     if walk_queries::queries::is_other_code(body) {
-        return index_entry::terms::arguments(body);
+        return index_entry::parents::arguments(body);
     }
     match walk_queries::queries::negation_of(file, work, sizes, n) {
         Negated::Falsehood => Children {
@@ -39,7 +23,7 @@ fn arguments_to_encode(file: &[u8], work: &[u32], sizes: Sizes, n: u32, body: &[
             left: 0,
             named: false,
         },
-        _ => index_entry::terms::arguments(body),
+        _ => index_entry::parents::arguments(body),
     }
 }
 
@@ -66,7 +50,8 @@ fn to_encode(file: &[u8], work: &[u32], sizes: Sizes, n: u32) -> Children
             n,
             index_entry::records::body_at(file, offset),
         ),
-        b'C' | b'R' => index_entry::terms::children_at(file, offset),
+        b'C' => index_entry::parents::set_children(index_entry::records::body_at(file, offset)),
+        b'R' => index_entry::parents::record_children(index_entry::records::body_at(file, offset)),
         _ => Children {
             from: 0,
             left: 0,
@@ -106,7 +91,7 @@ fn encode_own_type(
     walk_types::encode_type(file, work, sizes, out, p, t)
 }
 
-// Encodes the term with number n, where it has no name yet.
+// Encodes the term with number n, where it has no name yet. That it has one is known before the call of what encodes it.
 pub fn encode_term(
     file: &[u8],
     work: &mut [u32],
@@ -121,9 +106,24 @@ pub fn encode_term(
     if p.refused != 0 {
         return p;
     }
-    if term_name(work, sizes.rows, n) != 0 {
+    if walk_names::naming::term_name(work, sizes.rows, n) != 0 {
         return p;
     }
+    encode_unnamed(file, work, sizes, out, p, n)
+}
+
+// Encodes the term with number n, which has no name: its type, its children, and then the term itself.
+fn encode_unnamed(
+    file: &[u8],
+    work: &mut [u32],
+    sizes: Sizes,
+    out: &mut [u8],
+    p: Progress,
+    n: u32,
+) -> Progress
+    ensures { λ r.
+        ⌜ EncodesUnnamed (now (file .entry)) sizes n (now (work .entry)) (now (out .entry)) p (now (work .exit)) (now (out .exit)) r ⌝ }
+{
     let typed = encode_own_type(file, work, sizes, out, p, n);
     let q = encode_terms(file, work, sizes, out, typed, n);
     walk_new::terms::encode_new(file, work, sizes, out, q, n)

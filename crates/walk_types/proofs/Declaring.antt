@@ -1,12 +1,11 @@
 -- The walk's steps over a type and a function in parts: what is known is left, what is new comes after its parts and is still new then.
 -- Assumes nothing.
-use Prim.Native.Nat.{ℕ, suc, _<_}
+use Prim.Native.Nat.{suc, _<_}
 use mathlib.Core.Path.{_≡_, refl, sym, _∙_, subst}
-use mathlib.Core.Bool.{Bool, true, false}
+use mathlib.Core.Bool.{true, false, true≢false}
 use mathlib.Core.List.{[], _∷_, _++_}
 use mathlib.Core.Option.{none, some}
 use native.Mathlib.Omega.{arith}
-use lib.Dec.{T}
 use Rattle.script_spec.specs.Base.{Bytes, any}
 use Rattle.script_spec.specs.Tree.{Ty, Fun, uuf, TypeMark, Forest, node, depth, depths, eqTy, eqFun, Enums, Datatype, datatype}
 use Rattle.script_spec.specs.Command.{comment}
@@ -51,9 +50,7 @@ module _ (e : Enums) where
         never-true (any (eqTy (node m ts)) (s₁ .types)) (λ k.
         let l : depths ts < suc (depths ts) = omega arith in
         let q = is-true (any (eqTy (node m ts)) (s .types)) (ends-went (encodeTypes-only e ts s) p .types (node m ts) l k) in
-        let z : _≡_ {A = Bool} true false = sym q ∙ h in
-        let o : _≡_ {A = ℕ} 0 1 = cc in
-        omega arith)
+        true≢false (sym q ∙ h))
 
     pub type-still-new : (t : Ty) (s s₁ : State) → node m ts ≡ t → any (eqTy t) (s .types) ≡ false → sticky (encodeTypes e ts) (went s) ≡ went s₁ → any (eqTy t) (s₁ .types) ≡ false
     type-still-new t s s₁ tree h p = subst (λ (u : Ty). any (eqTy u) (s .types) ≡ false → any (eqTy u) (s₁ .types) ≡ false) tree (still-here s s₁ p) h

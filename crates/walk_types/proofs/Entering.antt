@@ -14,6 +14,7 @@ use Rattle.script_spec.specs.File.{TermFile, types, funs, members, typeAt, funA
 use Rattle.script_spec.specs.Command.{comment}
 use Rattle.script_spec.specs.Spelling.{typeComment, typeDeclaration, funDeclaration}
 use Rattle.script_spec.specs.Walk.{State, names, enterType, enterFun, writing, declareFunction}
+use Rattle.script_spec.proofs.Laws.{never}
 use Rattle.write_bytes.specs.Writing.{ceiling, moved}
 use Rattle.write_bytes.proofs.Laws.{line-says}
 use Rattle.index.specs.Cells.{cell, typeFirst, funFirst}
@@ -39,8 +40,8 @@ namedTo p types funs = record { at = p .at; limit = p .limit; types = types; fun
 -- a datatype or none
 either : {A P : Type 0} (o : Option A) (b : Bool) → b ≡ isSome o → (b ≡ false → o ≡ none) × (b ≡ true → ((d : A) → o ≡ some d → P) → P)
 unfolding isSome
-either none b e = (λ h. refl, λ h next. absurd (let z : _≡_ {A = ℕ} 0 1 = cc in omega arith))
-either (some d) b e = (λ h. absurd (let z : _≡_ {A = ℕ} 0 1 = cc in omega arith), λ h next. next d refl)
+either none b e = (λ h. refl, λ h next. never cc)
+either (some d) b e = (λ h. never cc, λ h next. next d refl)
 
 -- ---- a type
 

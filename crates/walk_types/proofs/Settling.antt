@@ -15,6 +15,7 @@ use Rattle.script_spec.specs.Tree.{Ty, TypeMark, Forest, Enums, node, forest, e
 use Rattle.script_spec.specs.Fields.{type}
 use Rattle.script_spec.specs.File.{TermFile, types, members, typeAt}
 use Rattle.script_spec.specs.Walk.{State, Step, went, stopped, declareType, encodeType, encodeTypes}
+use Rattle.script_spec.proofs.Laws.{never}
 use Rattle.index.specs.Cells.{cell, typeOffset, typeFirst}
 use Rattle.index.specs.Standing.{markAt, bodyAt, entryAt}
 use Rattle.index.specs.Meaning.{Index}
@@ -118,7 +119,7 @@ module _ {file : Bytes} {work : List ℕ} {sizes : Sizes} {t : ℕ} where
   settled-name e q = record { go = λ h f S I N l. type-left (members f) (typeAt f t) S (known-by I N t l ∙ ap (λ (n : ℕ). not (eqb n 0)) (sym e) ∙ sym q ∙ h) }
 
   pub unsettled : Settled file work sizes t false
-  unsettled = record { go = λ h f S I N l. absurd (let z : _≡_ {A = ℕ} 0 1 = cc in omega arith) }
+  unsettled = record { go = λ h f S I N l. never cc }
 
 -- whether one type is settled tells it of another
 pub record Follows (file : Bytes) (work : List ℕ) (sizes : Sizes) (t u : ℕ) : Type 0 where

@@ -14,7 +14,7 @@ use Rattle.script_spec.specs.Tree.{Tm, Ty, Fun, Enums, Forest, Mark, node, nil,
 use Rattle.script_spec.specs.Fields.{term}
 use Rattle.script_spec.specs.File.{TermFile, termAt, namedMark, members}
 use Rattle.script_spec.specs.Text.{literal}
-use Rattle.script_spec.specs.Spelling.{Names, bitVec, bodyAt, body, inlined, atom}
+use Rattle.script_spec.specs.Spelling.{Names, bitVec, bodyOver, body, inlined, atom}
 use Rattle.script_spec.specs.Walk.{names}
 use Rattle.write_bytes.specs.Writing.{Appends}
 use Rattle.write_bytes.proofs.Laws.{says}
@@ -33,7 +33,7 @@ use Rattle.index_entry.specs.Terms.{termSaid, TermAt}
 use Rattle.index_entry.specs.declared.terms.TermEntry.{TermEntry}
 use Rattle.index_entry.specs.declared.terms.TermEntry.the-variants as entry
 use Rattle.index_entry.proofs.terms.TermEntry.{the-type}
-use Rattle.write_atoms.specs.Parts.{truth, nameOf}
+use Rattle.write_atoms.specs.Parts.{truth, termNameOf}
 use Rattle.write_atoms.specs.Records.{TermSound}
 use Rattle.write_atoms.proofs.Rows.{EntryIs, term-here, entry-is}
 use Rattle.write_atoms.proofs.Numbered.{name-is}
@@ -74,16 +74,16 @@ always-named e f n s entry.Unreadable h i other = absurd i
 -- ---- a term by its entry
 
 bool-is : (e : Enums) (ν : Names) (b : Bool) → truth b ≡ atom e ν (node (BoolLit b) nil)
-unfolding truth atom inlined body bodyAt
+unfolding truth atom inlined body bodyOver
 bool-is e ν true = refl
 bool-is e ν false = refl
 
 bits-is : (e : Enums) (ν : Names) (n v : ℕ) → bitVec n v ≡ atom e ν (node (BitVecLit n v) nil)
-unfolding atom inlined body bodyAt
+unfolding atom inlined body bodyOver
 bits-is e ν n v = refl
 
 string-is : (e : Enums) (ν : Names) (s : Bytes) → isUtf8 s ≡ true → literal (points s) ≡ atom e ν (node (StringLit s) nil)
-unfolding atom inlined body bodyAt
+unfolding atom inlined body bodyOver
 string-is e ν s h = ap literal (utf8-points s h)
 
 module _ {file : Bytes} {work : List ℕ} {sizes : Sizes} {n limit at q : ℕ} {x y : Bytes} {r : TermEntry} (T : TermAt file (cell work (sizes .rows) termOffset n) r) where
@@ -118,7 +118,7 @@ module _ {file : Bytes} {work : List ℕ} {sizes : Sizes} {n limit at q : ℕ} {
   }
 
   -- a term that always has a name
-  pub atom-named : OneOf tags (tagOf the-type r) → Appends limit x at y q (nameOf work (sizes .rows) n) → SpellsLeaf file work sizes n limit x at y q
+  pub atom-named : OneOf tags (tagOf the-type r) → Appends limit x at y q (termNameOf work (sizes .rows) n) → SpellsLeaf file work sizes n limit x at y q
   atom-named h A = record {
     go = λ f S I N l other. says (name-is I N l ∙ named-is (members f) (names S) (termAt f n) (always-named (members f) f n _ r h (term-here T f I l) other)) A;
   }

@@ -27,7 +27,7 @@ use Rattle.index.specs.declared.Sizes.{Sizes}
 use Rattle.check_rules.specs.Marks.{termBytes, markOf}
 use Rattle.check_rules.proofs.Marks.{entry-mark}
 use Rattle.index_entry.proofs.TermRows.{term-stands}
-use Rattle.write_atoms.specs.Parts.{nameOf}
+use Rattle.write_atoms.specs.Parts.{termNameOf}
 use Rattle.write_atoms.proofs.Numbered.{name-is}
 use Rattle.walk_queries.specs.Negations.{OtherCode}
 use Rattle.walk_queries.proofs.CodeLaws.{record-other}
@@ -116,10 +116,10 @@ module _ {file : Bytes} {work : List ℕ} {sizes : Sizes} {n o l : ℕ} (place :
     }
 
     -- an application with another code than that of `Bvnego` has a name
-    pub marked-other : {body : Bytes} {b : Bool} → l ≡ 65 → body ≡ bodyAt file o → OtherCode body b → b ≡ true → Appends limit x at y q (nameOf work (sizes .rows) n) → SpellsAtom file work sizes n limit x at y q
+    pub marked-other : {body : Bytes} {b : Bool} → l ≡ 65 → body ≡ bodyAt file o → OtherCode body b → b ≡ true → Appends limit x at y q (termNameOf work (sizes .rows) n) → SpellsAtom file work sizes n limit x at y q
     marked-other e here C h A = marked-call e (call-named (of-unlike place (record-other here C) h) (inl refl) A)
 
-    pub marked-named : (l ≡ 65 → ⊥) → (OneOf inline l → ⊥) → Appends limit x at y q (nameOf work (sizes .rows) n) → SpellsAtom file work sizes n limit x at y q
+    pub marked-named : (l ≡ 65 → ⊥) → (OneOf inline l → ⊥) → Appends limit x at y q (termNameOf work (sizes .rows) n) → SpellsAtom file work sizes n limit x at y q
     marked-named a b A = record {
       go = λ f S I N inside. lettered f I inside (λ mk rs h tree.
           let no : inlined (members f) (termAt f n) ≡ false = ap (inlined (members f)) (sym tree) ∙ named-letter a b (members f) f mk _ h in

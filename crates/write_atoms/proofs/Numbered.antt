@@ -15,11 +15,11 @@ use Rattle.index.specs.declared.Sizes.{Sizes}
 use Rattle.walk_names.specs.Naming.{Numbers}
 use Rattle.walk_names.proofs.Names.{name-term}
 use Rattle.write_types.specs.Sorts.{SpellsSort}
-use Rattle.write_atoms.specs.Parts.{nameOf, SpellsNumbered}
+use Rattle.write_atoms.specs.Parts.{termNameOf, SpellsNumbered}
 
 -- the name in memory
-pub name-is : {file : Bytes} {f : TermFile} {work : List ℕ} {sizes : Sizes} {n : ℕ} {S : State} → Index file f work sizes → Numbers f work (sizes .rows) S → n < length (terms f) → nameOf work (sizes .rows) n ≡ names S .term (termAt f n)
-unfolding nameOf
+pub name-is : {file : Bytes} {f : TermFile} {work : List ℕ} {sizes : Sizes} {n : ℕ} {S : State} → Index file f work sizes → Numbers f work (sizes .rows) S → n < length (terms f) → termNameOf work (sizes .rows) n ≡ names S .term (termAt f n)
+unfolding termNameOf
 name-is {n = n} I N l = sym (name-term (I .rows) n N l)
 
 pub spells-numbered : {file : Bytes} {work : List ℕ} {sizes : Sizes} {t i limit at p q r : ℕ} {mark x y z w : Bytes} → SpellsSort file work sizes t limit x at y p → Appends limit y p z q mark

@@ -1,22 +1,23 @@
 -- Entities and applications where they are used, from what is asked of them: an enum's members, and what a `Bvnego` becomes.
 -- Assumes nothing.
 use mathlib.Core.Path.{_≡_, sym, ap, _∙_}
-use mathlib.Core.Bool.{true, false}
+use mathlib.Core.Bool.{Bool, true, false}
 use mathlib.Core.List.{List, [], _∷_}
 use mathlib.Core.Option.{Option, none, some}
 use Prim.Native.Nat.{ℕ}
+use lib.Dec.{ltb}
 use package.types.Run.{OneOf, miss}
 use denote.Enum.Declared.{tagOf}
 use Rattle.script_spec.specs.Base.{Bytes, bytes, isSome, same, place}
 use Rattle.script_spec.specs.Tree.{Ty, Fun, Tm, Op, Enums, Forest, Mark, node, Entity, App, typeOf, typesOf, typeFrom, enumOf, Negation, falsehood, negation, isFalsehood}
 use Rattle.script_spec.specs.File.{typeAt, termAt, members}
-use Rattle.script_spec.specs.Spelling.{Names, sort, memberName, memberBy, entityBy, application, negated, bodyAt, body, inlined, atom}
+use Rattle.script_spec.specs.Spelling.{Names, sort, memberName, memberBy, entityBy, application, negated, bodyOver, body, inlined, atom}
 use Rattle.script_spec.specs.Walk.{names}
 use Rattle.walk_queries.proofs.NegationLaws.{falsehood-is}
-use Rattle.write_bytes.specs.Writing.{Appends}
-use Rattle.write_bytes.proofs.Laws.{says, nothing}
+use Rattle.write_bytes.specs.Writing.{ceiling, Appends}
+use Rattle.write_bytes.proofs.Laws.{says, nothing, stops-past}
 use Rattle.index.specs.declared.Sizes.{Sizes}
-use Rattle.write_atoms.specs.Parts.{nameOf, SpellsNumbered}
+use Rattle.write_atoms.specs.Parts.{termNameOf, SpellsNumbered}
 use Rattle.write_atoms.proofs.Numbered.{name-is}
 use Rattle.walk_queries.specs.Negations.{negationSaid, NegationOf}
 use Rattle.walk_queries.specs.Searches.{FindsMember}
@@ -34,7 +35,7 @@ use Rattle.write_atoms.proofs.AtomLaws.{named-is, inlined-is}
 -- an entity of an enum, by its place among the members
 member-is : (e : Enums) (ν : Names) (T : Ty) (id : Bytes) (ts : Forest Mark) (ms : List Bytes) (o : Option ℕ) → enumOf e T ≡ some ms → place (same id) ms ≡ o
     → memberBy (sort ν T) o ≡ atom e ν (node (Entity T id) ts)
-unfolding inlined body bodyAt typeOf typeFrom entityBy isSome
+unfolding inlined body bodyOver typeOf typeFrom entityBy isSome
 member-is e ν T id ts ms o h i =
     ap (memberBy (sort ν T)) (sym i) ∙ ap (entityBy (sort ν T) id) (sym h) ∙ inlined-is e ν (node (Entity T id) ts) (ap isSome h)
 
@@ -44,7 +45,7 @@ unfolding inlined isSome
 entity-named e T id ts h = ap isSome h
 
 module _ {file : Bytes} {work : List ℕ} {sizes : Sizes} {n t limit at q : ℕ} {id x y : Bytes} {r : Member} (M : FindsMember file work sizes t id r) where
-  pub entity-name : r ≡ member.NoEnum → Appends limit x at y q (nameOf work (sizes .rows) n) → SpellsEntity file work sizes n t id limit x at y q
+  pub entity-name : r ≡ member.NoEnum → Appends limit x at y q (termNameOf work (sizes .rows) n) → SpellsEntity file work sizes n t id limit x at y q
   unfolding MemberSaid
   entity-name e A = record {
     go = λ f S I N l b ts tree.
@@ -69,10 +70,14 @@ entity-stranger {t = t} {id = id} M e = record {
       says (member-is (members f) (names S) _ id ts _ none (found .are) (found .is) ∙ ap (atom (members f) (names S)) tree) nothing;
 }
 
+-- past the limit
+pub entity-past : {file : Bytes} {work : List ℕ} {sizes : Sizes} {n t limit at : ℕ} {b : Bool} {id x : Bytes} → b ≡ ltb (ceiling limit) at → b ≡ true → SpellsEntity file work sizes n t id limit x at x at
+entity-past e h = record { go = λ f S I N l b ts tree. stops-past e h }
+
 -- ---- applications
 
 false-is : (e : Enums) (ν : Names) (ty : Ty) (op : Op Fun) (ts : Forest Mark) → negation (node (App ty op) ts) ≡ falsehood → bytes "false" ≡ atom e ν (node (App ty op) ts)
-unfolding inlined body bodyAt negated
+unfolding inlined body bodyOver negated
 false-is e ν ty op ts h =
     ap (λ (z : Negation). negated z (application ν op (typesOf ts) []) []) (sym h) ∙ inlined-is e ν (node (App ty op) ts) (falsehood-is (node (App ty op) ts) h)
 
@@ -95,7 +100,7 @@ module _ {file : Bytes} {work : List ℕ} {sizes : Sizes} {n limit at q : ℕ} {
         says (false-is es (names S) ty op ts is ∙ ap (atom es (names S)) tree) A;
   }
 
-  pub call-named : OneOf tags (tagOf the-type r) → Appends limit x at y q (nameOf work (sizes .rows) n) → SpellsCall file work sizes n limit x at y q
+  pub call-named : OneOf tags (tagOf the-type r) → Appends limit x at y q (termNameOf work (sizes .rows) n) → SpellsCall file work sizes n limit x at y q
   unfolding inlined
   call-named h A = record {
     go = λ f S I N l ty op ts tree es.

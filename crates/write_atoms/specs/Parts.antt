@@ -21,8 +21,8 @@ truth true = bytes "true"
 truth false = bytes "false"
 
 -- the name of the term with number n in memory
-unfoldable pub nameOf : List ℕ → ℕ → ℕ → Bytes
-nameOf work k n = numbered (bytes "t") (placeOf (nameAt work k termFirst termName n))
+unfoldable pub termNameOf : List ℕ → ℕ → ℕ → Bytes
+termNameOf work rows n = numbered (bytes "t") (placeOf (nameAt work rows termFirst termName n))
 
 -- the sort of the type with number t before a mark and a place is written, whatever file was accepted and whatever names were given
 pub record SpellsNumbered (file : Bytes) (work : List ℕ) (sizes : Sizes) (t : ℕ) (mark : Bytes) (i limit : ℕ) (x : Bytes) (at : ℕ) (y : Bytes) (r : ℕ) : Type 0 where

@@ -7,7 +7,7 @@ use walk_queries::queries::Member;
 use walk_queries::queries::Negated;
 ghost use Rattle.write_atoms.specs.Atoms.{SpellsEntity, SpellsCall, SpellsLeaf, SpellsAtom};
 
-// Writes an entity: a member of an enum by its place, or else by its name.
+// Writes an entity: a member of an enum by its place, or else by its name. Past the limit it is looked up in no enum.
 fn put_entity(
     file: &[u8],
     work: &[u32],
@@ -21,6 +21,9 @@ fn put_entity(
     ensures { λ r.
         ⌜ SpellsEntity (now (file .entry)) (now (work .entry)) sizes (entity .number) (entity .of) (now (id .entry)) limit (now (out .entry)) at (now (out .exit)) r ⌝ }
 {
+    if write_bytes::is_past(at, limit) {
+        return at;
+    }
     match walk_queries::queries::find_member(file, work, sizes, entity.of, id) {
         Member::NoEnum => crate::parts::put_term_name(work, sizes, out, at, limit, entity.number),
         Member::NotMember => at,
@@ -78,29 +81,15 @@ fn put_read(
         TermEntry::BitVecLit(w, v) => {
             write_bitvec::spelling::put_bitvec(out, at, limit, w, v.high, v.low)
         }
-        TermEntry::StringLit(p) => crate::parts::put_string(
-            out,
-            at,
-            limit,
-            index_entry::numbered_terms::body_at(file, work, sizes, n),
-            p,
-        ),
+        TermEntry::StringLit(p) => {
+            let body = index_entry::numbered_terms::body_at(file, work, sizes, n);
+            crate::parts::put_string(out, at, limit, body, p)
+        }
         TermEntry::Entity(t, p) => {
-            let id = read_field::part_of(
-                index_entry::numbered_terms::body_at(file, work, sizes, n),
-                p.start,
-                p.len,
-            );
-            put_entity(
-                file,
-                work,
-                sizes,
-                out,
-                at,
-                limit,
-                Entity { number: n, of: t },
-                id,
-            )
+            let body = index_entry::numbered_terms::body_at(file, work, sizes, n);
+            let id = read_field::part_of(body, p.start, p.len);
+            let entity = Entity { number: n, of: t };
+            put_entity(file, work, sizes, out, at, limit, entity, id)
         }
         _ => crate::parts::put_term_name(work, sizes, out, at, limit, n),
     }

@@ -5,7 +5,7 @@ ghost use Rattle.script_spec.specs.Text.{literal};
 ghost use Rattle.write_bytes.specs.Writing.{Appends};
 ghost use Rattle.read_utf8.specs.Decoding.{points};
 ghost use Rattle.read_field.specs.Answers.{spanned};
-ghost use Rattle.write_atoms.specs.Parts.{truth, nameOf, SpellsNumbered};
+ghost use Rattle.write_atoms.specs.Parts.{truth, termNameOf, SpellsNumbered};
 
 // The name of a member or of an attribute: the number of its type, and its place among the members or attributes.
 pub struct PartName {
@@ -22,15 +22,9 @@ pub fn put_term_name(
     limit: usize,
     n: u32,
 ) -> usize
-    ensures { λ r. ⌜ Appends limit (now (out .entry)) at (now (out .exit)) r (nameOf (now (work .entry)) (sizes .rows) n) ⌝ }
+    ensures { λ r. ⌜ Appends limit (now (out .entry)) at (now (out .exit)) r (termNameOf (now (work .entry)) (sizes .rows) n) ⌝ }
 {
-    let name = walk_names::naming::get(
-        work,
-        sizes.rows,
-        index::TERM_FIRST,
-        walk_names::naming::TERM_NAME,
-        index_entry::records::wide(n),
-    );
+    let name = walk_names::naming::term_name(work, sizes.rows, n);
     walk_names::naming::put_name(out, at, limit, b't', name)
 }
 

@@ -9,11 +9,11 @@ ghost use Rattle.write_bytes.specs.Writing.{Appends};
 ghost use Rattle.write_bitvec.specs.Value.{whole};
 ghost use Rattle.index_entry.specs.Terms.{valueOf};
 
-// Writes a prefix in n bits; 255 is an absent one.
+// Writes a prefix in n bits, or an absent one.
 fn put_prefix(out: &mut [u8], at: usize, limit: usize, n: u32, p: u32) -> usize
     ensures { λ r. ⌜ Appends limit (now (out .entry)) at (now (out .exit)) r (prefixLength n p) ⌝ }
 {
-    if p == 255 {
+    if p == read_field::NO_PREFIX {
         let a = write_bytes::put_at(out, at, limit, b"(as none (Option ");
         let b = write_bitvec::spelling::put_bitvec_sort(out, a, limit, n);
         return write_bytes::put_at(out, b, limit, b"))");

@@ -1,25 +1,16 @@
 -- The answers of the constructors of bit vectors, by the tests on the way. Assumes nothing.
 use mathlib.Core.Path.{_≡_, ap, _∙_}
 use mathlib.Core.Bool.{Bool, true, false}
-use Prim.Native.Nat.{ℕ, _-_, _%_, _^_, _≤_, _<_}
+use Prim.Native.Nat.{ℕ, _-_, _%_, _^_, _≤_}
 use native.Mathlib.Omega.{arith}
 use lib.Dec.{leb, leb→le}
 use lib.IntN.{ℤ}
-use borrow.Author.Tests.{lt-leb, le-leb}
 use Rattle.script_spec.specs.Base.{accepted, refused, between}
 use Rattle.script_spec.proofs.Laws.{and-parts}
 use Rattle.write_bitvec.specs.Value.{twosComplement}
 use Rattle.write_bitvec.specs.Vector.{isWidth, vectorIf}
 use Rattle.write_bitvec.proofs.Powers.{power-whole}
 use Rattle.write_bitvec.proofs.TwosComplement.{twos-wrap}
-
-pub isWidth-above : (n : ℕ) → 1 ≤ n → leb n 128 ≡ isWidth n
-unfolding between
-isWidth-above n h = simp (le-leb 1 n h)
-
-pub isWidth-below : (n : ℕ) → n < 1 → leb 1 n ≡ isWidth n
-unfolding between
-isWidth-below n h = simp (lt-leb 1 n h)
 
 pub isWidth-range : (n : ℕ) → isWidth n ≡ true → (1 ≤ n) × (n ≤ 128)
 unfolding between

@@ -7,7 +7,7 @@ pub mod spelling;
 use halves::Halves;
 ghost use mathlib.Core.Path.{_≡_};
 ghost use Rattle.write_bitvec.specs.Value.{whole, twosComplement};
-ghost use Rattle.write_bitvec.specs.Vector.{said, isWidth, newVector, ofInt, intMin};
+ghost use Rattle.write_bitvec.specs.Vector.{said, newVector, ofInt, intMin};
 
 // A bit vector by its width and the halves of its value.
 pub struct BitVec {
@@ -22,18 +22,11 @@ pub enum Made {
     Refused,
 }
 
-// Whether a bit vector can have n bits.
-pub fn is_width(n: u32) -> bool
-    ensures { λ r. ⌜ r ≡ isWidth n ⌝ }
-{
-    1 <= n && n <= 128
-}
-
 // The bit vector of a value that fits its width.
 pub fn new(width: u32, high: u64, low: u64) -> Made
     ensures { λ r. ⌜ said r ≡ newVector width (whole high low) ⌝ }
 {
-    if !is_width(width) {
+    if !read_field::is_width(width) {
         return Made::Refused;
     }
     if !halves::fits(width, high, low) {
@@ -62,7 +55,7 @@ fn signed(v: i64) -> Halves
 pub fn of_int(width: u32, v: i64) -> Made
     ensures { λ r. ⌜ said r ≡ ofInt width v ⌝ }
 {
-    if !is_width(width) {
+    if !read_field::is_width(width) {
         return Made::Refused;
     }
     let all = signed(v);
@@ -78,7 +71,7 @@ pub fn of_int(width: u32, v: i64) -> Made
 pub fn int_min(width: u32) -> Made
     ensures { λ r. ⌜ said r ≡ intMin width ⌝ }
 {
-    if !is_width(width) {
+    if !read_field::is_width(width) {
         return Made::Refused;
     }
     let v = halves::power(width - 1);

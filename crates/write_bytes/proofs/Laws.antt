@@ -234,10 +234,6 @@ finished-line {o} {x} {y} {s} {at} {r} w e =
     let same : ending x at ≡ fitting s (length o) = ending-wrote o x s at (rw size at (e .small)) w size (leb at (length x)) refl in
     record { says = rw same at (e .leaves .says); holds = rw (same, size) at (e .leaves .holds) }
 
--- a run of writes from the start, ended
-pub finished : {o x y s : Bytes} {at : ℕ} {r : Answer ℕ} → Appends (length o) o 0 x at s → Finishes x at y r → Leaves o y r (fitting s (length o))
-finished f e = finished-line (from-start f) e
-
 -- the end of a run that fits, and of one that does not
 pub finishes-length : (x y : Bytes) (at : ℕ) → length x ≤ longest → at ≤ length x → y ≡ cleared x at → Finishes x at y (accepted at)
 unfolding cleared lengthOf left

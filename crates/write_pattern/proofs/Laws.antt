@@ -3,11 +3,12 @@
 use mathlib.Core.Path.{_≡_, sym, ap, _∙_}
 use mathlib.Core.List.{List, [], _∷_, _++_, map, append-nil, append-assoc}
 use mathlib.Core.Bool.{true, false}
-use Prim.Native.Nat.{ℕ, suc, _+_, _-_, _*_, _/_, _≤_, _<_}
+use Prim.Native.Nat.{ℕ, suc, _-_, _*_, _/_, _≤_, _<_}
 use native.Mathlib.Nat.{div-eq-sub-div, div-eq-of-lt}
 use native.Mathlib.Numerals.{add-one}
 use native.Mathlib.Omega.{arith}
 use borrow.Author.Tests.{eq-eqb, ne-eqb}
+use lib.Dec.{leb→le}
 use lib.ListN.{length, take, drop, length-drop}
 use Rattle.script_spec.specs.Base.{Bytes, bytes, joined, collect}
 use Rattle.script_spec.specs.Tree.{wildcard}
@@ -16,10 +17,11 @@ use Rattle.script_spec.specs.Text.{literal, escaped, escape}
 use Rattle.script_spec.specs.Command.{headed, spaced}
 use Rattle.script_spec.specs.Spelling.{patternElement, elementBy, pattern}
 use Rattle.script_spec.specs.Walk.{lowEnough}
+use Rattle.script_spec.proofs.Readers.{u32-inverse, u32-short}
 use Rattle.read_utf8.specs.Decoding.{isLow}
 use Rattle.read_field.specs.Reads.{value, refusal, asRead, Reads}
-use Rattle.write_pattern.specs.Elements.{numbers, elements, spacedElement, several}
-use Rattle.write_pattern.proofs.Read.{number-read, number-short}
+use Rattle.read_field.specs.Words.{words}
+use Rattle.write_pattern.specs.Elements.{elements, spacedElement, several}
 
 -- ---- elements
 
@@ -31,23 +33,23 @@ quarter-none : (n : ℕ) → n < 4 → n / 4 ≡ 0
 quarter-none n h = div-eq-of-lt h
 
 -- four bytes and more
-numbers-first : (n m : ℕ) (s : Bytes) → n ≡ suc m → numbers n s ≡ low (take 4 s) ∷ numbers m (drop 4 s)
-unfolding numbers
-numbers-first n m s h = rw h
+words-first : (n m : ℕ) (s : Bytes) → n ≡ suc m → words n s ≡ low (take 4 s) ∷ words m (drop 4 s)
+unfolding words
+words-first n m s h = rw h
 
 elements-more : (s : Bytes) (c : ℕ) → 4 ≤ length s → c ≡ low (take 4 s) → elements s ≡ c ∷ elements (drop 4 s)
 unfolding elements
 elements-more s c h e =
     let m : length (drop 4 s) ≡ length s - 4 = length-drop 4 s in
-    numbers-first (length s / 4) ((length s - 4) / 4) s (quarter-more (length s) h) ∙ (rw (m, e))
+    words-first (length s / 4) ((length s - 4) / 4) s (quarter-more (length s) h) ∙ (rw (m, e))
 
-numbers-none : (n : ℕ) (s : Bytes) → n ≡ 0 → numbers n s ≡ []
-unfolding numbers
-numbers-none n s h = rw h
+words-none : (n : ℕ) (s : Bytes) → n ≡ 0 → words n s ≡ []
+unfolding words
+words-none n s h = rw h
 
 elements-none : (s : Bytes) → length s < 4 → elements s ≡ []
 unfolding elements
-elements-none s h = numbers-none (length s / 4) s (quarter-none (length s) h)
+elements-none s h = words-none (length s / 4) s (quarter-none (length s) h)
 
 -- ---- a cursor
 
@@ -59,14 +61,15 @@ pub record ElementAt (s : Bytes) (at c to : ℕ) : Type 0 where
 pub element-at : {s : Bytes} {at c to : ℕ} → Reads u32 s at (value c to) → ElementAt s at c to
 unfolding asRead
 element-at {s} {at} {c} {to} r =
-    let p = number-read (drop at s) c (drop to s) (r .is) in
-    let l : length s - to ≡ length s - at - 4 = sym (length-drop to s) ∙ ap length (p .1) ∙ length-drop 4 (drop at s) ∙ ap (λ (n : ℕ). n - 4) (length-drop at s) in
-    let m : 4 ≤ length s - at = rw (length-drop at s) at (p .2) in
-    record { value = elements-more (drop at s) c (p .2) (p .0) ∙ ap (λ (t : Bytes). c ∷ elements t) (sym (p .1)); moves = omega arith }
+    let w = u32-inverse (drop at s) (r .is) in
+    let fits : 4 ≤ length (drop at s) = leb→le 4 (length (drop at s)) (rw (w .fits) tt) in
+    let l : length s - to ≡ length s - at - 4 = sym (length-drop to s) ∙ ap length (sym (w .left)) ∙ length-drop 4 (drop at s) ∙ ap (λ (n : ℕ). n - 4) (length-drop at s) in
+    let m : 4 ≤ length s - at = rw (length-drop at s) at fits in
+    record { value = elements-more (drop at s) c fits (sym (w .is)) ∙ ap (λ (t : Bytes). c ∷ elements t) (w .left); moves = omega arith }
 
 pub element-none : {s : Bytes} {at m : ℕ} → Reads u32 s at (refusal m) → elements (drop at s) ≡ []
 unfolding asRead
-element-none {s} {at} {m} r = elements-none (drop at s) (number-short (drop at s) m (r .is))
+element-none {s} {at} {m} r = elements-none (drop at s) (u32-short (drop at s) m (r .is))
 
 -- ---- spelling
 

@@ -32,7 +32,7 @@ use Rattle.index_entry.specs.Terms.{childrenIn}
 use Rattle.index_entry.specs.declared.terms.Children.{Children}
 use Rattle.write_atoms.specs.Records.{TermIs}
 use Rattle.write_terms.specs.Arguments.{atoms, SpellsArguments, SpellsClosed}
-use Rattle.write_terms.specs.Applications.{typesAt, headOf, SpellsHead, SpellsApplied, SpellsOperator, SpellsComparison, SpellsLike}
+use Rattle.write_terms.specs.Applications.{typesAt, headOf, SpellsOperatorHead, SpellsApplied, SpellsOperator, SpellsComparison, SpellsLike}
 use Rattle.write_terms.proofs.ArgumentLaws.{headed-closed, headed-last}
 use Rattle.write_terms.proofs.WidthLaws.{width-small}
 
@@ -78,7 +78,7 @@ applied-is ν f body (op.Uuf n) tys args h = refl
 applied-is ν f body (op.ZeroExtend n) tys args h = refl
 
 module _ {file : Bytes} {work : List ℕ} {sizes : Sizes} {s : Bytes} {c : Children} {limit at : ℕ} {x : Bytes} where
-  pub spells-applied : {o : operator.Op} {p q r : ℕ} {y z w : Bytes} → Appends limit x at y p (bytes "(") → SpellsHead file work sizes s o c limit y p z q → SpellsClosed file work sizes s c limit z q w r
+  pub spells-applied : {o : operator.Op} {p q r : ℕ} {y z w : Bytes} → Appends limit x at y p (bytes "(") → SpellsOperatorHead file work sizes s o c limit y p z q → SpellsClosed file work sizes s c limit z q w r
       → SpellsApplied file work sizes s o c limit x at w r
   spells-applied A H C = record { go = λ f S I N n i b. says (headed-closed _ _) (A then H .go f S I N n i b then C .go f S I N b) }
 
@@ -108,7 +108,7 @@ module _ {file : Bytes} {work : List ℕ} {sizes : Sizes} {s : Bytes} {c : Child
 
 app-is : (e : Enums) (ν : Names) (ty : Ty) (o : Op Fun) (ts : Forest Mark) (args : List Bytes) (z : Negation) → z ≡ negation (node (App ty o) ts)
     → negated z (application ν o (typesOf ts) args) args ≡ body e ν (node (App ty o) ts) args
-unfolding body spelling.bodyAt
+unfolding body spelling.bodyOver
 app-is e ν ty o ts args z h = ap (λ (z : Negation). negated z (application ν o (typesOf ts) args) args) h
 
 -- an application from the children of its body

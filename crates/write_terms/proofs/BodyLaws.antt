@@ -1,11 +1,12 @@
 -- The body of a term from its entry: by cases on the entry, over its children as they are spelled where they are used.
 -- Assumes nothing.
 use mathlib.Core.Path.{_≡_, refl, sym, ap, _∙_, subst}
-use mathlib.Core.Bool.{true, false}
+use mathlib.Core.Bool.{Bool, true, false}
 use mathlib.Core.List.{List, [], _∷_, _++_, map}
 use mathlib.Core.Option.{none}
 use Prim.Native.Nat.{ℕ, _<_}
 use native.Mathlib.Omega.{arith}
+use lib.Dec.{ltb}
 use lib.ListN.{length, take, drop}
 use package.types.Run.{OneOf, miss}
 use denote.Enum.Declared.{tagOf}
@@ -18,8 +19,9 @@ use Rattle.script_spec.specs.Command.{headed, spaced}
 use Rattle.script_spec.specs.Spelling as spelling
 use Rattle.script_spec.specs.Spelling.{Names, sort, asSort, entityBy, extValue, setValue, recordValue, body, inlined, atom}
 use Rattle.script_spec.specs.Walk.{State, names}
-use Rattle.write_bytes.specs.Writing.{Appends}
-use Rattle.write_bytes.proofs.Laws.{_then_, says}
+use Rattle.script_spec.proofs.Laws.{never}
+use Rattle.write_bytes.specs.Writing.{ceiling, Appends}
+use Rattle.write_bytes.proofs.Laws.{_then_, says, stops-past}
 use Rattle.read_utf8.specs.Decoding.{points}
 use Rattle.read_utf8.proofs.Laws.{utf8-points}
 use Rattle.read_field.specs.Answers.{spanned}
@@ -50,7 +52,7 @@ use Rattle.write_atoms.specs.Atoms.{SpellsAtom}
 use Rattle.write_atoms.proofs.AtomLaws.{inlined-is}
 use Rattle.write_terms.specs.Arguments.{atoms}
 use Rattle.write_terms.specs.Values.{sortAt, SpellsConstant, SpellsSome, SpellsSet, SpellsRecord}
-use Rattle.write_terms.specs.Lines.{isCompound, fullSpelling, SpellsConstructed, SpellsEntityBody, SpellsBody}
+use Rattle.write_terms.specs.Lines.{isCompound, ownBody, SpellsConstructed, SpellsEntityBody, SpellsBody}
 
 -- ---- entities
 
@@ -65,12 +67,12 @@ spells-constructed A P B C D = record { go = λ f S I N l. says (constructed-pie
 -- an entity of no enum
 constructed-is : (e : Enums) (ν : Names) (T : Ty) (id : Bytes) (ts : Forest Mark) (args : List Bytes) → enumOf e T ≡ none → isUtf8 id ≡ true
     → headed (sort ν T) (literal (points id) ∷ []) ≡ body e ν (node (Entity T id) ts) args
-unfolding body spelling.bodyAt typeOf typeFrom entityBy
+unfolding body spelling.bodyOver typeOf typeFrom entityBy
 constructed-is e ν T id ts args h u = ap (λ (cs : List ℕ). headed (sort ν T) (literal cs ∷ [])) (utf8-points id u) ∙ ap (entityBy (sort ν T) id) (sym h)
 
 -- a member of an enum is written the same way everywhere
 member-body : (e : Enums) (ν : Names) (T : Ty) (id : Bytes) (ts : Forest Mark) (args : List Bytes) → isSome (enumOf e T) ≡ true → atom e ν (node (Entity T id) ts) ≡ body e ν (node (Entity T id) ts) args
-unfolding inlined body spelling.bodyAt
+unfolding inlined body spelling.bodyOver
 member-body e ν T id ts args h = sym (inlined-is e ν (node (Entity T id) ts) h)
 
 -- the answers for an enum, by their places among the answers
@@ -98,6 +100,10 @@ module _ {file : Bytes} {work : List ℕ} {sizes : Sizes} {n t limit at q : ℕ}
         says (ap (atom (members f) (names S)) (sym tree) ∙ member-body (members f) (names S) _ id ts args (in-enum r _ _ id h (member-said r _ _ id (M .go f I b))) ∙ ap (λ (t : Tm). body (members f) (names S) t args) tree) (A .go f S I N l);
   }
 
+-- past the limit
+pub entity-past : {file : Bytes} {work : List ℕ} {sizes : Sizes} {n t limit at : ℕ} {p : Bool} {id x : Bytes} → p ≡ ltb (ceiling limit) at → p ≡ true → SpellsEntityBody file work sizes n t id limit x at x at
+entity-past e h = record { go = λ f S I N l b ts tree u args. stops-past e h }
+
 -- ---- a term by its entry
 
 -- the children of a term
@@ -105,10 +111,10 @@ args-are : {f : TermFile} {n : ℕ} {m : TermMark ℕ ℕ} {rs : List ℕ} → T
 unfolding atoms children
 args-are {f} {rs = rs} T S = ap (map (atom (members f) (names S))) (sym (trees-forest (map (termAt f) rs)) ∙ ap children (T .tree))
 
--- what is written over them is written in full
-pub spells-full : {f : TermFile} {n : ℕ} {m : TermMark ℕ ℕ} {rs : List ℕ} {limit at q : ℕ} {x y : Bytes} → TermIs f n m rs → (S : State)
-    → Appends limit x at y q (body (members f) (names S) (termAt f n) (atoms f S rs)) → Appends limit x at y q (fullSpelling f S n)
-spells-full {f} T S A = says (ap (body (members f) (names S) (termAt f _)) (args-are T S)) A
+-- what is written over them is the body
+pub body-over : {f : TermFile} {n : ℕ} {m : TermMark ℕ ℕ} {rs : List ℕ} {limit at q : ℕ} {x y : Bytes} → TermIs f n m rs → (S : State)
+    → Appends limit x at y q (body (members f) (names S) (termAt f n) (atoms f S rs)) → Appends limit x at y q (ownBody f S n)
+body-over {f} T S A = says (ap (body (members f) (names S) (termAt f _)) (args-are T S)) A
 
 -- what is written for a mark over its children
 body-is : {f : TermFile} {n : ℕ} {m : TermMark ℕ ℕ} {rs : List ℕ} → TermIs f n m rs → (S : State)
@@ -123,27 +129,27 @@ sort-is T S = ap (λ (t : Tm). sort (names S) (typeOf t)) (sym (T .tree))
 -- a set and a record of that sort
 set-is : {f : TermFile} {n t : ℕ} {rs : List ℕ} → TermIs f n (Set t) rs → (S : State)
     → setValue (sortAt f S n) (atoms f S rs) ≡ body (members f) (names S) (termAt f n) (map (atom (members f) (names S)) (children (termAt f n)))
-unfolding namedMark body spelling.bodyAt
+unfolding namedMark body spelling.bodyOver
 set-is {f} {rs = rs} T S = ap (λ (ty : Bytes). setValue ty (atoms f S rs)) (sort-is T S) ∙ body-is T S
 
 record-is : {f : TermFile} {n : ℕ} {ns : List Bytes} {rs : List ℕ} → TermIs f n (Record ns) rs → (S : State)
     → recordValue (sortAt f S n) (atoms f S rs) ≡ body (members f) (names S) (termAt f n) (map (atom (members f) (names S)) (children (termAt f n)))
-unfolding namedMark body spelling.bodyAt
+unfolding namedMark body spelling.bodyOver
 record-is {f} {rs = rs} T S = ap (λ (ty : Bytes). recordValue ty (atoms f S rs)) (sort-is T S) ∙ body-is T S
 
-pub spells-some : {file : Bytes} {work : List ℕ} {sizes : Sizes} {n i limit at q : ℕ} {x y : Bytes} → SpellsSome file work sizes i limit x at y q → (f : TermFile) (S : State)
-    → Index file f work sizes → Numbers f work (sizes .rows) S → n < length (terms f) → TermIs f n Some (i ∷ []) → Appends limit x at y q (fullSpelling f S n)
-unfolding namedMark body spelling.bodyAt atoms Below All
-spells-some P f S I N l is = says (body-is is S) (P .go f S I N (omega (arith, is .below .0)))
+pub body-some : {file : Bytes} {work : List ℕ} {sizes : Sizes} {n i limit at q : ℕ} {x y : Bytes} → SpellsSome file work sizes i limit x at y q → (f : TermFile) (S : State)
+    → Index file f work sizes → Numbers f work (sizes .rows) S → n < length (terms f) → TermIs f n Some (i ∷ []) → Appends limit x at y q (ownBody f S n)
+unfolding namedMark body spelling.bodyOver atoms Below All
+body-some P f S I N l is = says (body-is is S) (P .go f S I N (omega (arith, is .below .0)))
 
 module _ {file : Bytes} {work : List ℕ} {sizes : Sizes} {n limit at q : ℕ} {s x y : Bytes} {c : Children} where
-  pub spells-set : SpellsSet file work sizes n s c limit x at y q → {t : ℕ} (f : TermFile) (S : State) → Index file f work sizes → Numbers f work (sizes .rows) S → n < length (terms f)
-      → TermIs f n (Set t) (childrenIn s c) → Appends limit x at y q (fullSpelling f S n)
-  spells-set P f S I N l is = says (set-is is S) (P .go f S I N l (below-more n (length (terms f)) (omega arith) _ (is .below)))
+  pub body-set : SpellsSet file work sizes n s c limit x at y q → {t : ℕ} (f : TermFile) (S : State) → Index file f work sizes → Numbers f work (sizes .rows) S → n < length (terms f)
+      → TermIs f n (Set t) (childrenIn s c) → Appends limit x at y q (ownBody f S n)
+  body-set P f S I N l is = says (set-is is S) (P .go f S I N l (below-more n (length (terms f)) (omega arith) _ (is .below)))
 
-  pub spells-record : SpellsRecord file work sizes n s c limit x at y q → {ns : List Bytes} (f : TermFile) (S : State) → Index file f work sizes → Numbers f work (sizes .rows) S → n < length (terms f)
-      → TermIs f n (Record ns) (childrenIn s c) → Appends limit x at y q (fullSpelling f S n)
-  spells-record P f S I N l is = says (record-is is S) (P .go f S I N l (below-more n (length (terms f)) (omega arith) _ (is .below)))
+  pub body-record : SpellsRecord file work sizes n s c limit x at y q → {ns : List Bytes} (f : TermFile) (S : State) → Index file f work sizes → Numbers f work (sizes .rows) S → n < length (terms f)
+      → TermIs f n (Record ns) (childrenIn s c) → Appends limit x at y q (ownBody f S n)
+  body-record P f S I N l is = says (record-is is S) (P .go f S I N l (below-more n (length (terms f)) (omega arith) _ (is .below)))
 
 -- the terms that are written the same way everywhere, and those that are compound, by their places among the entries
 abbrev same : List ℕ
@@ -151,7 +157,7 @@ same = 0 ∷ 1 ∷ 2 ∷ 3 ∷ 7 ∷ 8 ∷ 9 ∷ 10 ∷ 11 ∷ []
 
 same-body : (e : Enums) (ν : Names) (f : TermFile) (n : ℕ) (s : Bytes) (args : List Bytes) (r : TermEntry) → OneOf same (tagOf the-type r) → EntryIs f n (termSaid s r)
     → isCompound (termAt f n) ≡ false → atom e ν (termAt f n) ≡ body e ν (termAt f n) args
-unfolding termSaid namedMark forest atom inlined body spelling.bodyAt isCompound
+unfolding termSaid namedMark forest atom inlined body spelling.bodyOver isCompound
 same-body e ν f n s args (entry.Var p t) h i plain = subst (λ (t : Tm). atom e ν t ≡ body e ν t args) (i .tree) refl
 same-body e ν f n s args (entry.BoolLit b) h i plain = subst (λ (t : Tm). atom e ν t ≡ body e ν t args) (i .tree) refl
 same-body e ν f n s args (entry.BitVecLit w v) h i plain = subst (λ (t : Tm). atom e ν t ≡ body e ν t args) (i .tree) refl
@@ -159,10 +165,10 @@ same-body e ν f n s args (entry.StringLit p) h i plain = subst (λ (t : Tm). at
 same-body e ν f n s args (entry.Entity t p) h i plain = absurd (miss same 4 tt h)
 same-body e ν f n s args (entry.ExtLit v) h i plain = absurd (miss same 5 tt h)
 same-body e ν f n s args (entry.None t) h i plain = absurd (miss same 6 tt h)
-same-body e ν f n s args (entry.Some m) h i plain = let g : true ≡ false = ap isCompound (i .tree) ∙ plain in let z : _≡_ {A = ℕ} 0 1 = cc in absurd (omega arith)
-same-body e ν f n s args (entry.Set t c) h i plain = let g : true ≡ false = ap isCompound (i .tree) ∙ plain in let z : _≡_ {A = ℕ} 0 1 = cc in absurd (omega arith)
-same-body e ν f n s args (entry.Record c) h i plain = let g : true ≡ false = ap isCompound (i .tree) ∙ plain in let z : _≡_ {A = ℕ} 0 1 = cc in absurd (omega arith)
-same-body e ν f n s args (entry.App t o c) h i plain = let g : true ≡ false = ap isCompound (i .tree) ∙ plain in let z : _≡_ {A = ℕ} 0 1 = cc in absurd (omega arith)
+same-body e ν f n s args (entry.Some m) h i plain = let g : true ≡ false = ap isCompound (i .tree) ∙ plain in never cc
+same-body e ν f n s args (entry.Set t c) h i plain = let g : true ≡ false = ap isCompound (i .tree) ∙ plain in never cc
+same-body e ν f n s args (entry.Record c) h i plain = let g : true ≡ false = ap isCompound (i .tree) ∙ plain in never cc
+same-body e ν f n s args (entry.App t o c) h i plain = let g : true ≡ false = ap isCompound (i .tree) ∙ plain in never cc
 same-body e ν f n s args entry.Unreadable h i plain = absurd i
 
 module _ {file : Bytes} {work : List ℕ} {sizes : Sizes} {n limit at q : ℕ} {x y : Bytes} {r : TermEntry} (T : TermAt file (cell work (sizes .rows) termOffset n) r) where
@@ -170,11 +176,11 @@ module _ {file : Bytes} {work : List ℕ} {sizes : Sizes} {n limit at q : ℕ} {
   body-atom h A = record { go = λ f S I N l plain. says (same-body (members f) (names S) f n _ _ r h (term-here T f I l) plain) (A .go f S I N l) }
 
   pub body-value : {v : Value} → r ≡ entry.ExtLit v → Appends limit x at y q (extValue (valueOf v)) → SpellsBody file work sizes n limit x at y q
-  unfolding termSaid namedMark body spelling.bodyAt
+  unfolding termSaid namedMark body spelling.bodyOver
   body-value e A = record { go = λ f S I N l plain. says (body-is (entry-is T (ap (termSaid _) e) f I l) S) A }
 
   pub body-none : {t : ℕ} → r ≡ entry.None t → SpellsConstant file work sizes n (bytes "none") limit x at y q → SpellsBody file work sizes n limit x at y q
-  unfolding termSaid namedMark body spelling.bodyAt
+  unfolding termSaid namedMark body spelling.bodyOver
   body-none e P = record {
     go = λ f S I N l plain. let is = entry-is T (ap (termSaid _) e) f I l in says (ap (asSort (bytes "none")) (sort-is is S) ∙ body-is is S) (P .go f S I N l);
   }

@@ -12,7 +12,7 @@ use Rattle.write_bytes.proofs.Laws.{_then_, says, from-start, line-past, line-s
 use Rattle.index.specs.Meaning.{Index}
 use Rattle.index.specs.declared.Sizes.{Sizes}
 use Rattle.walk_names.specs.Naming.{Numbers}
-use Rattle.write_terms.specs.Lines.{fullSpelling, SpellsHead}
+use Rattle.write_terms.specs.Lines.{ownBody, SpellsHead}
 use Rattle.write_terms.specs.Definitions.{SpellsDefinition}
 use Rattle.write_terms.proofs.LineLaws.{definition-pieces}
 
@@ -22,6 +22,6 @@ module _ {file : Bytes} {work : List ℕ} {sizes : Sizes} {n room : ℕ} {known 
   definition-past e = record { go = λ f S I N l is. rw e (line-past (line-some _)) }
 
   pub definition-line : {p q r : ℕ} {x y z w : Bytes} → SpellsHead file work sizes n room x 0 y p
-      → ((f : TermFile) (S : State) → Index file f work sizes → Numbers f work (sizes .rows) S → n < length (terms f) → known f → Appends room y p z q (fullSpelling f S n))
+      → ((f : TermFile) (S : State) → Index file f work sizes → Numbers f work (sizes .rows) S → n < length (terms f) → known f → Appends room y p z q (ownBody f S n))
       → Appends room z q w r (bytes ")\n") → SpellsDefinition file work sizes n room x w r known
   definition-line H B D = record { go = λ f S I N l is. from-start (says (definition-pieces _ _ _) (H .go f S I N l then B f S I N l is then D)) }

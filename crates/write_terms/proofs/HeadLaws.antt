@@ -1,9 +1,11 @@
 -- The heads of applications, from the operator of an entry.
 -- Assumes nothing.
 use mathlib.Core.Path.{_≡_, refl, sym, ap, _∙_, subst}
+use mathlib.Core.Bool.{Bool, true}
 use mathlib.Core.List.{List, [], _∷_, _++_}
 use mathlib.Core.Option.{none, some}
 use Prim.Native.Nat.{ℕ, _<_}
+use lib.Dec.{ltb}
 use lib.ListN.{length, take, drop}
 use package.types.Run.{OneOf, miss}
 use denote.Enum.Declared.{tagOf}
@@ -14,8 +16,8 @@ use Rattle.script_spec.specs.Text.{decimal}
 use Rattle.script_spec.specs.Command.{headed, spaced}
 use Rattle.script_spec.specs.Spelling.{Names, sort, attributeName, selectorBy, selector}
 use Rattle.script_spec.specs.Walk.{numbered, names}
-use Rattle.write_bytes.specs.Writing.{Appends}
-use Rattle.write_bytes.proofs.Laws.{says, nothing}
+use Rattle.write_bytes.specs.Writing.{ceiling, Appends}
+use Rattle.write_bytes.proofs.Laws.{says, nothing, stops-past}
 use Rattle.index.specs.Cells.{cell, termType, funFirst}
 use Rattle.index.specs.First.{All, Below, OpInRange}
 use Rattle.index.specs.Meaning.{Index, counted}
@@ -40,7 +42,7 @@ use Rattle.walk_queries.specs.declared.queries.Attribute.the-variants as answer
 use Rattle.walk_queries.proofs.queries.Attribute as query
 use Rattle.write_atoms.specs.Symbols.{symbol, symbolOf}
 use Rattle.write_atoms.specs.Parts.{SpellsNumbered}
-use Rattle.write_terms.specs.Applications.{typesAt, headOf, SpellsSelector, SpellsHead}
+use Rattle.write_terms.specs.Applications.{typesAt, headOf, SpellsSelector, SpellsOperatorHead}
 
 -- ---- selectors
 
@@ -62,6 +64,11 @@ no-attribute (answer.At i) a ty h s = absurd (miss nowhere 2 tt h)
 pub selector-none : {file : Bytes} {work : List ℕ} {sizes : Sizes} {body name : Bytes} {c : Children} {limit at : ℕ} {x : Bytes} → c .left ≡ 0 → SpellsSelector file work sizes body c name limit x at x at
 unfolding typesAt forest typesOf selector
 selector-none {body = body} {c = c} e = record { go = λ f S I N b. let none : childrenIn body c ≡ [] = no-children body c e in says (rw none) nothing }
+
+-- past the limit
+pub selector-past : {file : Bytes} {work : List ℕ} {sizes : Sizes} {body name : Bytes} {c : Children} {limit at : ℕ} {p : Bool} {x : Bytes} → p ≡ ltb (ceiling limit) at → p ≡ true
+    → SpellsSelector file work sizes body c name limit x at x at
+selector-past e h = record { go = λ f S I N b. stops-past e h }
 
 module _ {file : Bytes} {work : List ℕ} {sizes : Sizes} {body name : Bytes} {c : Children} {child : Child} {t : ℕ} {r : Attribute}
     (l : 0 < c .left) (T : TakesChild body c child) (e : t ≡ cell work (sizes .rows) termType (child .number)) (F : FindsAttribute file work sizes t name r) where
@@ -145,17 +152,17 @@ symbol-head ν f body (op.Uuf n) tys h = absurd (miss symbols 31 tt h)
 symbol-head ν f body (op.ZeroExtend n) tys h = absurd (miss symbols 32 tt h)
 
 module _ {file : Bytes} {work : List ℕ} {sizes : Sizes} {body : Bytes} {o : Op} {c : Children} {limit at q : ℕ} {x y : Bytes} where
-  pub head-selector : {p : Span} → o ≡ op.RecordGet p → SpellsSelector file work sizes body c (spanned body p) limit x at y q → SpellsHead file work sizes body o c limit x at y q
+  pub head-selector : {p : Span} → o ≡ op.RecordGet p → SpellsSelector file work sizes body c (spanned body p) limit x at y q → SpellsOperatorHead file work sizes body o c limit x at y q
   unfolding opOf namedOp headOf
   head-selector e P = record { go = λ f S I N n i b. says (rw e) (P .go f S I N b) }
 
-  pub head-function : {g name : ℕ} → o ≡ op.Uuf g → name ≡ nameAt work (sizes .rows) funFirst funName g → Appends limit x at y q (numbered (bytes "f") (placeOf name)) → SpellsHead file work sizes body o c limit x at y q
+  pub head-function : {g name : ℕ} → o ≡ op.Uuf g → name ≡ nameAt work (sizes .rows) funFirst funName g → Appends limit x at y q (numbered (bytes "f") (placeOf name)) → SpellsOperatorHead file work sizes body o c limit x at y q
   unfolding opOf namedOp headOf OpInRange counted
   head-function {g} e h A = record { go = λ f S I N n i b. says ((rw h) ∙ sym (name-fun (I .rows) g N (rw e at i)) ∙ (rw e)) A }
 
-  pub head-extend : {m : ℕ} → o ≡ op.ZeroExtend m → Appends limit x at y q (headed (bytes "_") (bytes "zero_extend" ∷ decimal m ∷ [])) → SpellsHead file work sizes body o c limit x at y q
+  pub head-extend : {m : ℕ} → o ≡ op.ZeroExtend m → Appends limit x at y q (headed (bytes "_") (bytes "zero_extend" ∷ decimal m ∷ [])) → SpellsOperatorHead file work sizes body o c limit x at y q
   unfolding opOf namedOp headOf
   head-extend e A = record { go = λ f S I N n i b. says (rw e) A }
 
-  pub head-symbol : OneOf symbols (tagOf operator.the-type o) → Appends limit x at y q (symbolOf o) → SpellsHead file work sizes body o c limit x at y q
+  pub head-symbol : OneOf symbols (tagOf operator.the-type o) → Appends limit x at y q (symbolOf o) → SpellsOperatorHead file work sizes body o c limit x at y q
   head-symbol h A = record { go = λ f S I N n i b. says (symbol-head (names S) f body o _ h) A }

@@ -3,7 +3,7 @@
 use mathlib.Core.Path.{_≡_, sym, ap, _∙_}
 use mathlib.Core.Bool.{true}
 use mathlib.Core.List.{List, [], _∷_, _++_, append-assoc, append-nil}
-use Prim.Native.Nat.{ℕ, _<_}
+use Prim.Native.Nat.{ℕ, _-_, _<_, min}
 use native.Mathlib.Omega.{arith}
 use lib.ListN.{length, take, drop, length-append}
 use package.types.Run.{OneOf, miss}
@@ -13,11 +13,11 @@ use Rattle.script_spec.specs.Utf8.{isUtf8}
 use Rattle.script_spec.specs.Tree.{Ty, Forest, Mark, node, forest, Var}
 use Rattle.script_spec.specs.File.{TermFile, termAt, namedMark}
 use Rattle.script_spec.specs.Text.{oneLine, debug}
-use Rattle.script_spec.specs.Command.{Command, headed, listed, spaced, spelled, line, script, comment, declareConst, defineFun, assertThat}
+use Rattle.script_spec.specs.Command.{Command, headed, listed, spaced, spelled, line, script, comment, declareConst, defineFun}
 use Rattle.script_spec.proofs.Laws.{never}
 use Rattle.smtlib_script.proofs.Lines.{line-assert}
-use Rattle.write_bytes.specs.Writing.{Appends}
-use Rattle.write_bytes.proofs.Laws.{_then_, says, from-start, line-past, line-some}
+use Rattle.write_bytes.specs.Writing.{ceiling, moved, Appends}
+use Rattle.write_bytes.proofs.Laws.{_then_, says, from-start, line-says, line-past, line-some}
 use Rattle.read_utf8.specs.Decoding.{points}
 use Rattle.write_text.specs.Written.{quoted}
 use Rattle.write_text.proofs.Runs.{quoted-debug}
@@ -30,13 +30,14 @@ use Rattle.index_entry.specs.Terms.{termSaid, TermAt}
 use Rattle.index_entry.specs.declared.terms.TermEntry.{TermEntry}
 use Rattle.index_entry.specs.declared.terms.TermEntry.the-variants as entry
 use Rattle.index_entry.proofs.terms.TermEntry.{the-type}
-use Rattle.write_atoms.specs.Parts.{nameOf}
+use Rattle.write_types.proofs.LineLaws.{second-line}
+use Rattle.write_atoms.specs.Parts.{termNameOf}
 use Rattle.write_atoms.specs.Records.{TermSound}
 use Rattle.write_atoms.proofs.Rows.{EntryIs, term-here, entry-is}
 use Rattle.write_atoms.proofs.Numbered.{name-is}
 use Rattle.write_atoms.specs.Atoms.{SpellsAtom}
 use Rattle.write_terms.specs.Values.{sortAt, SpellsTermSort}
-use Rattle.write_terms.specs.Lines.{definitionHead, SpellsHead, SpellsAssertion, SpellsNamed, SpellsVariable}
+use Rattle.write_terms.specs.Lines.{definitionHead, SpellsHead, SpellsAssertion, SpellsId, SpellsConst, SpellsNamed, SpellsVariable}
 use Rattle.write_terms.proofs.DebugLaws.{debug-line}
 
 -- the head of a definition, its body and its end
@@ -53,18 +54,26 @@ const-pieces : (n t : Bytes) → bytes "(declare-const " ++ (n ++ (bytes " " ++ 
 unfolding line spelled headed spaced joined bytes
 const-pieces n t = simp append-assoc
 
-variable-pieces : (d n t : Bytes) → oneLine d ≡ d
-    → (bytes "; " ++ (d ++ bytes "\n")) ++ (bytes "(declare-const " ++ (n ++ (bytes " " ++ (t ++ bytes ")\n")))) ≡ script (comment d ∷ declareConst n t ∷ [])
+-- a script of two commands
+two-lines : (c d : Command) → line c ++ line d ≡ script (c ∷ d ∷ [])
 unfolding script collect
-variable-pieces d n t e = rw (comment-line d e, const-pieces n t) (ap (λ (r : Bytes). line (comment d) ++ r) (sym (append-nil (line (declareConst n t)))))
+two-lines c d = ap (λ (r : Bytes). line c ++ r) (sym (append-nil (line d)))
 
 -- a script of a comment and a command is not empty
 declared-some : (c : Command) (cs : List Command) → 0 < length (script (c ∷ cs))
 unfolding script collect
 declared-some c cs = omega (arith, line-some c, length-append (line c) (script cs))
 
+module _ {id : Bytes} {room : ℕ} {x : Bytes} where
+  -- with no room nothing is written
+  pub id-past : room ≡ 0 → SpellsId id room x x 1
+  id-past e = record { go = λ u. rw e (line-past (line-some _)) }
+
+  pub spells-id : {p q r : ℕ} {y z w : Bytes} → Appends room x 0 y p (bytes "; ") → Appends room y p z q (quoted true (points id)) → Appends room z q w r (bytes "\n") → SpellsId id room x w r
+  spells-id A Q B = record { go = λ u. from-start (says (comment-line (debug id) (debug-line id)) (A then says (quoted-debug id u) Q then B)) }
+
 module _ {file : Bytes} {work : List ℕ} {sizes : Sizes} {n limit : ℕ} {x : Bytes} where
-  pub spells-head : {at p₁ p₂ p₃ p₄ r : ℕ} {x₁ x₂ x₃ x₄ y : Bytes} → Appends limit x at x₁ p₁ (bytes "(define-fun ") → Appends limit x₁ p₁ x₂ p₂ (nameOf work (sizes .rows) n)
+  pub spells-head : {at p₁ p₂ p₃ p₄ r : ℕ} {x₁ x₂ x₃ x₄ y : Bytes} → Appends limit x at x₁ p₁ (bytes "(define-fun ") → Appends limit x₁ p₁ x₂ p₂ (termNameOf work (sizes .rows) n)
       → Appends limit x₂ p₂ x₃ p₃ (bytes " () ") → SpellsTermSort file work sizes n limit x₃ p₃ x₄ p₄ → Appends limit x₄ p₄ y r (bytes " ") → SpellsHead file work sizes n limit x at y r
   unfolding sortAt definitionHead
   spells-head A M B P C = record { go = λ f S I N l. A then says (name-is I N l) M then B then P .go f S I N l then C }
@@ -77,15 +86,20 @@ module _ {file : Bytes} {work : List ℕ} {sizes : Sizes} {n limit : ℕ} {x : B
       → SpellsAssertion file work sizes n limit x w r
   spells-assertion A P B = record { go = λ f S I N l. from-start (says (line-assert _) (A then P .go f S I N l then B)) }
 
-  pub spells-named : {id : Bytes} {p₁ p₂ p₃ p₄ p₅ r : ℕ} {x₁ x₂ x₃ x₄ x₅ y : Bytes} → Appends limit x 0 x₁ p₁ (bytes "; " ++ (quoted true (points id) ++ bytes "\n"))
-      → Appends limit x₁ p₁ x₂ p₂ (bytes "(declare-const ") → Appends limit x₂ p₂ x₃ p₃ (nameOf work (sizes .rows) n) → Appends limit x₃ p₃ x₄ p₄ (bytes " ") → SpellsTermSort file work sizes n limit x₄ p₄ x₅ p₅
-      → Appends limit x₅ p₅ y r (bytes ")\n") → SpellsNamed file work sizes n id limit x y r
+  -- with no room nothing is written
+  pub const-past : limit ≡ 0 → SpellsConst file work sizes n limit x x 1
+  const-past e = record { go = λ f S I N l. rw e (line-past (line-some _)) }
+
+  pub spells-const : {p₁ p₂ p₃ p₄ r : ℕ} {x₁ x₂ x₃ x₄ y : Bytes} → Appends limit x 0 x₁ p₁ (bytes "(declare-const ") → Appends limit x₁ p₁ x₂ p₂ (termNameOf work (sizes .rows) n)
+      → Appends limit x₂ p₂ x₃ p₃ (bytes " ") → SpellsTermSort file work sizes n limit x₃ p₃ x₄ p₄ → Appends limit x₄ p₄ y r (bytes ")\n") → SpellsConst file work sizes n limit x y r
   unfolding sortAt
-  spells-named {id} Q B M C P D = record {
-    go = λ f S I N l u.
-        let quote = ap (λ (d : Bytes). bytes "; " ++ (d ++ bytes "\n")) (quoted-debug id u) in
-        from-start (says (variable-pieces (debug id) _ _ (debug-line id)) (says quote Q then B then says (name-is I N l) M then C then P .go f S I N l then D));
-  }
+  spells-const A M B P C = record { go = λ f S I N l. from-start (says (const-pieces _ _) (A then says (name-is I N l) M then B then P .go f S I N l then C)) }
+
+  -- a comment, and the declaration in the rest after it
+  pub spells-named : {id : Bytes} {at from left m r : ℕ} {y ys : Bytes} → SpellsId id limit x y at → from ≡ min at (length y) → left ≡ ceiling limit - at
+      → SpellsConst file work sizes n left (take (length y - from) (drop from y)) ys m → r ≡ moved at m (ceiling limit)
+      → SpellsNamed file work sizes n id limit x (take from y ++ (ys ++ drop (length y - from) (drop from y))) r
+  spells-named {id} Q hf hl C hr = record { go = λ f S I N l u. line-says (two-lines (comment (debug id)) _) (second-line (Q .go u) hf hl (C .go f S I N l) hr) }
 
   -- ---- the terms that are variables
 

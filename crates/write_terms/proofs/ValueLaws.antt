@@ -18,7 +18,7 @@ use Rattle.index_entry.specs.Terms.{childrenIn}
 use Rattle.index_entry.specs.declared.terms.Children.{Children}
 use Rattle.index_entry.proofs.ChildLaws.{no-children, length-children}
 use Rattle.write_atoms.specs.Atoms.{SpellsAtom}
-use Rattle.write_terms.specs.Arguments.{atoms, led, SpellsArguments}
+use Rattle.write_terms.specs.Arguments.{atoms, spacedBefore, SpellsArguments}
 use Rattle.write_terms.specs.Values.{sortAt, SpellsTermSort, SpellsConstant, SpellsSome, SpellsSet, SpellsRecord}
 use Rattle.write_terms.proofs.ArgumentLaws.{headed-closed, headed-last, atoms-some}
 
@@ -54,7 +54,7 @@ spells-some A P B = record { go = λ f S I N l. says (some-pieces _) (A then P .
 -- ---- sets and records
 
 set-some : (f : TermFile) (S : State) (ty : Bytes) (ns : List ℕ) → (length ns ≡ 0 → ⊥)
-    → bytes "(set.insert" ++ (led (atoms f S ns) ++ (bytes " " ++ (asSort (bytes "set.empty") ty ++ bytes ")"))) ≡ setValue ty (atoms f S ns)
+    → bytes "(set.insert" ++ (spacedBefore (atoms f S ns) ++ (bytes " " ++ (asSort (bytes "set.empty") ty ++ bytes ")"))) ≡ setValue ty (atoms f S ns)
 unfolding atoms setValue bytes
 set-some f S ty [] h = absurd (h refl)
 set-some f S ty (n ∷ ns) h = headed-last (bytes "set.insert") (asSort (bytes "set.empty") ty) _
@@ -64,7 +64,7 @@ unfolding atoms recordValue
 record-full f S ty [] h = absurd (h refl)
 record-full f S ty (n ∷ ns) h = refl
 
-record-some : (f : TermFile) (S : State) (ty : Bytes) (ns : List ℕ) → (length ns ≡ 0 → ⊥) → bytes "(" ++ (ty ++ (led (atoms f S ns) ++ bytes ")")) ≡ recordValue ty (atoms f S ns)
+record-some : (f : TermFile) (S : State) (ty : Bytes) (ns : List ℕ) → (length ns ≡ 0 → ⊥) → bytes "(" ++ (ty ++ (spacedBefore (atoms f S ns) ++ bytes ")")) ≡ recordValue ty (atoms f S ns)
 record-some f S ty ns h = ap (λ (s : Bytes). bytes "(" ++ (ty ++ s)) (atoms-some f S ns h) ∙ headed-closed ty (atoms f S ns) ∙ record-full f S ty ns h
 
 module _ {file : Bytes} {work : List ℕ} {sizes : Sizes} {n : ℕ} {body : Bytes} {c : Children} {limit at : ℕ} {x : Bytes} where

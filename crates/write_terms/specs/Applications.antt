@@ -42,7 +42,7 @@ pub record SpellsSelector (file : Bytes) (work : List ℕ) (sizes : Sizes) (body
       → Appends limit x at y r (selector (names S) name (typesAt f (childrenIn body c)))
 
 -- the head of an application is written
-pub record SpellsHead (file : Bytes) (work : List ℕ) (sizes : Sizes) (body : Bytes) (o : operator.Op) (c : Children) (limit : ℕ) (x : Bytes) (at : ℕ) (y : Bytes) (r : ℕ) : Type 0 where
+pub record SpellsOperatorHead (file : Bytes) (work : List ℕ) (sizes : Sizes) (body : Bytes) (o : operator.Op) (c : Children) (limit : ℕ) (x : Bytes) (at : ℕ) (y : Bytes) (r : ℕ) : Type 0 where
   pub go : (f : TermFile) (S : State) → Index file f work sizes → Numbers f work (sizes .rows) S → (n : ℕ) → OpInRange (counted (length (types f)) (length (funs f)) n) (opOf body o)
       → Below (length (terms f)) (childrenIn body c) → Appends limit x at y r (headOf (names S) (namedOp f (opOf body o)) (typesAt f (childrenIn body c)))
 

@@ -21,12 +21,12 @@ unfoldable pub atoms : TermFile → State → List ℕ → List Bytes
 atoms f S ns = map (atom (members f) (names S)) (map (termAt f) ns)
 
 -- texts, each after a space
-unfoldable pub led : List Bytes → Bytes
-led xs = collect (λ x. bytes " " ++ x) xs
+unfoldable pub spacedBefore : List Bytes → Bytes
+spacedBefore xs = collect (λ x. bytes " " ++ x) xs
 
 -- what stands after an operator or a constructor: its arguments after a space, and the end
-unfoldable pub closed : List Bytes → Bytes
-closed xs = bytes " " ++ (spaced xs ++ bytes ")")
+unfoldable pub closedList : List Bytes → Bytes
+closedList xs = bytes " " ++ (spaced xs ++ bytes ")")
 
 module _ (file : Bytes) (work : List ℕ) (sizes : Sizes) (body : Bytes) (c : Children) (limit : ℕ) (x : Bytes) (at : ℕ) (y : Bytes) (r : ℕ) where
   -- a text over the children of a body is written, whatever file was accepted and whatever names were given
@@ -36,8 +36,8 @@ module _ (file : Bytes) (work : List ℕ) (sizes : Sizes) (body : Bytes) (c : Ch
 
   -- each child is written after a space
   abbrev pub SpellsArguments : Type 0
-  SpellsArguments = SpellsOver (λ f S xs. led xs)
+  SpellsArguments = SpellsOver (λ f S xs. spacedBefore xs)
 
   -- the children are written, and the end
   abbrev pub SpellsClosed : Type 0
-  SpellsClosed = SpellsOver (λ f S xs. closed xs)
+  SpellsClosed = SpellsOver (λ f S xs. closedList xs)

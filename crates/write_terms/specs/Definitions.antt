@@ -20,7 +20,7 @@ use Rattle.walk_names.specs.Naming.{Numbers}
 use Rattle.index_entry.specs.Terms.{childrenIn}
 use Rattle.index_entry.specs.declared.terms.Children.{Children}
 use Rattle.write_atoms.specs.Records.{TermIs}
-use Rattle.write_terms.specs.Lines.{isCompound, fullSpelling}
+use Rattle.write_terms.specs.Lines.{isCompound, ownBody}
 
 -- ---- what is known of the term with number n
 
@@ -60,4 +60,4 @@ pub record ComparisonIs (n w : ℕ) (rs : List ℕ) (f : TermFile) : Type 0 wher
 -- the definition of the term with number n is written from the start of x, for a term of which that is known
 pub record SpellsDefinition (file : Bytes) (work : List ℕ) (sizes : Sizes) (n room : ℕ) (x y : Bytes) (r : ℕ) (known : TermFile → Type 0) : Type 0 where
   pub go : (f : TermFile) (S : State) → Index file f work sizes → Numbers f work (sizes .rows) S → n < length (terms f) → known f
-      → Wrote room x y r (line (defineFun (names S .term (termAt f n)) [] (sort (names S) (typeOf (termAt f n))) (fullSpelling f S n)))
+      → Wrote room x y r (line (defineFun (names S .term (termAt f n)) [] (sort (names S) (typeOf (termAt f n))) (ownBody f S n)))

@@ -36,9 +36,9 @@ isCompound (node (Set ty) ts) = true
 isCompound (node (Record ns) ts) = true
 isCompound (node (App ty op) ts) = true
 
--- a term in full, over its children as they are spelled where they are used
-abbrev pub fullSpelling : TermFile → State → ℕ → Bytes
-fullSpelling f S n = body (members f) (names S) (termAt f n) (map (atom (members f) (names S)) (children (termAt f n)))
+-- the body of the term with number n, over its children as they are spelled where they are used
+abbrev pub ownBody : TermFile → State → ℕ → Bytes
+ownBody f S n = body (members f) (names S) (termAt f n) (map (atom (members f) (names S)) (children (termAt f n)))
 
 -- the definition of a term as far as its body
 unfoldable pub definitionHead : Bytes → Bytes → Bytes
@@ -59,7 +59,7 @@ module _ (file : Bytes) (work : List ℕ) (sizes : Sizes) (n : ℕ) where
     -- the term with number n, which is not compound, is written in full
     pub record SpellsBody : Type 0 where
       pub go : (f : TermFile) (S : State) → Index file f work sizes → Numbers f work (sizes .rows) S → n < length (terms f) → isCompound (termAt f n) ≡ false
-          → Appends limit x at y r (fullSpelling f S n)
+          → Appends limit x at y r (ownBody f S n)
 
     -- its definition is written as far as its body
     pub record SpellsHead : Type 0 where
@@ -74,12 +74,21 @@ module _ (file : Bytes) (work : List ℕ) (sizes : Sizes) (n : ℕ) where
       pub go : (f : TermFile) (S : State) → Index file f work sizes → Numbers f work (sizes .rows) S → n < length (terms f)
           → Wrote room x y r (line (assertThat (atom (members f) (names S) (termAt f n))))
 
-    -- its declaration is written, if it is a variable
+    -- its declaration by its name and its sort is written
+    pub record SpellsConst : Type 0 where
+      pub go : (f : TermFile) (S : State) → Index file f work sizes → Numbers f work (sizes .rows) S → n < length (terms f)
+          → Wrote room x y r (line (declareConst (names S .term (termAt f n)) (sort (names S) (typeOf (termAt f n)))))
+
+    -- its declaration is written after its id in a comment, if it is a variable
     pub record SpellsVariable : Type 0 where
       pub go : (f : TermFile) (S : State) → Index file f work sizes → Numbers f work (sizes .rows) S → n < length (terms f) → (id : Bytes) (ty : Ty) (ts : Forest Mark) → termAt f n ≡ node (Var id ty) ts
           → Wrote room x y r (script (comment (debug id) ∷ declareConst (names S .term (termAt f n)) (sort (names S) (typeOf (termAt f n))) ∷ []))
 
-  -- its declaration is written, for a variable with this id
+  -- its declaration is written after its id in a comment, for a variable with this id
   pub record SpellsNamed (id : Bytes) (room : ℕ) (x y : Bytes) (r : ℕ) : Type 0 where
     pub go : (f : TermFile) (S : State) → Index file f work sizes → Numbers f work (sizes .rows) S → n < length (terms f) → isUtf8 id ≡ true
         → Wrote room x y r (script (comment (debug id) ∷ declareConst (names S .term (termAt f n)) (sort (names S) (typeOf (termAt f n))) ∷ []))
+
+-- an id is written in a comment
+pub record SpellsId (id : Bytes) (room : ℕ) (x y : Bytes) (r : ℕ) : Type 0 where
+  pub go : isUtf8 id ≡ true → Wrote room x y r (line (comment (debug id)))

@@ -14,7 +14,7 @@ ghost use Rattle.script_spec.specs.Text.{decimal};
 ghost use Rattle.script_spec.specs.Command.{headed};
 ghost use Rattle.write_bytes.specs.Writing.{Appends};
 ghost use Rattle.read_field.specs.Answers.{spanned};
-ghost use Rattle.write_terms.specs.Applications.{SpellsSelector, SpellsHead, SpellsApplied, SpellsOperator, SpellsComparison, SpellsLike};
+ghost use Rattle.write_terms.specs.Applications.{SpellsSelector, SpellsOperatorHead, SpellsApplied, SpellsOperator, SpellsComparison, SpellsLike};
 
 // The attribute that is asked of the first argument: its name is a part of the body.
 struct Get {
@@ -34,7 +34,7 @@ pub struct Comparison {
     pub width: u32,
 }
 
-// Writes the selector of an attribute; the type of the first child of a body decides.
+// Writes the selector of an attribute; the type of the first child of a body decides. Past the limit the attribute is not looked up.
 fn put_selector(
     file: &[u8],
     work: &[u32],
@@ -52,13 +52,12 @@ fn put_selector(
     if c.left == 0 {
         return at;
     }
+    if write_bytes::is_past(at, limit) {
+        return at;
+    }
     let child = index_entry::terms::take_child(body, c);
-    let t = index::get(
-        work,
-        sizes.rows,
-        index::TERM_TYPE,
-        index_entry::records::wide(child.number),
-    );
+    let number = index_entry::records::wide(child.number);
+    let t = index::get(work, sizes.rows, index::TERM_TYPE, number);
     let name = read_field::part_of(body, get.name.start, get.name.len);
     match walk_queries::queries::index_of_attr(file, work, sizes, t, name) {
         Attribute::At(i) => write_atoms::parts::put_numbered(
@@ -96,7 +95,7 @@ fn put_head(
     call: Application,
 ) -> usize
     ensures { λ r.
-        ⌜ SpellsHead (now (file .entry)) (now (work .entry)) sizes (now (body .entry)) (call .op) (call .arguments) limit (now (out .entry)) at (now (out .exit)) r ⌝ }
+        ⌜ SpellsOperatorHead (now (file .entry)) (now (work .entry)) sizes (now (body .entry)) (call .op) (call .arguments) limit (now (out .entry)) at (now (out .exit)) r ⌝ }
 {
     let op = call.op;
     let arguments = call.arguments;

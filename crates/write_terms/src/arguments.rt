@@ -3,7 +3,7 @@ use index::Sizes;
 use index_entry::terms::Children;
 ghost use Rattle.write_terms.specs.Arguments.{SpellsArguments, SpellsClosed};
 
-// Writes the children of a body, each after a space.
+// Writes the children of a body, each after a space, as far as the limit.
 pub fn put_arguments(
     file: &[u8],
     work: &[u32],
@@ -20,6 +20,9 @@ pub fn put_arguments(
     let mut place = at;
     let mut rest = c;
     while 0 < rest.left {
+        if write_bytes::is_past(place, limit) {
+            return place;
+        }
         let child = index_entry::terms::take_child(body, rest);
         let a = write_bytes::put_byte(out, place, limit, b' ');
         place = write_atoms::atoms::put_atom(file, work, sizes, out, a, limit, child.number);

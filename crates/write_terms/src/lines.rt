@@ -7,13 +7,9 @@ use index_entry::terms::Entity;
 use index_entry::terms::TermEntry;
 use smtlib_script::line::Word;
 use walk_queries::queries::Member;
-ghost use mathlib.Core.Bool.{true};
-ghost use mathlib.Core.List.{_++_};
 ghost use Rattle.script_spec.specs.Base.{bytes};
 ghost use Rattle.write_bytes.specs.Writing.{Appends};
-ghost use Rattle.read_utf8.specs.Decoding.{points};
-ghost use Rattle.write_text.specs.Written.{quoted};
-ghost use Rattle.write_terms.specs.Lines.{SpellsConstructed, SpellsEntityBody, SpellsBody, SpellsHead, SpellsNamed, SpellsVariable, SpellsAssertion};
+ghost use Rattle.write_terms.specs.Lines.{SpellsConstructed, SpellsEntityBody, SpellsBody, SpellsHead, SpellsId, SpellsConst, SpellsNamed, SpellsVariable, SpellsAssertion};
 
 // Writes an entity of the type with number t, which is no enum, by its id.
 fn put_constructed(
@@ -36,7 +32,7 @@ fn put_constructed(
     write_bytes::put_byte(out, d, limit, b')')
 }
 
-// Writes an entity in full.
+// Writes an entity in full. Past the limit it is looked up in no enum.
 fn put_entity(
     file: &[u8],
     work: &[u32],
@@ -50,6 +46,9 @@ fn put_entity(
     ensures { λ r.
         ⌜ SpellsEntityBody (now (file .entry)) (now (work .entry)) sizes (entity .number) (entity .of) (now (id .entry)) limit (now (out .entry)) at (now (out .exit)) r ⌝ }
 {
+    if write_bytes::is_past(at, limit) {
+        return at;
+    }
     match walk_queries::queries::find_member(file, work, sizes, entity.of, id) {
         Member::NoEnum => put_constructed(file, work, sizes, out, at, limit, entity.of, id),
         _ => write_atoms::atoms::put_atom(file, work, sizes, out, at, limit, entity.number),
@@ -96,7 +95,7 @@ pub fn put_head(
     ensures { λ r.
         ⌜ SpellsHead (now (file .entry)) (now (work .entry)) sizes n limit (now (out .entry)) at (now (out .exit)) r ⌝ }
 {
-    let a = smtlib_script::line::put_word(out, at, limit, Word::DefineFun);
+    let a = smtlib_script::line::put_define_fun(out, at, limit);
     let b = write_atoms::parts::put_term_name(work, sizes, out, a, limit, n);
     let c = write_bytes::put_at(out, b, limit, b" () ");
     let d = values::put_term_sort(file, work, sizes, out, c, limit, n);
@@ -110,16 +109,34 @@ pub fn put_end(out: &mut [u8], at: usize, limit: usize) -> usize
     write_bytes::put_at(out, at, limit, b")\n")
 }
 
-// Writes the comment of a variable: its id.
-fn put_id(out: &mut [u8], at: usize, limit: usize, id: &[u8]) -> usize
-    ensures { λ r. ⌜ Appends limit (now (out .entry)) at (now (out .exit)) r (bytes "; " ++ (quoted true (points (now (id .entry))) ++ bytes "\n")) ⌝ }
+// Writes the comment of a variable, its id, as a line.
+fn put_id(rest: &mut [u8], room: usize, id: &[u8]) -> usize
+    ensures { λ r. ⌜ SpellsId (now (id .entry)) room (now (rest .entry)) (now (rest .exit)) r ⌝ }
 {
-    let a = write_bytes::put_at(out, at, limit, b"; ");
-    let b = write_text::put_debug(out, a, limit, id);
-    write_bytes::put_byte(out, b, limit, b'\n')
+    if room == 0 {
+        return 1;
+    }
+    let a = smtlib_script::line::put_word(rest, 0, room, Word::Comment);
+    let b = write_text::put_debug(rest, a, room, id);
+    write_bytes::put_byte(rest, b, room, b'\n')
 }
 
-// Writes the declaration of the term with number n, a variable, after its id in a comment.
+// Writes the declaration of the term with number n by its name and its sort as a line.
+fn put_const(file: &[u8], work: &[u32], sizes: Sizes, rest: &mut [u8], room: usize, n: u32) -> usize
+    ensures { λ r.
+        ⌜ SpellsConst (now (file .entry)) (now (work .entry)) sizes n room (now (rest .entry)) (now (rest .exit)) r ⌝ }
+{
+    if room == 0 {
+        return 1;
+    }
+    let a = smtlib_script::line::put_word(rest, 0, room, Word::DeclareConst);
+    let b = write_atoms::parts::put_term_name(work, sizes, rest, a, room, n);
+    let c = write_bytes::put_byte(rest, b, room, b' ');
+    let d = values::put_term_sort(file, work, sizes, rest, c, room, n);
+    write_bytes::put_at(rest, d, room, b")\n")
+}
+
+// Declares the term with number n, a variable: its id in a comment, and its declaration in the rest after it.
 fn put_named(
     file: &[u8],
     work: &[u32],
@@ -132,12 +149,11 @@ fn put_named(
     ensures { λ r.
         ⌜ SpellsNamed (now (file .entry)) (now (work .entry)) sizes n (now (id .entry)) room (now (rest .entry)) (now (rest .exit)) r ⌝ }
 {
-    let a = put_id(rest, 0, room, id);
-    let b = smtlib_script::line::put_word(rest, a, room, Word::DeclareConst);
-    let c = write_atoms::parts::put_term_name(work, sizes, rest, b, room, n);
-    let d = write_bytes::put_byte(rest, c, room, b' ');
-    let e = values::put_term_sort(file, work, sizes, rest, d, room, n);
-    write_bytes::put_at(rest, e, room, b")\n")
+    let at = put_id(rest, room, id);
+    let from = write_bytes::rest_from(rest.len(), at);
+    let left = write_bytes::room(at, room);
+    let length = put_const(file, work, sizes, &mut rest[from..], left, n);
+    write_bytes::past_line(at, room, length)
 }
 
 // The declaration of the term with number n, if that is a variable, after its id in a comment.

@@ -10,7 +10,7 @@ use borrow.Author.Tests.{le-leb, leb-true, eq-eqb, ne-eqb}
 use lib.Dec.{eqb, leb}
 use Rattle.script_spec.specs.Base.{Bytes, bytes, between, place, placeFrom, endsLine}
 use Rattle.script_spec.specs.Text.{brace, escape, escapeBy, debugChar}
-use Rattle.script_spec.proofs.Laws.{and-false, and-true}
+use Rattle.script_spec.proofs.Laws.{and-false, and-true, never}
 use Rattle.write_text.specs.Written.{shown, stops}
 
 -- ---- printable code points
@@ -21,7 +21,7 @@ printable-high c h = rw (le-leb 32 c h)
 
 and-second : (x y : Bool) → (x && y) ≡ true → y ≡ true
 and-second true y h = h
-and-second false y h = let z : _≡_ {A = ℕ} 0 1 = cc in absurd (omega arith)
+and-second false y h = never cc
 
 pub printable-small : (c : ℕ) → between 32 126 c ≡ true → c ≤ 126
 unfolding between

@@ -8,7 +8,7 @@ use lib.ListN.{drop}
 use Rattle.script_spec.specs.Base.{Bytes, bytes, joined, collect, endsLine}
 use Rattle.script_spec.specs.Text.{oneLine, spaceIf}
 use Rattle.index.specs.Lists.{firstText, texts}
-use Rattle.index_entry.specs.Places.{PastText}
+use Rattle.index_entry.specs.Places.{afterText}
 
 -- a text after a comma, on one line
 unfoldable pub led : List Bytes → Bytes
@@ -36,11 +36,11 @@ led-none skip zero s h = refl
 led-none skip (suc n) s h = absurd (omega arith)
 
 -- the text at a place, and those after it
-module _ {body item : Bytes} {at end : ℕ} (T : item ≡ firstText (drop at body)) (E : PastText body at end) (skip next : ℕ) (e : drop next body ≡ drop skip (drop end body)) where
+module _ (body : Bytes) {item : Bytes} (at : ℕ) (T : item ≡ firstText (drop at body)) (skip next : ℕ) (e : drop next body ≡ afterText skip (drop at body)) where
   texts-step : (n : ℕ) → 0 < n → item ∷ texts skip (n - 1) (drop next body) ≡ texts skip n (drop at body)
-  unfolding texts
+  unfolding texts afterText
   texts-step zero h = absurd (omega arith)
-  texts-step (suc n) h = let m : suc n - 1 ≡ n = omega arith in rw (m, e, E .rest, T)
+  texts-step (suc n) h = let m : suc n - 1 ≡ n = omega arith in rw (m, e, T)
 
   pub texts-start : (n : ℕ) → 0 < n → oneLine item ++ led (texts skip (n - 1) (drop next body)) ≡ oneLine (joined (bytes ", ") (texts skip n (drop at body)))
   texts-start n h = sym (oneLine-joined item (texts skip (n - 1) (drop next body))) ∙ ap (λ (l : List Bytes). oneLine (joined (bytes ", ") l)) (texts-step n h)

@@ -68,5 +68,8 @@ module _ {file : Bytes} {work : List ℕ} {sizes : Sizes} {g : ℕ} {e : entry.F
   }
 
 -- with no room nothing is written
+pub id-past : {file : Bytes} {work : List ℕ} {sizes : Sizes} {g room : ℕ} {x : Bytes} → room ≡ 0 → SpellsId file work sizes g room x x 1
+id-past e = record { go = λ f I l. rw e (line-past (line-some _)) }
+
 pub fun-past : {file : Bytes} {work : List ℕ} {sizes : Sizes} {g room : ℕ} {x : Bytes} → room ≡ 0 → SpellsFun file work sizes g room x x 1
 fun-past e = record { go = λ f S I M l. rw e (line-past (line-some _)) }

@@ -21,27 +21,27 @@ use Rattle.index_entry.specs.Symbols.{EnumAt}
 use Rattle.index_entry.specs.declared.symbols.Enum.{Enum}
 use Rattle.index_search.specs.Enums.{enumAt, membersAt, FindsEnum}
 use Rattle.index_search.proofs.EnumLaws.{finds-members}
-use Rattle.write_types.specs.Records.{SpellsRecord}
-use Rattle.write_types.specs.Members.{entityName, SpellsEnum}
+use Rattle.write_types.specs.Records.{SpellsRecordType}
+use Rattle.write_types.specs.Members.{entitySymbol, SpellsEnum}
 use Rattle.write_types.specs.Lines.{entityLines, recordLines, SpellsRecordLines, SpellsEnumLines, SpellsEntityLines}
 use Rattle.index.specs.declared.Sizes.{Sizes}
 
 -- a line after a line
-second-line : {room at from left n r : ℕ} {x y ys s t : Bytes} → Wrote room x y at s → from ≡ min at (length y) → left ≡ ceiling room - at
+pub second-line : {room at from left n r : ℕ} {x y ys s t : Bytes} → Wrote room x y at s → from ≡ min at (length y) → left ≡ ceiling room - at
     → Wrote left (take (length y - from) (drop from y)) ys n t → r ≡ moved at n (ceiling room)
     → Wrote room x (take from y ++ (ys ++ drop (length y - from) (drop from y))) r (s ++ t)
 second-line {x = x} {s = s} C hf hl D hr = rest-appends refl hf hl D hr .go x s C
 
 -- an entity type that is no enum
 pub plain-lines : {room at from left n r : ℕ} {x y ys : Bytes} (text : Bytes) (name : ℕ) → Wrote room x y at (line (comment text)) → from ≡ min at (length y) → left ≡ ceiling room - at
-    → Wrote left (take (length y - from) (drop from y)) ys n (line (declareDatatype (entityName name) [] (entityConstructors (entityName name) none))) → r ≡ moved at n (ceiling room)
+    → Wrote left (take (length y - from) (drop from y)) ys n (line (declareDatatype (entitySymbol name) [] (entityConstructors (entitySymbol name) none))) → r ≡ moved at n (ceiling room)
     → Wrote room x (take from y ++ (ys ++ drop (length y - from) (drop from y))) r (entityLines text name none)
 unfolding entityLines entityComment
 plain-lines text name C hf hl D hr = second-line C hf hl D hr
 
 module _ {file : Bytes} {work : List ℕ} {sizes : Sizes} {name room at from left m r : ℕ} {x y ys : Bytes} where
   pub record-lines : {body : Bytes} {n : ℕ} → Wrote room x y at (line (comment (bytes "{" ⊹ joined (bytes ", ") (texts 4 n (drop 4 body)) ⊹ bytes "}")))
-      → from ≡ min at (length y) → left ≡ ceiling room - at → SpellsRecord file work sizes body name n left (take (length y - from) (drop from y)) ys m → r ≡ moved at m (ceiling room)
+      → from ≡ min at (length y) → left ≡ ceiling room - at → SpellsRecordType file work sizes body name n left (take (length y - from) (drop from y)) ys m → r ≡ moved at m (ceiling room)
       → SpellsRecordLines file work sizes body name n room x (take from y ++ (ys ++ drop (length y - from) (drop from y))) r
   unfolding recordLines
   record-lines C hf hl D hr = record { go = λ f S I N b. second-line C hf hl (D .go f S I N b) hr }
@@ -56,7 +56,7 @@ module _ {file : Bytes} {work : List ℕ} {sizes : Sizes} {name room at from lef
         let said = E .go (enumAt f i .0) (enumAt f i .1) (rw place (I .rows .enum-row i l .stands)) in
         let ms : texts 0 (e .members) (drop (e .from) body) ≡ enumAt f i .1 = rw b (said .members-are) in
         let size : length (enumAt f i .1) ≡ e .members = ap length (sym ms) ∙ length-texts 0 (e .members) (drop (e .from) body) in
-        line-says (ap (λ (l : List Bytes). line (comment (entityComment text (some l))) ++ line (declareDatatype (entityName name) [] (entityConstructors (entityName name) (some (enumAt f i .1))))) ms)
+        line-says (ap (λ (l : List Bytes). line (comment (entityComment text (some l))) ++ line (declareDatatype (entitySymbol name) [] (entityConstructors (entitySymbol name) (some (enumAt f i .1))))) ms)
         (second-line C hf hl (D .go (enumAt f i .1) size) hr);
   }
 

@@ -14,7 +14,7 @@ use Rattle.script_spec.specs.Spelling.{memberName, numberedFrom, entityConstruc
 use Rattle.write_bytes.specs.Writing.{Appends}
 use Rattle.write_bytes.proofs.Laws.{_then_, says, from-start, line-past, line-some}
 use Rattle.write_types.proofs.CommentLaws.{oneLine-append}
-use Rattle.write_types.specs.Members.{entityName, memberText, membersText, SpellsMembers, SpellsEnum}
+use Rattle.write_types.specs.Members.{entitySymbol, memberText, membersText, SpellsMembers, SpellsEnum}
 
 pub entity-pieces : (n : Bytes) → bytes "(declare-datatype " ++ (n ++ (bytes " (\n  (" ++ (n ++ (bytes " (" ++ (n ++ bytes "_eid String))))\n"))))) ≡ line (declareDatatype n [] (entityConstructors n none))
 unfolding line spelled headed spaced joined datatypeBody constructorList entityConstructors bytes
@@ -48,23 +48,23 @@ module _ {name n limit at r : ℕ} {x y : Bytes} where
   unfolding entityConstructors numberedFrom joined bytes
   lines-none e A = record { go = λ ms h. says (none-of ms (h ∙ e)) A }
     where
-      none-of : (ms : List Bytes) → length ms ≡ 0 → bytes "\n  " ≡ bytes "\n  " ++ joined (bytes "\n  ") (entityConstructors (entityName name) (some ms))
+      none-of : (ms : List Bytes) → length ms ≡ 0 → bytes "\n  " ≡ bytes "\n  " ++ joined (bytes "\n  ") (entityConstructors (entitySymbol name) (some ms))
       none-of [] h = refl
       none-of (m ∷ ms) h = absurd (omega arith)
 
-  pub lines-some : (n ≡ 0 → ⊥) → Appends limit x at y r (membersText (entityName name) 0 n) → SpellsMembers name n limit x at y r
+  pub lines-some : (n ≡ 0 → ⊥) → Appends limit x at y r (membersText (entitySymbol name) 0 n) → SpellsMembers name n limit x at y r
   unfolding entityConstructors
   lines-some h A = record { go = λ ms e. says (some-of ms e) A }
     where
-      some-of : (ms : List Bytes) → length ms ≡ n → membersText (entityName name) 0 n ≡ bytes "\n  " ++ joined (bytes "\n  ") (entityConstructors (entityName name) (some ms))
+      some-of : (ms : List Bytes) → length ms ≡ n → membersText (entitySymbol name) 0 n ≡ bytes "\n  " ++ joined (bytes "\n  ") (entityConstructors (entitySymbol name) (some ms))
       some-of [] e = absurd (h (sym e))
-      some-of (m ∷ ms) e = rw (← e) (members-joined (entityName name) m 0 ms)
+      some-of (m ∷ ms) e = rw (← e) (members-joined (entitySymbol name) m 0 ms)
 
 enum-pieces : (n : Bytes) (cs : List Bytes) → bytes "(declare-datatype " ++ (n ++ (bytes " (" ++ ((bytes "\n  " ++ joined (bytes "\n  ") cs) ++ bytes "))\n"))) ≡ line (declareDatatype n [] cs)
 unfolding line spelled headed spaced joined datatypeBody constructorList bytes
 enum-pieces n cs = simp append-assoc
 
-pub spells-enum : {name n room p₁ p₂ p₃ p₄ r : ℕ} {x x₁ x₂ x₃ x₄ y : Bytes} → Appends room x 0 x₁ p₁ (bytes "(declare-datatype ") → Appends room x₁ p₁ x₂ p₂ (entityName name)
+pub spells-enum : {name n room p₁ p₂ p₃ p₄ r : ℕ} {x x₁ x₂ x₃ x₄ y : Bytes} → Appends room x 0 x₁ p₁ (bytes "(declare-datatype ") → Appends room x₁ p₁ x₂ p₂ (entitySymbol name)
     → Appends room x₂ p₂ x₃ p₃ (bytes " (") → SpellsMembers name n room x₃ p₃ x₄ p₄ → Appends room x₄ p₄ y r (bytes "))\n") → SpellsEnum name n room x y r
 spells-enum A N B M C = record { go = λ ms e. from-start (says (enum-pieces _ _) (A then N then B then M .go ms e then C)) }
 

@@ -23,7 +23,7 @@ use Rattle.walk_names.specs.Naming.{Numbers}
 use Rattle.index.specs.Lists.{numberAt, textSize}
 use Rattle.index_entry.specs.Places.{namedItems, PastText}
 use Rattle.write_types.specs.Sorts.{SpellsSort}
-use Rattle.write_types.specs.Records.{partText, partsText, partsOf, recordName, partSorts, argumentsText, SpellsPartSort, SpellsParts, SpellsSpaced, SpellsRecord}
+use Rattle.write_types.specs.Records.{partText, partsText, partsOf, recordName, partSorts, argumentsText, SpellsPartSort, SpellsParts, SpellsSpaced, SpellsRecordType}
 use Rattle.write_types.proofs.CommentLaws.{oneLine-append}
 use Rattle.write_types.proofs.Runs.{Continues, continues-start, continues-on, continues-end}
 
@@ -106,13 +106,13 @@ module _ {file : Bytes} {work : List ℕ} {sizes : Sizes} {body : Bytes} {name n
 
   pub spells-record : {p₁ p₂ p₃ p₄ p₅ r : ℕ} {x x₁ x₂ x₃ x₄ x₅ y : Bytes} → Appends limit x 0 x₁ p₁ (bytes "(declare-datatype ") → Appends limit x₁ p₁ x₂ p₂ (recordName name)
       → Appends limit x₂ p₂ x₃ p₃ (bytes " (\n  (") → Appends limit x₃ p₃ x₄ p₄ (recordName name) → SpellsSpaced file work sizes body name n limit x₄ p₄ x₅ p₅
-      → Appends limit x₅ p₅ y r (bytes ")))\n") → SpellsRecord file work sizes body name n limit x y r
+      → Appends limit x₅ p₅ y r (bytes ")))\n") → SpellsRecordType file work sizes body name n limit x y r
   spells-record A N B M P C = record { go = λ f S I J b. from-start (says (record-line (names S) f (recordName name) (partsOf n (drop 4 body))) (A then N then B then M then P .go f S I J b then C)) }
 
   -- with no room nothing is written
-  pub record-past : {x : Bytes} → limit ≡ 0 → SpellsRecord file work sizes body name n limit x x 1
+  pub record-past : {x : Bytes} → limit ≡ 0 → SpellsRecordType file work sizes body name n limit x x 1
   record-past e = record { go = λ f S I J b. rw e (line-past (line-some _)) }
 
-pub record-comment : {room r : ℕ} {x y : Bytes} (s : Bytes) → Appends room x 0 y r (bytes "; {" ++ (oneLine s ++ bytes "}\n")) → Wrote room x y r (line (comment (bytes "{" ⊹ s ⊹ bytes "}")))
+pub record-comment : {room r : ℕ} {x y : Bytes} (s : Bytes) → Appends room x 0 y r (bytes "; " ++ (bytes "{" ++ (oneLine s ++ bytes "}\n"))) → Wrote room x y r (line (comment (bytes "{" ⊹ s ⊹ bytes "}")))
 unfolding line spelled oneLine spaceIf endsLine bytes
 record-comment s A = from-start (says (rw (oneLine-append s (bytes "}")) (simp append-assoc)) A)

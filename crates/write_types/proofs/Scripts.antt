@@ -13,7 +13,7 @@ use Rattle.script_spec.specs.Walk.{State, letter, names, typeName}
 use Rattle.index.proofs.Rules.{trees-forest}
 use Rattle.walk_names.specs.Naming.{placeOf}
 use Rattle.write_types.specs.Records.{recordName, partSorts}
-use Rattle.write_types.specs.Members.{entityName}
+use Rattle.write_types.specs.Members.{entitySymbol}
 use Rattle.write_types.specs.Lines.{entityLines, recordLines}
 
 -- what declares a type that is a datatype
@@ -23,7 +23,7 @@ declaring e S d ty = script (typeComment e d ++ (typeDeclaration e (names S) d t
 module _ (e : Enums) (S : State) (name : ℕ) where
   pub entity-script : (text : Bytes) → placeOf name ≡ place (eqTy (node (Declared (entity text)) nil)) (S .types)
       → entityLines text name (e text) ≡ declaring e S (entity text) (node (Declared (entity text)) nil)
-  unfolding declaring entityLines entityName script collect typeComment typeDeclaration constructors sort sortFrom datatypeSort names typeName datatype datatypeMark letter
+  unfolding declaring entityLines entitySymbol script collect typeComment typeDeclaration constructors sort sortFrom datatypeSort names typeName datatype datatypeMark letter
   entity-script text h = rw h (simp append-nil)
 
   pub record-script : (f : TermFile) (attributes : List Bytes) (ps : List ℕ) → placeOf name ≡ place (eqTy (node (Declared (recordOf attributes)) (forest (map (typeAt f) ps)))) (S .types)

@@ -33,7 +33,7 @@ use Rattle.index_entry.specs.declared.types.TypeEntry.{TypeEntry}
 use Rattle.index_entry.specs.declared.types.TypeEntry.the-variants as entry
 use Rattle.index_entry.proofs.Rows.{type-stands}
 use Rattle.index_entry.proofs.TypeEntries.{under, type-bool, type-option, type-set, type-at}
-use Rattle.write_types.specs.Sorts.{overMark, overSaid, OverAt, opened, plainSort, SpellsSort}
+use Rattle.write_types.specs.Sorts.{overMark, overSaid, OverAt, openedPart, plainSort, SpellsSort}
 use Rattle.write_types.specs.declared.sorts.Over.{Over}
 use Rattle.write_types.specs.declared.sorts.Over.the-variants as over
 
@@ -102,8 +102,8 @@ module _ (f : TermFile) (S : State) (body : Bytes) where
   plain-is entry.Unreadable name = tt
 
 -- a type that stands over a part
-over-sort : (f : TermFile) (S : State) (set : Bool) (p : ℕ) → opened set ++ (sort (names S) (typeAt f p) ++ bytes ")") ≡ sort (names S) (node (overMark set) (forest (map (typeAt f) (p ∷ []))))
-unfolding overMark opened sort sorts sortFrom headed spaced joined forest bytes
+over-sort : (f : TermFile) (S : State) (set : Bool) (p : ℕ) → openedPart set ++ (sort (names S) (typeAt f p) ++ bytes ")") ≡ sort (names S) (node (overMark set) (forest (map (typeAt f) (p ∷ []))))
+unfolding overMark openedPart sort sorts sortFrom headed spaced joined forest bytes
 over-sort f S true p = refl
 over-sort f S false p = refl
 
@@ -140,7 +140,7 @@ module _ {file : Bytes} {work : List ℕ} {sizes : Sizes} {t : ℕ} {x : Over} (
 
   module _ {set : Bool} {p : ℕ} (told : x ≡ over.Part set p) where
     over-here : {A : Type 0} (f : TermFile) (S : State) → Index file f work sizes → t < length (types f)
-        → (opened set ++ (sort (names S) (typeAt f p) ++ bytes ")") ≡ sort (names S) (typeAt f t) → p < t → A) → A
+        → (openedPart set ++ (sort (names S) (typeAt f p) ++ bytes ")") ≡ sort (names S) (typeAt f t) → p < t → A) → A
     unfolding overSaid Below All counted
     over-here f S I l next =
         type-stands (I .rows .type-row t l .stands) (λ m rs reads below tree.
@@ -151,6 +151,6 @@ module _ {file : Bytes} {work : List ℕ} {sizes : Sizes} {t : ℕ} {x : Over} (
     pub spells-never : {limit at : ℕ} {y : Bytes} → t ≤ p → SpellsSort file work sizes t limit y at y at
     spells-never h = record { go = λ f S I N l. over-here f S I l (λ e b. absurd (omega arith)) }
 
-    pub spells-over : {limit at a b q : ℕ} {u y z w : Bytes} → Appends limit u at y a (opened set) → SpellsSort file work sizes p limit y a z b → Appends limit z b w q (bytes ")")
+    pub spells-over : {limit at a b q : ℕ} {u y z w : Bytes} → Appends limit u at y a (openedPart set) → SpellsSort file work sizes p limit y a z b → Appends limit z b w q (bytes ")")
         → SpellsSort file work sizes t limit u at w q
     spells-over A P C = record { go = λ f S I N l. over-here f S I l (λ e b. says e (A then P .go f S I N (omega arith) then C)) }

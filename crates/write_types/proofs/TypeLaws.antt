@@ -16,7 +16,7 @@ use Rattle.script_spec.specs.File.{TermFile, types, members, typeAt}
 use Rattle.script_spec.specs.Command.{Command, line, script, declareDatatype}
 use Rattle.script_spec.specs.Spelling.{extName, extConstructors, typeComment, typeDeclaration}
 use Rattle.script_spec.specs.Walk.{names}
-use Rattle.script_spec.proofs.Laws.{collect-append}
+use Rattle.script_spec.proofs.Laws.{collect-append, never}
 use Rattle.write_bytes.specs.Writing.{Wrote}
 use Rattle.write_bytes.proofs.Laws.{line-says, line-past, line-some}
 use Rattle.index.specs.Cells.{cell, typeOffset, typeFirst}
@@ -30,7 +30,7 @@ use Rattle.walk_names.proofs.Names.{place-type}
 use Rattle.read_field.specs.Answers.{spanned}
 use Rattle.read_field.specs.declared.Span.{Span}
 use Rattle.index.specs.Lists.{texts}
-use Rattle.index_entry.specs.Types.{extTypeOf, typeSaid, TypeAt}
+use Rattle.index_entry.specs.Types.{extTypeSaid, typeSaid, TypeAt}
 use Rattle.index_entry.proofs.Places.{texts-named}
 use Rattle.index_entry.proofs.Rows.{type-stands}
 use Rattle.index_entry.proofs.types.TypeEntry.{the-type}
@@ -90,13 +90,13 @@ module _ {file : Bytes} {work : List ℕ} {sizes : Sizes} {t : ℕ} {r : TypeEnt
 
   module _ {room q : ℕ} {x y : Bytes} where
     -- an extension type
-    pub spells-ext : {z : ExtType} → r ≡ entry.Ext z → Wrote room x y q (line (declareDatatype (extName (extTypeOf z)) [] (extConstructors (extTypeOf z)))) → SpellsType file work sizes t room x y q
+    pub spells-ext : {z : ExtType} → r ≡ entry.Ext z → Wrote room x y q (line (declareDatatype (extName (extTypeSaid z)) [] (extConstructors (extTypeSaid z)))) → SpellsType file work sizes t room x y q
     unfolding typeSaid declaring forest datatype
     spells-ext {z} e A = record {
       go = λ f S I N l d is.
-          type-here f I l (Declared (extension (extTypeOf z))) [] (rw e) (λ below tree.
-          let d-is : extension (extTypeOf z) ≡ d = declared-as (typeAt f t) (ap datatype tree) is in
-          line-says (ext-script (members f) S 0 (extTypeOf z) ∙ ap (λ (ty : Ty). declaring (members f) S (extension (extTypeOf z)) ty) tree
+          type-here f I l (Declared (extension (extTypeSaid z))) [] (rw e) (λ below tree.
+          let d-is : extension (extTypeSaid z) ≡ d = declared-as (typeAt f t) (ap datatype tree) is in
+          line-says (ext-script (members f) S 0 (extTypeSaid z) ∙ ap (λ (ty : Ty). declaring (members f) S (extension (extTypeSaid z)) ty) tree
           ∙ ap (λ (d : Datatype). declaring (members f) S d (typeAt f t)) d-is) A);
     }
 
@@ -134,7 +134,7 @@ spells-none {file} {work} {sizes} {t} {r = r} T h = record {
       type-stands (I .rows .type-row t l .stands) (λ m′ rs reads below tree.
       let no : datatypeMark m′ ≡ none = ap datatypeSaid (sym (T .go m′ rs reads)) ∙ no-datatype (bodyAt file (cell work (sizes .rows) typeOffset t)) r h in
       let e : none ≡ some d = sym no ∙ ap datatype tree ∙ is in
-      absurd (let z : _≡_ {A = ℕ} 0 1 = cc in omega arith));
+      never cc);
 }
 
 -- with no room nothing is written

@@ -19,11 +19,11 @@ use Rattle.walk_names.specs.Naming.{Numbers}
 use Rattle.index.specs.Lists.{texts}
 use Rattle.index_search.specs.Enums.{enumAt}
 use Rattle.write_types.specs.Records.{partsOf, recordName, partSorts}
-use Rattle.write_types.specs.Members.{entityName}
+use Rattle.write_types.specs.Members.{entitySymbol}
 
 -- the comment and the declaration of an entity type by its text and by what stands for its name, with its members if it is an enum
 unfoldable pub entityLines : Bytes → ℕ → Option (List Bytes) → Bytes
-entityLines text name ms = line (comment (entityComment text ms)) ++ line (declareDatatype (entityName name) [] (entityConstructors (entityName name) ms))
+entityLines text name ms = line (comment (entityComment text ms)) ++ line (declareDatatype (entitySymbol name) [] (entityConstructors (entitySymbol name) ms))
 
 -- the comment and the declaration of a record type by what stands for its name, its attributes and their types
 unfoldable pub recordLines : Names → TermFile → ℕ → List Bytes → List ℕ → Bytes

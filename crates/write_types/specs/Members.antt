@@ -13,8 +13,8 @@ use Rattle.write_bytes.specs.Writing.{Appends, Wrote}
 use Rattle.walk_names.specs.Naming.{placeOf}
 
 -- the name that a number stands for
-unfoldable pub entityName : ℕ → Bytes
-entityName name = numbered (bytes "E") (placeOf name)
+unfoldable pub entitySymbol : ℕ → Bytes
+entitySymbol name = numbered (bytes "E") (placeOf name)
 
 -- the constructor of the i-th member, on a line of its own
 unfoldable pub memberText : Bytes → ℕ → Bytes
@@ -27,8 +27,8 @@ membersText name i (suc n) = memberText name i ++ membersText name (suc i) n
 
 -- the constructors of an enum with n members are written, each on a line of its own
 pub record SpellsMembers (name n limit : ℕ) (x : Bytes) (at : ℕ) (y : Bytes) (r : ℕ) : Type 0 where
-  pub go : (ms : List Bytes) → length ms ≡ n → Appends limit x at y r (bytes "\n  " ++ joined (bytes "\n  ") (entityConstructors (entityName name) (some ms)))
+  pub go : (ms : List Bytes) → length ms ≡ n → Appends limit x at y r (bytes "\n  " ++ joined (bytes "\n  ") (entityConstructors (entitySymbol name) (some ms)))
 
 -- the declaration of an enum with n members is written as a line
 pub record SpellsEnum (name n room : ℕ) (x y : Bytes) (r : ℕ) : Type 0 where
-  pub go : (ms : List Bytes) → length ms ≡ n → Wrote room x y r (line (declareDatatype (entityName name) [] (entityConstructors (entityName name) (some ms))))
+  pub go : (ms : List Bytes) → length ms ≡ n → Wrote room x y r (line (declareDatatype (entitySymbol name) [] (entityConstructors (entitySymbol name) (some ms))))

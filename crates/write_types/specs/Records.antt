@@ -55,6 +55,6 @@ pub record SpellsSpaced (file : Bytes) (work : List ℕ) (sizes : Sizes) (body :
       → Appends limit x at y r (argumentsText (names S) f (recordName name) (partsOf n (drop 4 body)))
 
 -- the declaration of a record type is written as a line
-pub record SpellsRecord (file : Bytes) (work : List ℕ) (sizes : Sizes) (body : Bytes) (name n room : ℕ) (x y : Bytes) (r : ℕ) : Type 0 where
+pub record SpellsRecordType (file : Bytes) (work : List ℕ) (sizes : Sizes) (body : Bytes) (name n room : ℕ) (x y : Bytes) (r : ℕ) : Type 0 where
   pub go : (f : TermFile) (S : State) → Index file f work sizes → Numbers f work (sizes .rows) S → Below (length (types f)) (partsOf n (drop 4 body))
       → Wrote room x y r (line (declareDatatype (recordName name) [] (recordConstructor (recordName name) (partSorts (names S) f (partsOf n (drop 4 body))) ∷ [])))

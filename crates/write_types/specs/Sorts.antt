@@ -17,7 +17,7 @@ use Rattle.index.specs.Standing.{entryAt}
 use Rattle.index.specs.Meaning.{Index}
 use Rattle.index.specs.declared.Sizes.{Sizes}
 use Rattle.walk_names.specs.Naming.{placeOf, Numbers}
-use Rattle.index_entry.specs.Types.{extTypeOf}
+use Rattle.index_entry.specs.Types.{extTypeSaid}
 use Rattle.index_entry.specs.declared.types.TypeEntry.{TypeEntry}
 use Rattle.index_entry.specs.declared.types.TypeEntry.the-variants as entry
 use Rattle.write_types.specs.declared.sorts.Over.{Over}
@@ -39,9 +39,9 @@ pub record OverAt (file : Bytes) (offset : ℕ) (r : Over) : Type 0 where
   pub go : (m : TypeMark) (rs : List ℕ) → entryAt file offset ≡ some (type m rs) → overSaid m rs r
 
 -- what stands before the part of a set, or else of an option
-unfoldable pub opened : Bool → Bytes
-opened true = bytes "(Set "
-opened false = bytes "(Option "
+unfoldable pub openedPart : Bool → Bytes
+openedPart true = bytes "(Set "
+openedPart false = bytes "(Option "
 
 -- the sort of a type that stands over no part, where `name` stands for its name in memory
 unfoldable pub plainSort : TypeEntry → ℕ → Bytes
@@ -51,7 +51,7 @@ plainSort (entry.BitVec n) name = bitVecSort n
 plainSort (entry.Option n) name = []
 plainSort (entry.Set n) name = []
 plainSort (entry.Entity p) name = numbered (bytes "E") (placeOf name)
-plainSort (entry.Ext x) name = extName (extTypeOf x)
+plainSort (entry.Ext x) name = extName (extTypeSaid x)
 plainSort (entry.Record n) name = numbered (bytes "R") (placeOf name)
 plainSort entry.Unreadable name = []
 

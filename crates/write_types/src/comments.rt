@@ -34,7 +34,7 @@ pub fn put_texts(
     }
     let first = lists::text_at(body, from);
     let mut place = write_text::put_comment_text(out, at, limit, first);
-    let mut next = lists::past(body, lists::past_text(body, from), skip);
+    let mut next = lists::after_text(body, from, skip);
     let mut left = n - 1;
     while 0 < left {
         if write_bytes::is_past(place, limit) {
@@ -42,7 +42,7 @@ pub fn put_texts(
         }
         let item = lists::text_at(body, next);
         place = put_next(out, place, limit, item);
-        next = lists::past(body, lists::past_text(body, next), skip);
+        next = lists::after_text(body, next, skip);
         left -= 1;
     }
     place

@@ -1,5 +1,6 @@
 // Comments of enums.
 use crate::comments;
+use smtlib_script::line::Word;
 ghost use mathlib.Core.Option.{some};
 ghost use lib.ListN.{drop};
 ghost use Rattle.script_spec.specs.Command.{line, comment};
@@ -22,7 +23,7 @@ pub fn put_enum_comment(
     if room == 0 {
         return 1;
     }
-    let a = write_bytes::put_at(rest, 0, room, b"; ");
+    let a = smtlib_script::line::put_word(rest, 0, room, Word::Comment);
     let b = write_text::put_comment_text(rest, a, room, name);
     let c = write_bytes::put_at(rest, b, room, b"::[");
     let d = comments::put_texts(rest, c, room, body, from, n, 0);

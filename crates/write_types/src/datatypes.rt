@@ -7,12 +7,12 @@ ghost use mathlib.Core.Option.{none};
 ghost use Rattle.script_spec.specs.Command.{line, spaced, constructorList, declareDatatype};
 ghost use Rattle.script_spec.specs.Spelling.{extName, extConstructors, entityConstructors};
 ghost use Rattle.write_bytes.specs.Writing.{Appends, Wrote};
-ghost use Rattle.index_entry.specs.Types.{extTypeOf};
-ghost use Rattle.write_types.specs.Members.{entityName, memberText, membersText, SpellsMembers, SpellsEnum};
+ghost use Rattle.index_entry.specs.Types.{extTypeSaid};
+ghost use Rattle.write_types.specs.Members.{entitySymbol, memberText, membersText, SpellsMembers, SpellsEnum};
 
 // The name and the constructors of an extension type.
 fn put_ext_type(out: &mut [u8], at: usize, limit: usize, x: ExtType) -> usize
-    ensures { λ r. ⌜ Appends limit (now (out .entry)) at (now (out .exit)) r (spaced (extName (extTypeOf x) ∷ constructorList (extConstructors (extTypeOf x)) ∷ [])) ⌝ }
+    ensures { λ r. ⌜ Appends limit (now (out .entry)) at (now (out .exit)) r (spaced (extName (extTypeSaid x) ∷ constructorList (extConstructors (extTypeSaid x)) ∷ [])) ⌝ }
 {
     match x {
         ExtType::IPAddr => write_bytes::put_at(
@@ -45,7 +45,7 @@ fn put_ext_type(out: &mut [u8], at: usize, limit: usize, x: ExtType) -> usize
 // Writes the declaration of an extension type as a line.
 pub fn declare_ext_type(rest: &mut [u8], room: usize, x: ExtType) -> usize
     ensures { λ r.
-        ⌜ Wrote room (now (rest .entry)) (now (rest .exit)) r (line (declareDatatype (extName (extTypeOf x)) [] (extConstructors (extTypeOf x)))) ⌝ }
+        ⌜ Wrote room (now (rest .entry)) (now (rest .exit)) r (line (declareDatatype (extName (extTypeSaid x)) [] (extConstructors (extTypeSaid x)))) ⌝ }
 {
     if room == 0 {
         return 1;
@@ -58,7 +58,7 @@ pub fn declare_ext_type(rest: &mut [u8], room: usize, x: ExtType) -> usize
 // Writes the declaration of an entity type that is no enum as a line; `name` stands for its name in memory.
 pub fn put_entity_declaration(rest: &mut [u8], room: usize, name: u32) -> usize
     ensures { λ r.
-        ⌜ Wrote room (now (rest .entry)) (now (rest .exit)) r (line (declareDatatype (entityName name) [] (entityConstructors (entityName name) none))) ⌝ }
+        ⌜ Wrote room (now (rest .entry)) (now (rest .exit)) r (line (declareDatatype (entitySymbol name) [] (entityConstructors (entitySymbol name) none))) ⌝ }
 {
     if room == 0 {
         return 1;
@@ -74,7 +74,7 @@ pub fn put_entity_declaration(rest: &mut [u8], room: usize, name: u32) -> usize
 
 // Writes the constructor of the i-th member on a line of its own.
 fn put_member(out: &mut [u8], at: usize, limit: usize, name: u32, i: u32) -> usize
-    ensures { λ r. ⌜ Appends limit (now (out .entry)) at (now (out .exit)) r (memberText (entityName name) i) ⌝ }
+    ensures { λ r. ⌜ Appends limit (now (out .entry)) at (now (out .exit)) r (memberText (entitySymbol name) i) ⌝ }
 {
     let a = write_bytes::put_at(out, at, limit, b"\n  (");
     let b = walk_names::naming::put_name(out, a, limit, b'E', name);
@@ -85,7 +85,7 @@ fn put_member(out: &mut [u8], at: usize, limit: usize, name: u32, i: u32) -> usi
 
 // Writes the constructors of n members, as far as the limit.
 fn put_members(out: &mut [u8], at: usize, limit: usize, name: u32, n: u32) -> usize
-    ensures { λ r. ⌜ Appends limit (now (out .entry)) at (now (out .exit)) r (membersText (entityName name) 0 n) ⌝ }
+    ensures { λ r. ⌜ Appends limit (now (out .entry)) at (now (out .exit)) r (membersText (entitySymbol name) 0 n) ⌝ }
 {
     let mut place = at;
     let mut i: u32 = 0;

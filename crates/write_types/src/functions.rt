@@ -32,6 +32,9 @@ pub fn put_fun_comment(
     ensures { λ r.
         ⌜ SpellsId (now (file .entry)) (now (work .entry)) sizes g room (now (rest .entry)) (now (rest .exit)) r ⌝ }
 {
+    if room == 0 {
+        return 1;
+    }
     let offset = index::get(
         work,
         sizes.rows,

@@ -11,7 +11,7 @@ ghost use Rattle.script_spec.specs.Command.{_⊹_, line, comment};
 ghost use Rattle.script_spec.specs.Spelling.{attributeName};
 ghost use Rattle.write_bytes.specs.Writing.{Appends, Wrote};
 ghost use Rattle.index.specs.Lists.{texts};
-ghost use Rattle.write_types.specs.Records.{recordName, SpellsPartSort, SpellsParts, SpellsSpaced, SpellsRecord};
+ghost use Rattle.write_types.specs.Records.{recordName, SpellsPartSort, SpellsParts, SpellsSpaced, SpellsRecordType};
 
 // A record type as it is declared: what stands for its name, and how many attributes it has.
 pub struct RecordType {
@@ -109,7 +109,7 @@ pub fn put_record_declaration(
     ty: RecordType,
 ) -> usize
     ensures { λ r.
-        ⌜ SpellsRecord (now (file .entry)) (now (work .entry)) sizes (now (body .entry)) (ty .name) (ty .attributes) room (now (rest .entry)) (now (rest .exit)) r ⌝ }
+        ⌜ SpellsRecordType (now (file .entry)) (now (work .entry)) sizes (now (body .entry)) (ty .name) (ty .attributes) room (now (rest .entry)) (now (rest .exit)) r ⌝ }
 {
     if room == 0 {
         return 1;
@@ -130,7 +130,8 @@ pub fn put_record_comment(rest: &mut [u8], room: usize, body: &[u8], n: u32) -> 
     if room == 0 {
         return 1;
     }
-    let a = write_bytes::put_at(rest, 0, room, b"; {");
-    let b = comments::put_texts(rest, a, room, body, 4, n, 4);
-    write_bytes::put_at(rest, b, room, b"}\n")
+    let a = smtlib_script::line::put_word(rest, 0, room, Word::Comment);
+    let b = write_bytes::put_byte(rest, a, room, b'{');
+    let c = comments::put_texts(rest, b, room, body, 4, n, 4);
+    write_bytes::put_at(rest, c, room, b"}\n")
 }

@@ -8,8 +8,8 @@ ghost use Rattle.script_spec.specs.Spelling.{extName};
 ghost use Rattle.write_bytes.specs.Writing.{Appends};
 ghost use Rattle.index.specs.Cells.{cell, typeOffset, typeFirst};
 ghost use Rattle.walk_names.specs.Naming.{nameAt, typeName};
-ghost use Rattle.index_entry.specs.Types.{extTypeOf};
-ghost use Rattle.write_types.specs.Sorts.{OverAt, opened, plainSort, SpellsSort};
+ghost use Rattle.index_entry.specs.Types.{extTypeSaid};
+ghost use Rattle.write_types.specs.Sorts.{OverAt, openedPart, plainSort, SpellsSort};
 
 // What a type stands over: the part of a set, or else of an option, by its number; the type of truth values is told apart.
 pub enum Over {
@@ -38,7 +38,7 @@ fn stands_over(file: &[u8], work: &[u32], rows: usize, t: u32) -> Over
 
 // The name of an extension type.
 fn put_ext_name(out: &mut [u8], at: usize, limit: usize, x: ExtType) -> usize
-    ensures { λ r. ⌜ Appends limit (now (out .entry)) at (now (out .exit)) r (extName (extTypeOf x)) ⌝ }
+    ensures { λ r. ⌜ Appends limit (now (out .entry)) at (now (out .exit)) r (extName (extTypeSaid x)) ⌝ }
 {
     match x {
         ExtType::IPAddr => write_bytes::put_at(out, at, limit, b"IPAddr"),
@@ -87,7 +87,7 @@ pub fn type_name(work: &[u32], rows: usize, t: u32) -> u32
 
 // What stands before the part of a set or of an option.
 fn put_opened(out: &mut [u8], at: usize, limit: usize, set: bool) -> usize
-    ensures { λ r. ⌜ Appends limit (now (out .entry)) at (now (out .exit)) r (opened set) ⌝ }
+    ensures { λ r. ⌜ Appends limit (now (out .entry)) at (now (out .exit)) r (openedPart set) ⌝ }
 {
     if set {
         return write_bytes::put_at(out, at, limit, b"(Set ");

@@ -1,15 +1,14 @@
--- The body, and its first byte.
+-- `check_types::code_at` meets its contract: the first byte of the body.
 -- Assumes nothing.
-use Rattle.check_types.proofs.Read.{code-none, code-first}
+use Rattle.check_types.proofs.Read.{code-first}
 use borrow.Author.Needs.{needs}
 use Rattle.check_types.proofs.code_at.Statement.{statement}
 use Rattle.check_types.proofs.code_at.Tie as tie
 
 returns : tie.Need-returns
-returns c = code-none _ _ c.before.body-at.ensures c.if1.taken
-
-returns-2 : tie.Need-returns-2
-returns-2 c = code-first _ _ c.before.before.body-at.ensures
+returns c = code-first _ _ c.before.body-at.ensures c.byte-at.ensures
 
 pub code-at-spec : {M : Type 1} → statement M
-code-at-spec = tie.close (tie.spec (λ c κs. search needs) returns (λ c. search needs) returns-2)
+code-at-spec =
+    tie.close
+    (tie.spec (λ c κs. search needs) (λ c κs. search needs) returns)

@@ -1,4 +1,4 @@
--- The number, the kind, and then the type.
+-- `check_types::holds` meets its contract: the number, the kind, and then the type.
 -- Assumes nothing.
 use Rattle.check_types.proofs.Probing.{holds-past, holds-other, holds-same}
 use borrow.Author.Needs.{needs}

@@ -1,4 +1,4 @@
--- `term_type::home` meets its contract: the hash of the type, scaled.
+-- `check_types::home` meets its contract: the hash of the type, scaled.
 -- Assumes nothing.
 use Rattle.check_types.proofs.Hashes.{home-found}
 use borrow.Author.Needs.{needs}

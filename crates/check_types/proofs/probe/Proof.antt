@@ -1,4 +1,4 @@
--- The invariant: none of the slots that were passed is empty or has the type that is sought.
+-- `check_types::probe` meets its contract: none of the slots that were passed is empty or has the type that is sought.
 -- Assumes nothing.
 use Prim.Native.Nat.{_-_}
 use mathlib.Core.Path.{ap, _∙_}
@@ -9,10 +9,10 @@ use Rattle.check_types.proofs.probe.Statement.{statement}
 use Rattle.check_types.proofs.probe.Tie as tie
 
 abbrev Inv-loop : tie.InvT-loop
-Inv-loop file work k types o part b d₀ d = PassedTypes file work k types o b d
+Inv-loop file work k types o sought part b d₀ d = PassedTypes file work k types o b d
 
 abbrev μ-loop : tie.MeasureT-loop
-μ-loop file work k types o part b d₀ d = k - d
+μ-loop file work k types o sought part b d₀ d = k - d
 
 loop-holds : tie.Need-loop-holds Inv-loop μ-loop
 loop-holds c = passed-start

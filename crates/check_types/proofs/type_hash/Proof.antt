@@ -1,32 +1,36 @@
--- By the letter that the type's mark must have.
+-- `check_types::type_hash` meets its contract: kind by kind.
 -- Assumes nothing.
 use native.Mathlib.Omega.{arith}
-use Rattle.check_types.proofs.Hashes.{record-hashed, code-hashed, width-hashed, part-hashed, bare-hashed}
+use Rattle.check_types.proofs.Hashes.{no-such, bool-hashed, string-hashed, width-hashed, code-hashed, option-hashed, set-hashed, record-hashed}
 use borrow.Author.Needs.{needs}
 use Rattle.check_types.proofs.type_hash.Statement.{statement}
 use Rattle.check_types.proofs.type_hash.Tie as tie
 
 returns : tie.Need-returns
-returns c = record-hashed c.before.before.before.letter-at.ensures c.before.before.type-letter.ensures (λ i. omega (arith, c.before.before.before.before.before.shared-slice-known.given i)) c.before.match.keys1 c.listed-hash.ensures
+returns c = bool-hashed c.before.before.before.before.before.pre c.before.enum-told.given.1 c.bare-hash.ensures
 
 returns-2 : tie.Need-returns-2
-returns-2 c = code-hashed c.before.before.before.before.letter-at.ensures c.before.before.before.type-letter.ensures (λ i. omega (arith, c.before.before.before.before.before.before.shared-slice-known.given i)) c.before.before.match.keys2 c.before.value-code.ensures c.code-hash.ensures
+returns-2 c = string-hashed c.before.before.before.before.before.pre c.before.enum-told2.given.1 c.bare-hash2.ensures
 
 returns-3 : tie.Need-returns-3
-returns-3 c = width-hashed c.before.before.before.before.letter-at.ensures c.before.before.before.type-letter.ensures (λ i. omega (arith, c.before.before.before.before.before.before.shared-slice-known.given i)) c.before.before.match.keys3 c.before.width-at.ensures c.number-hash.ensures
+returns-3 c = width-hashed c.before.before.before.before.before.before.pre (λ i. omega (arith, c.before.before.before.before.before.shared-slice-known.given i)) c.before.before.enum-told3.given.1 c.before.width-at.ensures c.number-hash.ensures
 
 returns-4 : tie.Need-returns-4
-returns-4 c = part-hashed c.before.before.before.letter-at.ensures c.before.before.type-letter.ensures (λ i. omega (arith, c.before.before.before.before.before.shared-slice-known.given i)) c.before.match.keys4 c.before.before.before.before.before.before.pre c.part-hash.ensures
+returns-4 c = code-hashed c.before.before.before.before.before.before.pre (λ i. omega (arith, c.before.before.before.before.before.shared-slice-known.given i)) c.before.before.enum-told4.given.1 c.before.value-code.ensures c.code-hash.ensures
 
 returns-5 : tie.Need-returns-5
-returns-5 c = let r = c.before.match.rest in bare-hashed c.before.before.before.letter-at.ensures c.before.before.type-letter.ensures (r .0 .0 .0 .1) (r .0 .0 .1) (r .0 .1) (r .1) c.bare-hash.ensures
+returns-5 c = option-hashed c.before.before.before.before.before.pre (λ i. omega (arith, c.before.before.before.before.shared-slice-known.given i)) c.before.enum-told5.given.1 c.part-hash.ensures
+
+returns-6 : tie.Need-returns-6
+returns-6 c = set-hashed c.before.before.before.before.before.pre (λ i. omega (arith, c.before.before.before.before.shared-slice-known.given i)) c.before.enum-told6.given.1 c.part-hash2.ensures
+
+returns-7 : tie.Need-returns-7
+returns-7 c = record-hashed c.before.before.before.before.before.pre (λ i. omega (arith, c.before.before.before.before.shared-slice-known.given i)) c.before.enum-told7.given.1 c.listed-hash.ensures
+
+returns-8 : tie.Need-returns-8
+returns-8 c = no-such c.before.before.before.pre c.match.keys8
 
 pub type-hash-spec : {M : Type 1} → statement M
 type-hash-spec =
     tie.close
-    (tie.spec (λ c κs. search needs) (λ c κs. search needs) (λ c κs. search needs) (λ c κs. search needs) (λ c κs. search needs) (λ c κs. search needs) (λ c κs. search needs) (λ c κs. search needs) (λ c κs. search needs)
-    returns
-    returns-2
-    returns-3
-    returns-4
-    returns-5)
+    (tie.spec (λ c. search needs) (λ c κs. search needs) (λ c. search needs) (λ c κs. search needs) (λ c. search needs) (λ c κs. search needs) (λ c κs. search needs) (λ c. search needs) (λ c κs. search needs) (λ c κs. search needs) (λ c. search needs) (λ c κs. search needs) (λ c. search needs) (λ c κs. search needs) (λ c. search needs) (λ c κs. search needs) returns returns-2 returns-3 returns-4 returns-5 returns-6 returns-7 returns-8)

@@ -1,4 +1,4 @@
--- The type that the term refers to, or the search.
+-- `check_types::type_of` meets its contract: the type that the term refers to, or the search.
 -- Assumes nothing.
 use native.Mathlib.Omega.{arith}
 use Rattle.check_types.specs.Sought.{partAt}
@@ -9,11 +9,12 @@ use Rattle.check_types.proofs.type_of.Tie as tie
 
 returns : tie.Need-returns
 unfolding partAt
-returns c = reference-sought _ _ _ _ _ c.before.before.before.letter-at.ensures c.before.before.refers.ensures (λ i. omega (arith, c.before.before.before.before.before.shared-slice-known.given i)) c.before.if1.taken c.first-reference.ensures
+returns c = reference-sought _ _ _ _ c.before.before.kind-at.ensures (λ i. omega (arith, c.before.before.before.before.shared-slice-known.given i)) c.before.match.keys1 c.first-reference.ensures
 
 returns-2 : tie.Need-returns-2
-returns-2 c = listed-sought _ _ _ _ _ c.before.before.before.letter-at.ensures c.before.before.refers.ensures c.before.if1.left c.find.ensures
+returns-2 c = listed-sought _ _ _ _ c.before.before.kind-at.ensures c.before.match.keys2 c.find.ensures
 
 pub type-of-spec : {M : Type 1} → statement M
 type-of-spec =
-    tie.close (tie.spec (λ c κs. search needs) (λ c κs. search needs) (λ c κs. search needs) returns (λ c κs. search needs) returns-2)
+    tie.close
+    (tie.spec (λ c κs. search needs) (λ c κs. search needs) (λ c κs. search needs) returns returns-2)

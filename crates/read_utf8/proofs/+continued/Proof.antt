@@ -1,6 +1,5 @@
--- `utf8::continued` meets its contract, by the number of bytes to come: each way through it is a law of `Steps`.
+-- `read_utf8::continued` meets its contract, by the number of bytes to come: each way through it is a law of `Steps`.
 -- Assumes nothing.
-use mathlib.Core.Path.{_∙_}
 use native.Mathlib.Omega.{arith}
 use borrow.Author.Needs.{needs}
 use Prim.Native.Nat.{ℕ, _<_}
@@ -87,7 +86,7 @@ continued-returns-5 : (t : ℕ) → continued-lts.Need-returns-5 (
   continued-below t,
   continued.Post,
 ) (continued-at t) continued.Post
-continued-returns-5 t c = c.continued.ensures ∙ follow-more _ _ _ _ _ _ _ c.before.before.before.before.before.before.if1.left c.before.before.before.before.before.if2.left (c.before.before.before.wide.ensures.0) (between-in _ _ _ c.before.before.if3.left c.before.if4.left)
+continued-returns-5 t c = follow-more _ _ _ _ _ _ _ _ c.before.before.before.before.before.before.if1.left c.before.before.before.before.before.if2.left (c.before.before.before.wide.ensures.0) (between-in _ _ _ c.before.before.if3.left c.before.if4.left) c.continued.ensures
 
 pub +continued-spec : {M : Type 1} → statement M
 +continued-spec = close μ-continued λ t. continued-lts.spec (

@@ -1,4 +1,4 @@
--- `utf8::is_low` meets its contract: the first test decides, or else the second.
+-- `read_utf8::is_low` meets its contract: the first test decides, or else the second.
 -- Assumes nothing.
 use borrow.Author.Tests.{le-leb, lt-leb}
 use Rattle.script_spec.specs.Tree.{wildcard}

@@ -1,4 +1,4 @@
--- `utf8::led_by` meets its contract: the first byte's range decides how `led` goes on.
+-- `read_utf8::led_by` meets its contract: the first byte's range decides how `led` goes on.
 -- Assumes nothing.
 use lib.Dec.{eqb}
 use native.Mathlib.Omega.{arith}

@@ -1,4 +1,4 @@
--- `utf8::low_enough` meets its contract: the rest of the text decides, as long as every code point before it passed. The measure
+-- `read_utf8::low_enough` meets its contract: the rest of the text decides, as long as every code point before it passed. The measure
 -- is the rest's length.
 -- Assumes nothing.
 use mathlib.Core.Path.{_≡_, refl, sym, ap, _∙_}
@@ -23,21 +23,21 @@ loop-holds : tie.Need-loop-holds Inv-loop μ-loop
 loop-holds c = refl
 
 returns : tie.Need-returns Inv-loop μ-loop
-returns c = sym (c.before.before.before.before.before.before.loop.inv ∙ low-stop (next-point (sym c.before.before.before.before.before.next.ensures ∙ c.before.before.before.c.given.1)) (sym c.before.is-low.ensures ∙ not-true _ c.if1.taken))
+returns c = sym (c.before.before.before.before.before.before.loop.inv ∙ low-stop (next-point c.before.before.before.before.before.next.ensures c.before.before.before.c.given.1) (sym c.before.is-low.ensures ∙ not-true _ c.if1.taken))
 
 loop-less : tie.Need-loop-less Inv-loop μ-loop
-loop-less c = let p = next-point (sym c.before.before.before.before.before.next.ensures ∙ c.before.before.before.c.given.1) in omega (arith, p .moves, p .inside)
+loop-less c = let p = next-point c.before.before.before.before.before.next.ensures c.before.before.before.c.given.1 in omega (arith, p .moves, p .inside)
 
 loop-again : tie.Need-loop-again Inv-loop μ-loop
-loop-again c = c.before.before.before.before.before.before.loop.inv ∙ low-more (next-point (sym c.before.before.before.before.before.next.ensures ∙ c.before.before.before.c.given.1)) (sym c.before.is-low.ensures ∙ not-false _ c.if1.left)
+loop-again c = c.before.before.before.before.before.before.loop.inv ∙ low-more (next-point c.before.before.before.before.before.next.ensures c.before.before.before.c.given.1) (sym c.before.is-low.ensures ∙ not-false _ c.if1.left)
 
 returns-2 : tie.Need-returns-2 Inv-loop μ-loop
 unfolding lowEnough
-returns-2 c = sym (c.before.before.before.loop.inv ∙ ap lowEnough (next-malformed _ _ (sym c.before.before.next.ensures ∙ c.enum-told.given.1) .1))
+returns-2 c = sym (c.before.before.before.loop.inv ∙ ap lowEnough (next-malformed _ _ c.before.before.next.ensures c.enum-told.given.1 .1))
 
 returns-3 : tie.Need-returns-3 Inv-loop μ-loop
 unfolding lowEnough
-returns-3 c = sym (c.before.before.before.loop.inv ∙ ap lowEnough (next-end _ _ (sym c.before.before.next.ensures ∙ c.enum-told2.given.1) .1))
+returns-3 c = sym (c.before.before.before.loop.inv ∙ ap lowEnough (next-end _ _ c.before.before.next.ensures c.enum-told2.given.1 .1))
 
 pub low-enough-spec : {M : Type 1} → statement M
 low-enough-spec =

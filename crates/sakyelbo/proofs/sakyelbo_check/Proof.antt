@@ -1,4 +1,4 @@
--- `sakyelbo_check` answers what check does, as a number.
+-- `sakyelbo::sakyelbo_check` answers what check does, as a number.
 -- Assumes nothing.
 use borrow.Author.Needs.{needs}
 use Rattle.sakyelbo.proofs.Laws.{checks-file}

@@ -1,4 +1,4 @@
--- `sakyelbo_encode` writes what encode does, and says its answer by numbers.
+-- `sakyelbo::sakyelbo_encode` writes what encode does, and says its answer by numbers.
 -- Assumes nothing.
 use borrow.Author.Needs.{needs}
 use Rattle.sakyelbo.proofs.Laws.{encodes-file}

@@ -1,4 +1,4 @@
--- `term_walk::arguments_to_encode` meets its contract: by the operator's code where it tells, or else by what the term is as a `Bvnego`.
+-- `walk_terms::arguments_to_encode` meets its contract: by the operator's code where it tells, or else by what the term is as a `Bvnego`.
 -- Assumes nothing.
 use borrow.Author.Needs.{needs}
 use mathlib.Core.Path.{refl}

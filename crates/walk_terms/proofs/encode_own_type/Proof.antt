@@ -1,4 +1,4 @@
--- `term_walk::encode_own_type` meets its contract: a settled type is left, any other is encoded.
+-- `walk_terms::encode_own_type` meets its contract: a settled type is left, any other is encoded.
 -- Assumes nothing.
 use borrow.Author.Needs.{needs}
 use Rattle.walk_types.proofs.Settling.{passes-settled}

@@ -1,4 +1,4 @@
--- `term_walk::take_child` meets its contract.
+-- `walk_terms::take_child` meets its contract.
 -- Assumes nothing.
 use borrow.Author.Needs.{needs}
 use Rattle.walk_terms.proofs.take_child.Statement.{statement}

@@ -1,4 +1,4 @@
--- `type_walk::encode_type` and `type_walk::encode_types` meet their contracts: by recursion on the number, which falls from a type to its
+-- `walk_types::encode_type` and `walk_types::encode_types` meet their contracts: by recursion on the number, which falls from a type to its
 -- parts. The loop's invariant: the parts that are left, after those that were encoded, make all. Assumes nothing.
 use native.Mathlib.Omega.{arith}
 use borrow.Author.Needs.{needs}

@@ -1,4 +1,4 @@
--- `type_walk::encode_uuf` meets its contract: after a refusal, for a function that has a name, for one that is new.
+-- `walk_types::encode_uuf` meets its contract: after a refusal, for a function that has a name, for one that is new.
 -- Assumes nothing.
 use mathlib.Core.Path.{_∙_}
 use Rattle.walk_names.proofs.Running.{advances-refused}

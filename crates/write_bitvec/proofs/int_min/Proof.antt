@@ -1,4 +1,4 @@
--- `bitvec::int_min` meets its contract: the power below the width fits 128 bits.
+-- `write_bitvec::int_min` meets its contract: the power below the width fits 128 bits.
 -- Assumes nothing.
 use borrow.Author.Needs.{needs}
 use mathlib.Core.Path.{sym, _∙_}

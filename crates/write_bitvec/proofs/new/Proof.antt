@@ -1,4 +1,4 @@
--- `bitvec::new` meets its contract: each test decides as the definition's does.
+-- `write_bitvec::new` meets its contract: each test decides as the definition's does.
 -- Assumes nothing.
 use borrow.Author.Needs.{needs}
 use mathlib.Core.Path.{refl, sym, _∙_}

@@ -1,4 +1,4 @@
--- `bitvec::of_int` meets its contract: the last bits of two's complement in 128 bits.
+-- `write_bitvec::of_int` meets its contract: the last bits of two's complement in 128 bits.
 -- Assumes nothing.
 use borrow.Author.Needs.{needs}
 use mathlib.Core.Path.{sym, ap, _∙_}

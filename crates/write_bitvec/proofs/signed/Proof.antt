@@ -1,4 +1,4 @@
--- `bitvec::signed` meets its contract, by the sign.
+-- `write_bitvec::signed` meets its contract, by the sign.
 -- Assumes nothing.
 use native.Mathlib.Omega.{arith}
 use Rattle.write_bitvec.proofs.TwosComplement.{negative, nonnegative}

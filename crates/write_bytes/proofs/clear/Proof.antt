@@ -1,4 +1,4 @@
--- `writer::clear` meets its contract: the part from the place on is zeroed.
+-- `write_bytes::clear` meets its contract: the part from the place on is zeroed.
 -- Assumes nothing.
 use Rattle.write_bytes.proofs.Clearing.{cleared-part}
 use borrow.Author.Needs.{needs}

@@ -1,4 +1,4 @@
--- `writer::copy` meets its contract: either count is the smaller of the two lengths.
+-- `write_bytes::copy` meets its contract: either count is the smaller of the two lengths.
 -- Assumes nothing.
 use borrow.Author.Needs.{needs}
 use mathlib.Core.Path.{_∙_}

@@ -1,4 +1,4 @@
--- `writer::copy_first` meets its contract: after i turns i bytes are laid over the buffer. The measure is what is left.
+-- `write_bytes::copy_first` meets its contract: after i turns i bytes are laid over the buffer. The measure is what is left.
 -- Assumes nothing.
 use borrow.Author.Needs.{needs}
 use lib.ListN.{length, length-set}

@@ -1,4 +1,4 @@
--- `writer::finish` meets its contract: the place decides, and zeros stand past it or everywhere.
+-- `write_bytes::finish` meets its contract: the place decides, and zeros stand past it or everywhere.
 -- Assumes nothing.
 use Rattle.write_bytes.proofs.Laws.{finishes-length, finishes-refused}
 use Rattle.write_bytes.specs.Writing.{answer}

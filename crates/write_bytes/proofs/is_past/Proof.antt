@@ -1,4 +1,4 @@
--- `writer::is_past` meets its contract.
+-- `write_bytes::is_past` meets its contract.
 -- Assumes nothing.
 use borrow.Author.Tests.{lt-ltb, le-ltb}
 use borrow.Author.Needs.{needs}

@@ -1,4 +1,4 @@
--- `writer::put_at` meets its contract: what is copied continues what was written before.
+-- `write_bytes::put_at` meets its contract: what is copied continues what was written before.
 -- Assumes nothing.
 use Rattle.write_bytes.proofs.Put.{put-appends}
 use borrow.Author.Needs.{needs}

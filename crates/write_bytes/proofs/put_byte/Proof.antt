@@ -1,4 +1,4 @@
--- `writer::put_byte` meets its contract: the byte is stored at its place, or there is no room for it.
+-- `write_bytes::put_byte` meets its contract: the byte is stored at its place, or there is no room for it.
 -- Assumes nothing.
 use mathlib.Core.Path.{refl}
 use Rattle.write_bytes.proofs.Put.{byte-appends, past-appends}

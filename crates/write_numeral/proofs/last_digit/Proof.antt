@@ -1,4 +1,4 @@
--- `numeral::last_digit` meets its contract: the remainder is an index of the table, and the table is the definition's.
+-- `write_numeral::last_digit` meets its contract: the remainder is an index of the table, and the table is the definition's.
 -- Assumes nothing.
 use borrow.Author.Needs.{needs}
 use Rattle.script_spec.specs.Base.{bytes}

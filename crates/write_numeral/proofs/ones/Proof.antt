@@ -1,4 +1,4 @@
--- `numeral::ones` meets its contract: the codes of the digits follow one another.
+-- `write_numeral::ones` meets its contract: the codes of the digits follow one another.
 -- Assumes nothing.
 use native.Mathlib.Omega.{arith}
 use borrow.Author.Needs.{needs}

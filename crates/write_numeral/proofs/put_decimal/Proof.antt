@@ -1,4 +1,4 @@
--- `numeral::put_decimal` meets its contract: the digits stand one by one, and a number of more digits is written in base ten.
+-- `write_numeral::put_decimal` meets its contract: the digits stand one by one, and a number of more digits is written in base ten.
 -- Assumes nothing.
 use mathlib.Core.Path.{refl}
 use Rattle.script_spec.specs.Text.{decimal}

@@ -1,4 +1,4 @@
--- `numeral::put_hex` meets its contract: base sixteen.
+-- `write_numeral::put_hex` meets its contract: base sixteen.
 -- Assumes nothing.
 use borrow.Author.Needs.{needs}
 use Rattle.script_spec.specs.Text.{hex}

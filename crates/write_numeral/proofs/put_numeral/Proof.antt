@@ -1,4 +1,4 @@
--- `numeral::put_numeral` meets its contract: the loop keeps `Laid`, and what is left falls.
+-- `write_numeral::put_numeral` meets its contract: the loop keeps `Laid`, and what is left falls.
 -- Assumes nothing.
 use lib.ListN.{replicate}
 use mathlib.Core.Path.{refl}

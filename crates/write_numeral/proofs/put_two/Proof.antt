@@ -1,4 +1,4 @@
--- `numeral::put_two` meets its contract: one digit after the other.
+-- `write_numeral::put_two` meets its contract: one digit after the other.
 -- Assumes nothing.
 use Rattle.write_bytes.proofs.Laws.{_then_, says}
 use Rattle.write_numeral.proofs.Laws.{two-bytes}

@@ -1,4 +1,4 @@
--- `pattern::low_enough` meets its contract: the rest of the pattern decides, as long as every element before it passed. The measure
+-- `write_pattern::low_enough` meets its contract: the rest of the pattern decides, as long as every element before it passed. The measure
 -- is the rest's length.
 -- Assumes nothing.
 use mathlib.Core.Path.{_≡_, refl, sym, ap, _∙_}

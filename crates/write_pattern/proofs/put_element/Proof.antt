@@ -1,4 +1,4 @@
--- `pattern::put_element` meets its contract: the wildcard, or three writes in a row.
+-- `write_pattern::put_element` meets its contract: the wildcard, or three writes in a row.
 -- Assumes nothing.
 use borrow.Author.Needs.{needs}
 use Rattle.script_spec.specs.Base.{bytes}

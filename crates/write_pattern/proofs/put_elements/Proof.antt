@@ -1,4 +1,4 @@
--- `pattern::put_elements` meets its contract: each turn writes one of the elements that are to be written, as long as the place is
+-- `write_pattern::put_elements` meets its contract: each turn writes one of the elements that are to be written, as long as the place is
 -- not past the limit. The measure is the rest's length.
 -- Assumes nothing.
 use mathlib.Core.Path.{_≡_, refl, ap, _∙_}

@@ -1,4 +1,4 @@
--- `pattern::put_pattern` meets its contract: no element, several, or one.
+-- `write_pattern::put_pattern` meets its contract: no element, several, or one.
 -- Assumes nothing.
 use mathlib.Core.Path.{ap}
 use borrow.Author.Needs.{needs}

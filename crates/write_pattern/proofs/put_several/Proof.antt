@@ -1,4 +1,4 @@
--- `pattern::put_several` meets its contract: four writes in a row.
+-- `write_pattern::put_several` meets its contract: four writes in a row.
 -- Assumes nothing.
 use borrow.Author.Needs.{needs}
 use Rattle.script_spec.specs.Base.{bytes}

@@ -1,4 +1,4 @@
--- `text::ends_line` meets its contract: the first test decides, or else the second.
+-- `write_text::ends_line` meets its contract: the first test decides, or else the second.
 -- Assumes nothing.
 use Rattle.write_text.proofs.Laws.{ends-line, ends-line-else}
 use Rattle.write_text.proofs.ends_line.Statement.{statement}

@@ -1,4 +1,4 @@
--- `text::is_printable` meets its contract: below the range, or as the other bound says.
+-- `write_text::is_printable` meets its contract: below the range, or as the other bound says.
 -- Assumes nothing.
 use mathlib.Core.Path.{sym}
 use Rattle.read_utf8.proofs.Decode.{between-below}

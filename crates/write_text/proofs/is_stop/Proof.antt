@@ -1,4 +1,4 @@
--- `text::is_stop` meets its contract, test by test.
+-- `write_text::is_stop` meets its contract, test by test.
 -- Assumes nothing.
 use borrow.Author.Needs.{needs}
 use Rattle.write_text.specs.Written.{stops}

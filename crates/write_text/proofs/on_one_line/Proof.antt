@@ -1,4 +1,4 @@
--- `text::on_one_line` meets its contract: by the test.
+-- `write_text::on_one_line` meets its contract: by the test.
 -- Assumes nothing.
 use mathlib.Core.Path.{sym, _∙_}
 use borrow.Author.Needs.{needs}

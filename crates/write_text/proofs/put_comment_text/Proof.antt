@@ -1,4 +1,4 @@
--- `text::put_comment_text` meets its contract: each turn writes a run without line ends and the byte after it, as long as the place
+-- `write_text::put_comment_text` meets its contract: each turn writes a run without line ends and the byte after it, as long as the place
 -- is not past the limit. The measure is what is left of the text.
 -- Assumes nothing.
 use mathlib.Core.Path.{_≡_, refl, _∙_}

@@ -1,4 +1,4 @@
--- `text::put_debug_char` meets its contract: six code points with a letter of their own, and any other.
+-- `write_text::put_debug_char` meets its contract: six code points with a letter of their own, and any other.
 -- Assumes nothing.
 use mathlib.Core.Path.{ap, sym, _∙_}
 use borrow.Author.Needs.{needs}

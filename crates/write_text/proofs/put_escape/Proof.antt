@@ -1,4 +1,4 @@
--- `text::put_escape` meets its contract: the quote, the backslash, and any other code point.
+-- `write_text::put_escape` meets its contract: the quote, the backslash, and any other code point.
 -- Assumes nothing.
 use borrow.Author.Needs.{needs}
 use Rattle.write_bytes.proofs.Laws.{says}

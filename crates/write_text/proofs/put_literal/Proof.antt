@@ -1,4 +1,4 @@
--- `text::put_literal` meets its contract: a literal is quoted code points.
+-- `write_text::put_literal` meets its contract: a literal is quoted code points.
 -- Assumes nothing.
 use borrow.Author.Needs.{needs}
 use Rattle.write_bytes.proofs.Laws.{says}

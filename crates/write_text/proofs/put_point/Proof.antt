@@ -1,4 +1,4 @@
--- `text::put_point` meets its contract: by the way of spelling.
+-- `write_text::put_point` meets its contract: by the way of spelling.
 -- Assumes nothing.
 use borrow.Author.Needs.{needs}
 use Rattle.write_text.specs.Written.{spelling}

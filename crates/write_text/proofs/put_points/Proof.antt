@@ -1,7 +1,7 @@
--- `text::put_points` meets its contract: each turn writes a run of plain bytes and one code point of what is to be written, as long
+-- `write_text::put_points` meets its contract: each turn writes a run of plain bytes and one code point of what is to be written, as long
 -- as the place is not past the limit. The measure is what is left of the text.
 -- Assumes nothing.
-use mathlib.Core.Path.{_≡_, refl, sym, _∙_}
+use mathlib.Core.Path.{_≡_, refl, _∙_}
 use Prim.Native.Nat.{_-_, _≤_}
 use lib.ListN.{length, drop}
 use native.Mathlib.Omega.{arith}
@@ -35,24 +35,24 @@ part-put-at-end : tie.Need-part-put-at-end Inv-loop μ-loop
 part-put-at-end c = omega (arith, c.before.run-end.ensures.start, c.before.run-end.ensures.inside)
 
 loop-less : tie.Need-loop-less Inv-loop μ-loop
-loop-less c = let p = next-point (sym c.before.before.before.before.before.before.before.next.ensures ∙ c.before.before.before.before.before.c.given.1) in omega (arith, p .moves, p .inside, c.before.before.before.before.before.before.before.before.before.before.before.before.before.run-end.ensures.start)
+loop-less c = let p = next-point c.before.before.before.before.before.before.before.next.ensures c.before.before.before.before.before.c.given.1 in omega (arith, p .moves, p .inside, c.before.before.before.before.before.before.before.before.before.before.before.before.before.run-end.ensures.start)
 
 loop-again : tie.Need-loop-again Inv-loop μ-loop
 loop-again c =
-    let p = next-point (sym c.before.before.before.before.before.before.before.next.ensures ∙ c.before.before.before.before.before.c.given.1) in
+    let p = next-point c.before.before.before.before.before.before.before.next.ensures c.before.before.before.before.before.c.given.1 in
     (along-step (along-step c.before.before.before.before.before.before.before.before.before.before.before.before.before.before.before.before.before.loop.inv.0 (points-passed _ c.before.before.before.before.before.before.before.before.before.before.before.before.before.run-end.ensures) c.before.before.before.before.before.before.before.before.before.before.put-at.ensures) (points-next _ p) c.before.before.put-point.ensures, p .inside, c.before.before.put-point.kept.0 ∙ c.before.before.before.before.before.before.before.before.before.before.put-at.kept.0 ∙ c.before.before.before.before.before.before.before.before.before.before.before.before.before.before.before.before.before.loop.inv.2)
 
 same-length-2 : tie.Need-same-length-2 Inv-loop μ-loop
 same-length-2 c = c.before.before.before.before.before.put-at.kept.0 ∙ c.before.before.before.before.before.before.before.before.before.before.before.before.loop.inv.2
 
 returns-2 : tie.Need-returns-2 Inv-loop μ-loop
-returns-2 c = along-end (along-step c.before.before.before.before.before.before.before.before.before.before.before.before.loop.inv.0 (points-passed _ c.before.before.before.before.before.before.before.before.run-end.ensures) c.before.before.before.before.before.put-at.ensures) (points-none _ _ (next-malformed _ _ (sym c.before.before.next.ensures ∙ c.enum-told.given.1) .1))
+returns-2 c = along-end (along-step c.before.before.before.before.before.before.before.before.before.before.before.before.loop.inv.0 (points-passed _ c.before.before.before.before.before.before.before.before.run-end.ensures) c.before.before.before.before.before.put-at.ensures) (points-none _ _ (next-malformed _ _ c.before.before.next.ensures c.enum-told.given.1 .1))
 
 same-length-3 : tie.Need-same-length-3 Inv-loop μ-loop
 same-length-3 c = c.before.before.before.before.before.put-at.kept.0 ∙ c.before.before.before.before.before.before.before.before.before.before.before.before.loop.inv.2
 
 returns-3 : tie.Need-returns-3 Inv-loop μ-loop
-returns-3 c = along-end (along-step c.before.before.before.before.before.before.before.before.before.before.before.before.loop.inv.0 (points-passed _ c.before.before.before.before.before.before.before.before.run-end.ensures) c.before.before.before.before.before.put-at.ensures) (points-none _ _ (next-end _ _ (sym c.before.before.next.ensures ∙ c.enum-told2.given.1) .1))
+returns-3 c = along-end (along-step c.before.before.before.before.before.before.before.before.before.before.before.before.loop.inv.0 (points-passed _ c.before.before.before.before.before.before.before.before.run-end.ensures) c.before.before.before.before.before.put-at.ensures) (points-none _ _ (next-end _ _ c.before.before.next.ensures c.enum-told2.given.1 .1))
 
 pub put-points-spec : {M : Type 1} → statement M
 put-points-spec =

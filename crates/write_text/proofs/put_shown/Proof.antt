@@ -1,4 +1,4 @@
--- `text::put_shown` meets its contract: by the test of `shown`.
+-- `write_text::put_shown` meets its contract: by the test of `shown`.
 -- Assumes nothing.
 use mathlib.Core.Path.{sym, _∙_}
 use native.Mathlib.Omega.{arith}

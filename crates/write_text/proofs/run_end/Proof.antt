@@ -1,4 +1,4 @@
--- `text::run_end` meets its contract: no stop stands before the place reached. The measure is what is left.
+-- `write_text::run_end` meets its contract: no stop stands before the place reached. The measure is what is left.
 -- Assumes nothing.
 use mathlib.Core.Path.{sym, _∙_}
 use Prim.Native.Nat.{_-_, _≤_}

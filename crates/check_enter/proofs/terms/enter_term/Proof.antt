@@ -1,4 +1,4 @@
--- The number of the type, and then the term by it.
+-- `check_enter::terms::enter_term` meets its contract: the type, and then the term by it.
 -- Assumes nothing.
 use borrow.Author.Needs.{needs}
 use Rattle.check_enter.proofs.terms.enter_term.Statement.{statement}

@@ -19,14 +19,14 @@ returns-3 : tie.Need-returns-3
 returns-3 c =
     let a = c.before.before.before.before.before.before.args in
     let word = c.before.before.read-word in
-    ref-short a.body.now a.from a.i (omega arith) (word-short (drop (a.from + 4 * a.i) a.body.now) word.result word.ensures c.enum-told.given.1)
+    ref-short a.body.now a.from a.i (word-short (drop (a.from + 4 * a.i) a.body.now) word.result word.ensures c.enum-told.given.1)
 
 returns-4 : tie.Need-returns-4
 returns-4 c =
     let a = c.before.before.before.before.before.before.before.args in
     let word = c.before.before.before.read-word in
     let read = word-value (drop (a.from + 4 * a.i) a.body.now) word.result word.ensures c.before.n.given.1 in
-    ref-read a.body.now a.from a.i (omega arith) (read .0) (read .1)
+    ref-read a.body.now a.from a.i (read .0) (read .1)
 
 pub ref-at-spec : {M : Type 1} → statement M
 ref-at-spec =

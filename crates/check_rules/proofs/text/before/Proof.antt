@@ -1,4 +1,4 @@
--- `before` compares two texts byte by byte: what is left to compare from a place on decides.
+-- `check_rules::text::before` compares two texts byte by byte: what is left to compare from a place on decides.
 -- Assumes nothing.
 use mathlib.Core.Path.{_≡_, refl, sym, _∙_}
 use Prim.Native.Nat.{_-_}

@@ -2,7 +2,7 @@
 -- Assumes nothing.
 use native.Mathlib.Omega.{arith}
 use Prim.Native.Nat.{_-_}
-use Rattle.encoder.proofs.AssertionLaws.{Asserting, asserting-start, asserting-on, asserting-end}
+use Rattle.encoder.proofs.AssertionLaws.{Asserting, asserting-start, asserting-on, asserting-past, asserting-end}
 use borrow.Author.Needs.{needs}
 use Rattle.encoder.proofs.assertions.put_assertions.Statement.{statement}
 use Rattle.encoder.proofs.assertions.put_assertions.Tie as tie
@@ -16,14 +16,20 @@ abbrev μ-loop : tie.MeasureT-loop
 loop-holds : tie.Need-loop-holds Inv-loop μ-loop
 loop-holds c = asserting-start _ _ _ _ _ _
 
-loop-again : tie.Need-loop-again Inv-loop μ-loop
-loop-again c = asserting-on _ _ _ _ c.before.before.before.before.before.before.before.before.before.before.loop.inv c.before.before.before.before.before.before.before.before.if1.taken c.before.before.before.before.before.before.before.get.ensures c.before.before.before.before.before.before.rest-from.ensures c.before.before.before.before.before.room.ensures c.before.before.before.put-assertion.ensures (c.before.before.before.put-assertion.kept .1 .1 .1 .0) c.past-line.ensures
-
 same-length : tie.Need-same-length Inv-loop μ-loop
-same-length c = c.before.before.loop.inv.size
+same-length c = c.before.before.before.before.loop.inv.size
 
 returns : tie.Need-returns Inv-loop μ-loop
-returns c = asserting-end _ _ _ _ c.before.before.loop.inv c.if1.left
+returns c = asserting-past _ _ _ _ c.before.before.before.before.loop.inv c.before.is-past.ensures c.if2.taken
+
+loop-again : tie.Need-loop-again Inv-loop μ-loop
+loop-again c = asserting-on _ _ _ _ c.before.before.before.before.before.before.before.before.before.before.before.before.loop.inv c.before.before.before.before.before.before.before.before.before.before.if1.taken c.before.before.before.before.before.before.before.get.ensures c.before.before.before.before.before.before.rest-from.ensures c.before.before.before.before.before.room.ensures c.before.before.before.put-assertion.ensures (c.before.before.before.put-assertion.kept .1 .1 .1 .0) c.past-line.ensures
+
+same-length-2 : tie.Need-same-length-2 Inv-loop μ-loop
+same-length-2 c = c.before.before.loop.inv.size
+
+returns-2 : tie.Need-returns-2 Inv-loop μ-loop
+returns-2 c = asserting-end _ _ _ _ c.before.before.loop.inv c.if1.left
 
 pub put-assertions-spec : {M : Type 1} → statement M
 put-assertions-spec =
@@ -31,7 +37,9 @@ put-assertions-spec =
     (tie.spec
     Inv-loop
     μ-loop
-    loop-holds (λ c. search needs) (λ c κs. search needs) (λ c κs. search needs) (λ c κs. search needs) (λ c. search needs) (λ c. search needs) (λ c. search needs) (λ c κs. search needs) (λ c κs. search needs) (λ c. search needs) (λ c. omega arith)
-    loop-again
+    loop-holds (λ c κs. search needs)
     same-length
-    returns)
+    returns (λ c. search needs) (λ c κs. search needs) (λ c κs. search needs) (λ c κs. search needs) (λ c. search needs) (λ c. search needs) (λ c. search needs) (λ c κs. search needs) (λ c κs. search needs) (λ c. search needs) (λ c. omega arith)
+    loop-again
+    same-length-2
+    returns-2)

@@ -1,4 +1,4 @@
--- `compare::byte_after` meets its contract: past the end there is no byte.
+-- `index_compare::compare::byte_after` meets its contract: past the end there is no byte.
 -- Assumes nothing.
 use lib.ListN.{List·getD-eq-default}
 use Prim.Native.Nat.{_+_}

@@ -1,4 +1,4 @@
--- `compare::byte_at` meets its contract: the list has 0 past its end.
+-- `index_compare::compare::byte_at` meets its contract: the list has 0 past its end.
 -- Assumes nothing.
 use native.Mathlib.Omega.{arith}
 use borrow.Author.Needs.{needs}

@@ -1,4 +1,4 @@
--- `compare::same_ahead` meets its contract: what is ahead of the walks is equal exactly where it was at the start.
+-- `index_compare::compare::same_ahead` meets its contract: what is ahead of the walks is equal exactly where it was at the start.
 -- The measure is the number of segments ahead.
 -- Assumes nothing.
 use native.Mathlib.Omega.{arith}

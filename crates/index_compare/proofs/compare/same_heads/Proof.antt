@@ -1,4 +1,4 @@
--- `compare::same_heads` meets its contract: by kind, number and bytes.
+-- `index_compare::compare::same_heads` meets its contract: by kind, number and bytes.
 -- Assumes nothing.
 use borrow.Author.Needs.{needs}
 use Rattle.index_compare.proofs.Compared.{decides-not, decides-bytes}

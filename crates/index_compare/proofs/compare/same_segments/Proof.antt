@@ -1,4 +1,4 @@
--- `compare::same_segments` meets its contract: the walks start at the bodies of the records.
+-- `index_compare::compare::same_segments` meets its contract: the walks start at the bodies of the records.
 -- Assumes nothing.
 use borrow.Author.Needs.{needs}
 use Rattle.index_compare.specs.View.{segmentsAt, startAt}

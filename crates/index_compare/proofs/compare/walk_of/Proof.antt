@@ -1,4 +1,4 @@
--- `compare::walk_of` meets its contract: the mark is the two bytes at the offset.
+-- `index_compare::compare::walk_of` meets its contract: the mark is the two bytes at the offset.
 -- Assumes nothing.
 use Rattle.index_compare.proofs.Views.{startAt-bytes}
 use mathlib.Core.Path.{sym, _∙_}

@@ -1,4 +1,4 @@
--- `compare::depth::greatest` meets its contract: by the shape of the record, or by the walk from the start of its body.
+-- `index_compare::depth::greatest` meets its contract: by the shape of the record, or by the walk from the start of its body.
 -- Assumes nothing.
 use borrow.Author.Needs.{needs}
 use Rattle.index_compare.specs.Machine.{segments}

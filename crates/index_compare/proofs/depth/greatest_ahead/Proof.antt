@@ -1,11 +1,11 @@
--- `compare::depth::greatest_ahead` meets its contract: the greatest so far and what is ahead make the result.
+-- `index_compare::depth::greatest_ahead` meets its contract: the greatest so far and what is ahead make the result.
 -- The measure is the number of segments ahead.
 -- Assumes nothing.
 use native.Mathlib.Omega.{arith}
 use borrow.Author.Needs.{needs}
 use Rattle.index_compare.proofs.Depths.{greatest-end, greatest-next}
 use Rattle.index_compare.specs.declared.compare.View.the-variants.{Depth}
-use Rattle.index_compare.specs.View.{viewed, numbers}
+use Rattle.index_compare.specs.View.{viewed, referenceNumbers}
 use Rattle.index_compare.specs.Machine.{ahead}
 use Rattle.index.specs.Rules.{greatest}
 use lib.ListN.{length}
@@ -16,7 +16,7 @@ use Rattle.index_compare.proofs.depth.greatest_ahead.Statement.{stateme
 use Rattle.index_compare.proofs.depth.greatest_ahead.Tie as tie
 
 abbrev Inv-loop : tie.InvT-loop
-Inv-loop body work k kind x₀ most₀ x most = max most (greatest (numbers kind (map (viewed work k Depth) (ahead body x)))) ≡ greatest (numbers kind (map (viewed work k Depth) (ahead body x₀)))
+Inv-loop body work k kind x₀ most₀ x most = max most (greatest (referenceNumbers kind (map (viewed work k Depth) (ahead body x)))) ≡ greatest (referenceNumbers kind (map (viewed work k Depth) (ahead body x₀)))
 
 abbrev μ-loop : tie.MeasureT-loop
 μ-loop body work k kind x₀ most₀ x most = length (ahead body x)

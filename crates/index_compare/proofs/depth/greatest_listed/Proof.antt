@@ -1,4 +1,4 @@
--- `compare::depth::greatest_listed` meets its contract: the depth of the type, and then those of the terms.
+-- `index_compare::depth::greatest_listed` meets its contract: the depth of the type, and then those of the terms.
 -- Assumes nothing.
 use borrow.Author.Needs.{needs}
 use lib.ListN.{drop}

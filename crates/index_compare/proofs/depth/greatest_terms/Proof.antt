@@ -1,4 +1,5 @@
--- `compare::depth::greatest_terms` meets its contract: the greatest so far and the references that are left make the result. The measure is how many are left.
+-- `index_compare::depth::greatest_terms` meets its contract: the greatest so far and the references that are left make the result. The
+-- measure is how many are left.
 -- Assumes nothing.
 use Prim.Native.Nat.{max}
 use mathlib.Core.Path.{_≡_, refl, _∙_}
@@ -8,7 +9,7 @@ use Rattle.index.specs.Rules.{greatest}
 use Rattle.index_compare.specs.Machine.{items}
 use Rattle.index_compare.specs.declared.segments.Item.the-variants.{Term}
 use Rattle.index_compare.proofs.Steps.{word-short, word-value, word-fits}
-use Rattle.index_compare.specs.View.{viewed, numbers}
+use Rattle.index_compare.specs.View.{viewed, referenceNumbers}
 use Rattle.index_compare.specs.declared.compare.View.the-variants.{Depth}
 use Rattle.index_compare.proofs.Shapes.{terms-none, terms-short, terms-next}
 use Rattle.index_compare.proofs.Opened.{greatest-none, greatest-turn}
@@ -18,7 +19,7 @@ use Rattle.index_compare.proofs.depth.greatest_terms.Statement.{stateme
 use Rattle.index_compare.proofs.depth.greatest_terms.Tie as tie
 
 abbrev Inv-loop : tie.InvT-loop
-Inv-loop body from count work k kind most at₀ left₀ found₀ at left found = max found (greatest (numbers kind (map (viewed work k Depth) (items Term left (drop at body))))) ≡ max most (greatest (numbers kind (map (viewed work k Depth) (items Term count (drop from body)))))
+Inv-loop body from count work k kind most at₀ left₀ found₀ at left found = max found (greatest (referenceNumbers kind (map (viewed work k Depth) (items Term left (drop at body))))) ≡ max most (greatest (referenceNumbers kind (map (viewed work k Depth) (items Term count (drop from body)))))
 
 abbrev μ-loop : tie.MeasureT-loop
 μ-loop body from count work k kind most at₀ left₀ found₀ at left found = left

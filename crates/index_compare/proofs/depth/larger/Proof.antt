@@ -1,4 +1,4 @@
--- `compare::depth::larger` meets its contract: by cases on the tests.
+-- `index_compare::depth::larger` meets its contract: by cases on the tests.
 -- Assumes nothing.
 use Rattle.index_compare.proofs.Depths.{larger-other, larger-less, larger-more}
 use Rattle.index_compare.proofs.depth.larger.Statement.{statement}

@@ -1,4 +1,4 @@
--- `compare::depth::type_depth` meets its contract: the entry is that of the type.
+-- `index_compare::depth::type_depth` meets its contract: the entry is that of the type.
 -- Assumes nothing.
 use mathlib.Core.Path.{ap, _∙_}
 use Prim.Native.Nat.{ℕ}

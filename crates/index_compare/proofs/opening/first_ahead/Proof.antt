@@ -1,11 +1,11 @@
--- `compare::opening::first_ahead` meets its contract: what is ahead has the same first number.
+-- `index_compare::opening::first_ahead` meets its contract: what is ahead has the same first number.
 -- The measure is the number of segments ahead.
 -- Assumes nothing.
 use native.Mathlib.Omega.{arith}
 use borrow.Author.Needs.{needs}
 use Rattle.index_compare.proofs.Depths.{first-end, first-here, first-next}
 use Rattle.index_compare.specs.declared.compare.View.the-variants.{Listed}
-use Rattle.index_compare.specs.View.{viewed, numbers}
+use Rattle.index_compare.specs.View.{viewed, referenceNumbers}
 use Rattle.index_compare.specs.Machine.{ahead}
 use lib.ListN.{length, getD}
 use mathlib.Core.List.{map}
@@ -14,7 +14,7 @@ use Rattle.index_compare.proofs.opening.first_ahead.Statement.{statemen
 use Rattle.index_compare.proofs.opening.first_ahead.Tie as tie
 
 abbrev Inv-loop : tie.InvT-loop
-Inv-loop body work k x₀ x = getD (numbers 2 (map (viewed work k Listed) (ahead body x))) 0 0 ≡ getD (numbers 2 (map (viewed work k Listed) (ahead body x₀))) 0 0
+Inv-loop body work k x₀ x = getD (referenceNumbers 2 (map (viewed work k Listed) (ahead body x))) 0 0 ≡ getD (referenceNumbers 2 (map (viewed work k Listed) (ahead body x₀))) 0 0
 
 abbrev μ-loop : tie.MeasureT-loop
 μ-loop body work k x₀ x = length (ahead body x)

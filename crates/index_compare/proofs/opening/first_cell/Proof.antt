@@ -1,4 +1,4 @@
--- `compare::opening::first_cell` meets its contract: the four bytes are the reference.
+-- `index_compare::opening::first_cell` meets its contract: the four bytes are the reference.
 -- Assumes nothing.
 use mathlib.Core.Path.{sym, _∙_}
 use lib.ListN.{drop}

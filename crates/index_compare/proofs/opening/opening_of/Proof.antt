@@ -1,7 +1,7 @@
--- `compare::opening::opening_of` meets its contract: by the start of the walk for each mark.
+-- `index_compare::opening::opening_of` meets its contract: by the start of the walk for each mark.
 -- Assumes nothing.
 use mathlib.Core.Path.{refl}
-use Rattle.index_compare.specs.Machine.{start, startType}
+use Rattle.index_compare.specs.Machine.{walkStart, startType}
 use Rattle.index_compare.proofs.Shapes.{opens-is}
 use Rattle.index_compare.specs.declared.opening.Opening.the-variants.{TypeFirst}
 use borrow.Author.Needs.{needs}
@@ -9,11 +9,11 @@ use Rattle.index_compare.proofs.opening.opening_of.Statement.{statement
 use Rattle.index_compare.proofs.opening.opening_of.Tie as tie
 
 returns : tie.Need-returns
-unfolding start startType
+unfolding walkStart startType
 returns c = opens-is {a′ = 84} {b′ = 79} TypeFirst c.before.if1.taken c.if2.taken (refl, refl)
 
 returns-2 : tie.Need-returns-2
-unfolding start startType
+unfolding walkStart startType
 returns-2 c = opens-is {a′ = 84} {b′ = 67} TypeFirst c.before.before.if1.taken c.if3.taken (refl, refl)
 
 returns-4 : tie.Need-returns-4

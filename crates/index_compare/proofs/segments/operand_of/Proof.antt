@@ -1,4 +1,4 @@
--- `segments::operand_of` meets its contract: the tests are those of the definition.
+-- `index_compare::segments::operand_of` meets its contract: the tests are those of the definition.
 -- Assumes nothing.
 use Rattle.index_compare.specs.Machine.{operandOf}
 use borrow.Author.Tests.{eq-eqb, ne-eqb}

@@ -1,4 +1,4 @@
--- `compare::shape::applied` meets its contract: the fields stand one after the other where the operator has no operand.
+-- `index_compare::shape::applied` meets its contract: the fields stand one after the other where the operator has no operand.
 -- Assumes nothing.
 use lib.ListN.{length, drop}
 use Prim.Native.Nat.{_≤_}

@@ -1,4 +1,4 @@
--- `compare::shape::listing` meets its contract: the fields stand one after the other.
+-- `index_compare::shape::listing` meets its contract: the fields stand one after the other.
 -- Assumes nothing.
 use lib.ListN.{drop}
 use Rattle.index_compare.proofs.Steps.{word-value}

@@ -1,4 +1,4 @@
--- `compare::shape::named` meets its contract: the text ends where the reference begins.
+-- `index_compare::shape::named` meets its contract: the text ends where the reference begins.
 -- Assumes nothing.
 use Rattle.index_compare.proofs.Shapes.{named-shown}
 use borrow.Author.Needs.{needs}

@@ -1,4 +1,4 @@
--- `compare::shape::shape_by` meets its contract: by the start of the walk for each mark.
+-- `index_compare::shape::shape_by` meets its contract: by the start of the walk for each mark.
 -- Assumes nothing.
 use Rattle.index_compare.proofs.Shapes.{shape-at, start-is}
 use borrow.Author.Needs.{needs}

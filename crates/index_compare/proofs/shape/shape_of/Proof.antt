@@ -1,4 +1,4 @@
--- `compare::shape::shape_of` meets its contract: the mark is the two bytes at the offset.
+-- `index_compare::shape::shape_of` meets its contract: the mark is the two bytes at the offset.
 -- Assumes nothing.
 use Rattle.index_compare.proofs.Shapes.{segments-by, shape-at}
 use borrow.Author.Needs.{needs}

@@ -1,4 +1,4 @@
--- `compare::shape::sole` meets its contract: the four bytes are the reference.
+-- `index_compare::shape::sole` meets its contract: the four bytes are the reference.
 -- Assumes nothing.
 use lib.ListN.{drop}
 use Rattle.index_compare.proofs.Steps.{word-value}

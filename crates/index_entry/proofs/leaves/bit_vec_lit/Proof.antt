@@ -1,4 +1,4 @@
--- `term_entry::leaves::bit_vec_lit` meets its contract.
+-- `index_entry::leaves::bit_vec_lit` meets its contract.
 -- Assumes nothing.
 use Rattle.index_entry.proofs.LeafEntries.{term-bits}
 use borrow.Author.Needs.{needs}

@@ -1,4 +1,4 @@
--- `term_entry::leaves::bool_lit` meets its contract: each code by its arm.
+-- `index_entry::leaves::bool_lit` meets its contract: each code by its arm.
 -- Assumes nothing.
 use mathlib.Core.Path.{refl, ap}
 use Prim.Native.Nat.{zero-le}

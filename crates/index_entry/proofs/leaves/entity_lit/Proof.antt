@@ -1,4 +1,4 @@
--- `term_entry::leaves::entity_lit` meets its contract.
+-- `index_entry::leaves::entity_lit` meets its contract.
 -- Assumes nothing.
 use Rattle.index_entry.proofs.LeafEntries.{term-entity}
 use borrow.Author.Needs.{needs}

@@ -1,4 +1,4 @@
--- `term_entry::leaves::none_of` meets its contract.
+-- `index_entry::leaves::none_of` meets its contract.
 -- Assumes nothing.
 use Rattle.index_entry.proofs.LeafEntries.{term-none}
 use borrow.Author.Needs.{needs}

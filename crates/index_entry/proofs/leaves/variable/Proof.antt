@@ -1,4 +1,4 @@
--- `term_entry::leaves::variable` meets its contract.
+-- `index_entry::leaves::variable` meets its contract.
 -- Assumes nothing.
 use Rattle.index_entry.proofs.LeafEntries.{term-var}
 use borrow.Author.Needs.{needs}

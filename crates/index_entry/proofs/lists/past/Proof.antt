@@ -1,4 +1,4 @@
--- `entry::lists::past` meets its contract.
+-- `index_entry::lists::past` meets its contract.
 -- Assumes nothing.
 use Rattle.index_entry.proofs.Places.{past-end, past-on}
 use native.Mathlib.Omega.{arith}

@@ -1,4 +1,4 @@
--- `entry::lists::past_text` meets its contract.
+-- `index_entry::lists::past_text` meets its contract.
 -- Assumes nothing.
 use Rattle.index_entry.proofs.Places.{past-text}
 use borrow.Author.Needs.{needs}

@@ -1,4 +1,4 @@
--- `entry::lists::text_at` meets its contract.
+-- `index_entry::lists::text_at` meets its contract.
 -- Assumes nothing.
 use Rattle.index_entry.proofs.Places.{text-is}
 use borrow.Author.Needs.{needs}

@@ -1,4 +1,4 @@
--- `entry::numbered::type_at` meets its contract.
+-- `index_entry::numbered::type_at` meets its contract.
 -- Assumes nothing.
 use borrow.Author.Needs.{needs}
 use Rattle.index_entry.proofs.numbered.type_at.Statement.{statement}

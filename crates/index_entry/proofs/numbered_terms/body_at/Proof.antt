@@ -1,4 +1,4 @@
--- `term_entry::numbered::body_at` meets its contract.
+-- `index_entry::numbered_terms::body_at` meets its contract.
 -- Assumes nothing.
 use mathlib.Core.Path.{_∙_}
 use borrow.Author.Needs.{needs}

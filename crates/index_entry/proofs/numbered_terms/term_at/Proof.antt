@@ -1,4 +1,4 @@
--- `term_entry::numbered::term_at` meets its contract.
+-- `index_entry::numbered_terms::term_at` meets its contract.
 -- Assumes nothing.
 use borrow.Author.Needs.{needs}
 use Rattle.index_entry.proofs.numbered_terms.term_at.Statement.{statement}

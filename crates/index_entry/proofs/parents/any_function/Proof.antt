@@ -1,4 +1,4 @@
--- `term_entry::parents::any_function` meets its contract: the number that stands there.
+-- `index_entry::parents::any_function` meets its contract: the number that stands there.
 -- Assumes nothing.
 use mathlib.Core.Path.{ap}
 use Rattle.read_field.specs.Answers.{numberTold}

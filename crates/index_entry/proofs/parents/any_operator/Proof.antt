@@ -1,4 +1,4 @@
--- `term_entry::parents::any_operator` meets its contract: only the operator that names a function depends on how many there are.
+-- `index_entry::parents::any_operator` meets its contract: only the operator that names a function depends on how many there are.
 -- Assumes nothing.
 use mathlib.Core.Path.{ap}
 use Rattle.read_field.specs.Answers.{numberTold}

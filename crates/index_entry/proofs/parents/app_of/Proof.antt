@@ -1,4 +1,4 @@
--- `term_entry::parents::app_of` meets its contract: the operator ends where the arguments begin.
+-- `index_entry::parents::app_of` meets its contract: the operator ends where the arguments begin.
 -- Assumes nothing.
 use mathlib.Core.Path.{ap}
 use Rattle.read_field.proofs.Laws.{tells}
@@ -10,11 +10,11 @@ use Rattle.index_entry.proofs.parents.app_of.Tie as tie
 
 returns : tie.Need-returns
 unfolding opTold
-returns c = no-app (tells (ap (opTold _) c.enum-told.given.1) c.before.before.any-operator.ensures)
+returns c = no-app (tells (ap (opTold _) c.enum-told.given.1) c.before.before.operator-of.ensures)
 
 returns-2 : tie.Need-returns-2
 unfolding opTold
-returns-2 c = term-app c.before.before.before.before.before.before.number-at.ensures (tells (ap (opTold _) c.before.before.before.o.given.1) c.before.before.before.before.before.any-operator.ensures) c.before.number-at2.ensures c.past.ensures
+returns-2 c = term-app c.before.before.before.before.before.number-at.ensures (tells (ap (opTold _) c.before.before.o.given.1) c.before.before.before.before.operator-of.ensures) c.listed-at.ensures
 
 pub app-of-spec : {M : Type 1} → statement M
-app-of-spec = tie.close (tie.spec (λ c κs. search needs) (λ c κs. search needs) (λ c. search needs) (λ c. search needs) (λ c κs. search needs) (λ c κs. search needs) returns returns-2)
+app-of-spec = tie.close (tie.spec (λ c κs. search needs) (λ c κs. search needs) (λ c. search needs) (λ c. search needs) (λ c κs. search needs) returns returns-2)

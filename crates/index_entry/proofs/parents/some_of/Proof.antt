@@ -1,4 +1,4 @@
--- `term_entry::parents::some_of` meets its contract.
+-- `index_entry::parents::some_of` meets its contract.
 -- Assumes nothing.
 use Rattle.index_entry.proofs.ParentEntries.{term-some}
 use borrow.Author.Needs.{needs}

@@ -1,4 +1,4 @@
--- `entry::number_at` meets its contract.
+-- `index_entry::records::number_at` meets its contract.
 -- Assumes nothing.
 use mathlib.Core.Path.{ap}
 use Rattle.read_field.specs.Answers.{numberTold}

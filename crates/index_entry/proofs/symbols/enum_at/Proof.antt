@@ -1,4 +1,4 @@
--- `entry::symbols::enum_at` meets its contract.
+-- `index_entry::symbols::enum_at` meets its contract.
 -- Assumes nothing.
 use Rattle.index_entry.proofs.SymbolEntries.{enum-at}
 use borrow.Author.Needs.{needs}

@@ -1,4 +1,4 @@
--- `entry::symbols::enum_of` meets its contract.
+-- `index_entry::symbols::enum_of` meets its contract.
 -- Assumes nothing.
 use Rattle.index_entry.proofs.SymbolEntries.{enum-is, no-enums}
 use borrow.Author.Needs.{needs}

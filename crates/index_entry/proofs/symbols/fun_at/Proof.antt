@@ -1,4 +1,4 @@
--- `entry::symbols::fun_at` meets its contract.
+-- `index_entry::symbols::fun_at` meets its contract.
 -- Assumes nothing.
 use Rattle.index_entry.proofs.SymbolEntries.{fun-at}
 use borrow.Author.Needs.{needs}

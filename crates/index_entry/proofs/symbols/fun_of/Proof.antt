@@ -1,4 +1,4 @@
--- `entry::symbols::fun_of` meets its contract.
+-- `index_entry::symbols::fun_of` meets its contract.
 -- Assumes nothing.
 use Rattle.index_entry.proofs.SymbolEntries.{fun-is, no-funs}
 use borrow.Author.Needs.{needs}

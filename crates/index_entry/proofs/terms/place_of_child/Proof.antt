@@ -1,4 +1,4 @@
--- `term_entry::place_of_child` meets its contract.
+-- `index_entry::terms::place_of_child` meets its contract.
 -- Assumes nothing.
 use Rattle.index_entry.proofs.ChildLaws.{ahead-named, ahead-bare}
 use borrow.Author.Needs.{needs}

@@ -1,4 +1,4 @@
--- `term_entry::take_child` meets its contract.
+-- `index_entry::terms::take_child` meets its contract.
 -- Assumes nothing.
 use Rattle.index_entry.proofs.ChildLaws.{takes-child}
 use borrow.Author.Needs.{needs}

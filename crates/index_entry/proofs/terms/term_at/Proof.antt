@@ -1,4 +1,4 @@
--- `term_entry::term_at` meets its contract: the mark and the body of the record.
+-- `index_entry::terms::term_at` meets its contract: the mark and the body of the record.
 -- Assumes nothing.
 use Rattle.index_entry.proofs.TermEntries.{term-at}
 use borrow.Author.Needs.{needs}

@@ -1,4 +1,4 @@
--- `term_entry::term_of` meets its contract: each mark by its arm.
+-- `index_entry::terms::term_of` meets its contract: each mark by its arm.
 -- Assumes nothing.
 use Rattle.script_spec.specs.Base.{bytes}
 use Rattle.index_entry.proofs.TermEntries.{under, no-terms}

@@ -1,4 +1,4 @@
--- `entry::types::type_at` meets its contract: the mark and the body of the record.
+-- `index_entry::types::type_at` meets its contract: the mark and the body of the record.
 -- Assumes nothing.
 use Rattle.index_entry.proofs.TypeEntries.{type-at}
 use borrow.Author.Needs.{needs}

@@ -1,4 +1,4 @@
--- `entry::types::type_of` meets its contract: each mark by its arm.
+-- `index_entry::types::type_of` meets its contract: each mark by its arm.
 -- Assumes nothing.
 use mathlib.Core.Path.{_∙_}
 use Rattle.script_spec.specs.Base.{bytes}

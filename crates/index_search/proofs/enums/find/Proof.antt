@@ -1,4 +1,4 @@
--- `enum_table::find` meets its contract: the search by the name.
+-- `index_search::enums::find` meets its contract: the search by the name.
 -- Assumes nothing.
 use Rattle.index_search.proofs.EnumLaws.{finds-named}
 use borrow.Author.Needs.{needs}

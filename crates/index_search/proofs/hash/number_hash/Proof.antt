@@ -3,7 +3,7 @@
 use mathlib.Core.Path.{refl, _∙_}
 use native.Mathlib.Omega.{arith}
 use Rattle.index_compare.specs.Printed.{lowBytes}
-use Rattle.index_compare.specs.View.{kindOf, numberOf, bytesOf}
+use Rattle.index_compare.specs.View.{kindOf, referenceNumber, bytesOf}
 use Rattle.index.specs.Names.{mixedBytes}
 use Rattle.index_search.specs.Hash.{mixedSegments, hashed, typeHash}
 use Rattle.index_search.proofs.Mixed.{then-mixed, number-mixed}
@@ -12,7 +12,7 @@ use Rattle.index_search.proofs.hash.number_hash.Statement.{statement}
 use Rattle.index_search.proofs.hash.number_hash.Tie as tie
 
 returns : tie.Need-returns
-unfolding typeHash hashed mixedSegments mixedBytes kindOf numberOf bytesOf lowBytes
+unfolding typeHash hashed mixedSegments mixedBytes kindOf referenceNumber bytesOf lowBytes
 returns c = then-mixed c.before.sole-hash.ensures refl c.mix.ensures ∙ number-mixed _ c.before.before.args.n (omega arith)
 
 pub number-hash-spec : {M : Type 1} → statement M

@@ -1,4 +1,4 @@
--- `slots::home` meets its contract: the hash of the record, scaled.
+-- `index_search::slots::home` meets its contract: the hash of the record, scaled.
 -- Assumes nothing.
 use native.Mathlib.Omega.{arith}
 use Rattle.index_search.proofs.Homes.{home-found}

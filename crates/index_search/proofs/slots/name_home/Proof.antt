@@ -1,4 +1,4 @@
--- `slots::name_home` meets its contract: the hash of the name, scaled.
+-- `index_search::slots::name_home` meets its contract: the hash of the name, scaled.
 -- Assumes nothing.
 use Rattle.index_search.proofs.Homes.{name-home-found}
 use borrow.Author.Needs.{needs}

@@ -1,4 +1,4 @@
--- `slots::scale` meets its contract: the product of two numbers below 2 ^ 32 fits in 64 bits.
+-- `index_search::slots::scale` meets its contract: the product of two numbers below 2 ^ 32 fits in 64 bits.
 -- Assumes nothing.
 use native.Mathlib.Omega.{arith}
 use Rattle.index_search.proofs.Homes.{product-fits, scales, scales-past}

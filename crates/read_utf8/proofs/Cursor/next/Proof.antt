@@ -1,6 +1,5 @@
--- `utf8::Cursor::next` meets its contract: the end, a byte below 128, or a first byte of several.
+-- `read_utf8::Cursor::next` meets its contract: the end, a byte below 128, or a first byte of several.
 -- Assumes nothing.
-use mathlib.Core.Path.{_∙_}
 use borrow.Author.Needs.{needs}
 use Rattle.read_utf8.proofs.Steps.{first-end, first-ascii, first-led}
 use Rattle.read_utf8.proofs.Cursor.next.Statement.{statement}
@@ -13,7 +12,7 @@ returns-2 : tie.Need-returns-2
 returns-2 c = first-ascii _ _ _ c.before.before.before.if1.left (c.before.wide.ensures.0) c.if2.taken
 
 returns-3 : tie.Need-returns-3
-returns-3 c = c.led-by.ensures ∙ first-led _ _ _ c.before.before.before.before.if1.left (c.before.before.wide.ensures.0) c.before.if2.left
+returns-3 c = first-led _ _ _ _ c.before.before.before.before.if1.left (c.before.before.wide.ensures.0) c.before.if2.left c.led-by.ensures
 
 pub next-spec : {M : Type 1} → statement M
 next-spec =

@@ -1,4 +1,4 @@
--- `answers::of_check` gives the number of each case.
+-- `sakyelbo::answers::of_check` gives the number of each case.
 -- Assumes nothing.
 use mathlib.Core.Path.{sym, ap, _∙_}
 use borrow.Author.Needs.{needs}

@@ -1,4 +1,4 @@
--- `answers::of_command` says each case by its numbers.
+-- `sakyelbo::answers::of_command` says each case by its numbers.
 -- Assumes nothing.
 use mathlib.Core.Path.{ap}
 use borrow.Author.Needs.{needs}

@@ -1,4 +1,4 @@
--- `answers::of_encode` says each case by its numbers.
+-- `sakyelbo::answers::of_encode` says each case by its numbers.
 -- Assumes nothing.
 use mathlib.Core.Path.{ap}
 use borrow.Author.Needs.{needs}

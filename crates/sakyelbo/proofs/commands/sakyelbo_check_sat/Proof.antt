@@ -1,4 +1,4 @@
--- `sakyelbo_check_sat` writes what `smtlib_script::check_sat` does, and says its answer by numbers.
+-- `sakyelbo::commands::sakyelbo_check_sat` writes what `smtlib_script::check_sat` does, and says its answer by numbers.
 -- Assumes nothing.
 use borrow.Author.Needs.{needs}
 use Rattle.sakyelbo.proofs.Laws.{writes-command}

@@ -1,4 +1,4 @@
--- `sakyelbo_declare_const` writes what `smtlib_script::declare_const` does, and says its answer by numbers.
+-- `sakyelbo::commands::sakyelbo_declare_const` writes what `smtlib_script::declare_const` does, and says its answer by numbers.
 -- Assumes nothing.
 use borrow.Author.Needs.{needs}
 use Rattle.sakyelbo.proofs.Laws.{writes-command}

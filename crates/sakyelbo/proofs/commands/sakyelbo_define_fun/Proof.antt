@@ -1,4 +1,4 @@
--- `sakyelbo_define_fun` writes what `smtlib_script::define_fun` does, and says its answer by numbers.
+-- `sakyelbo::commands::sakyelbo_define_fun` writes what `smtlib_script::define_fun` does, and says its answer by numbers.
 -- Assumes nothing.
 use borrow.Author.Needs.{needs}
 use Rattle.sakyelbo.proofs.Laws.{writes-command}

@@ -1,4 +1,4 @@
--- `sakyelbo_exit` writes what `smtlib_script::exit` does, and says its answer by numbers.
+-- `sakyelbo::commands::sakyelbo_exit` writes what `smtlib_script::exit` does, and says its answer by numbers.
 -- Assumes nothing.
 use borrow.Author.Needs.{needs}
 use Rattle.sakyelbo.proofs.Laws.{writes-command}

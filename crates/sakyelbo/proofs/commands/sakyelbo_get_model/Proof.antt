@@ -1,4 +1,4 @@
--- `sakyelbo_get_model` writes what `smtlib_script::get_model` does, and says its answer by numbers.
+-- `sakyelbo::commands::sakyelbo_get_model` writes what `smtlib_script::get_model` does, and says its answer by numbers.
 -- Assumes nothing.
 use borrow.Author.Needs.{needs}
 use Rattle.sakyelbo.proofs.Laws.{writes-command}

@@ -1,4 +1,4 @@
--- `sakyelbo_reset` writes what `smtlib_script::reset` does, and says its answer by numbers.
+-- `sakyelbo::commands::sakyelbo_reset` writes what `smtlib_script::reset` does, and says its answer by numbers.
 -- Assumes nothing.
 use borrow.Author.Needs.{needs}
 use Rattle.sakyelbo.proofs.Laws.{writes-command}

@@ -1,4 +1,4 @@
--- `sakyelbo_set_option` writes what `smtlib_script::set_option` does, and says its answer by numbers.
+-- `sakyelbo::commands::sakyelbo_set_option` writes what `smtlib_script::set_option` does, and says its answer by numbers.
 -- Assumes nothing.
 use borrow.Author.Needs.{needs}
 use Rattle.sakyelbo.proofs.Laws.{writes-command}

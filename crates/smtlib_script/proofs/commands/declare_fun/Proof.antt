@@ -1,4 +1,4 @@
--- `smtlib_script::declare_fun` meets its contract: the texts are tested, the line is written, and the buffer finished.
+-- `smtlib_script::commands::declare_fun` meets its contract: the texts are tested, the line is written, and the buffer finished.
 -- Assumes nothing.
 use borrow.Author.Needs.{needs}
 use Rattle.script_spec.specs.Command.{given}

@@ -1,4 +1,4 @@
--- `smtlib_script::finish` meets its contract: the writer's answer, by cases.
+-- `smtlib_script::commands::finish` meets its contract: the writer's answer, by cases.
 -- Assumes nothing.
 use mathlib.Core.Path.{ap}
 use borrow.Author.Needs.{needs}

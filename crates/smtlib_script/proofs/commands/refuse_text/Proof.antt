@@ -1,4 +1,4 @@
--- `smtlib_script::refuse_text` meets its contract: the whole buffer is zeroed.
+-- `smtlib_script::commands::refuse_text` meets its contract: the whole buffer is zeroed.
 -- Assumes nothing.
 use borrow.Author.Needs.{needs}
 use Rattle.write_bytes.proofs.Laws.{leaves-refused}

@@ -1,4 +1,4 @@
--- `smtlib_line::declare_datatype` meets its contract: the test of the parameters decides which of the two lines it is.
+-- `smtlib_script::line::declare_datatype` meets its contract: the test of the parameters decides which of the two lines it is.
 -- Assumes nothing.
 use mathlib.Core.Path.{sym, _∙_}
 use borrow.Author.Needs.{needs}

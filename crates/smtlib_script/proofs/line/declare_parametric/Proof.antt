@@ -1,4 +1,4 @@
--- `smtlib_line::declare_parametric` meets its contract: its pieces one after another are the line.
+-- `smtlib_script::line::declare_parametric` meets its contract: its pieces one after another are the line.
 -- Assumes nothing.
 use borrow.Author.Needs.{needs}
 use Rattle.script_spec.specs.Base.{bytes}

@@ -1,4 +1,4 @@
--- `smtlib_line::define_fun` meets its contract: its pieces one after another are the line, which is not empty where there is no room.
+-- `smtlib_script::line::define_fun` meets its contract: its pieces one after another are the line, which is not empty where there is no room.
 -- Assumes nothing.
 use mathlib.Core.Path.{_∙_}
 use borrow.Author.Needs.{needs}

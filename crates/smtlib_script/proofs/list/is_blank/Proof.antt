@@ -1,4 +1,4 @@
--- `smtlib_line::list::is_blank` meets its contract: by the number of texts.
+-- `smtlib_script::list::is_blank` meets its contract: by the number of texts.
 -- Assumes nothing.
 use native.Mathlib.Omega.{arith}
 use denote.Ref.{now}

@@ -1,4 +1,4 @@
--- `smtlib_line::list::put_argument` meets its contract: the two texts between parentheses.
+-- `smtlib_script::list::put_argument` meets its contract: the two texts between parentheses.
 -- Assumes nothing.
 use mathlib.Core.Path.{ap}
 use denote.Ref.{now}

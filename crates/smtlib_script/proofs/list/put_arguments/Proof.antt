@@ -1,4 +1,4 @@
--- `smtlib_line::list::put_arguments` meets its contract: the joined arguments between parentheses.
+-- `smtlib_script::list::put_arguments` meets its contract: the joined arguments between parentheses.
 -- Assumes nothing.
 use borrow.Author.Needs.{needs}
 use Rattle.script_spec.specs.Base.{bytes}

@@ -1,4 +1,4 @@
--- `smtlib_line::list::put_joined` meets its contract: before a turn, the texts up to `i` are written; the measure is the number of texts left.
+-- `smtlib_script::list::put_joined` meets its contract: before a turn, the texts up to `i` are written; the measure is the number of texts left.
 -- Assumes nothing.
 use Prim.Native.Nat.{_-_}
 use native.Mathlib.Omega.{arith}

@@ -1,4 +1,4 @@
--- `smtlib_line::list::put_spaced_arguments` meets its contract: before a turn, the arguments up to `i` are written; the measure is the number of arguments left.
+-- `smtlib_script::list::put_spaced_arguments` meets its contract: before a turn, the arguments up to `i` are written; the measure is the number of arguments left.
 -- Assumes nothing.
 use Prim.Native.Nat.{_-_, _<_, min}
 use native.Mathlib.Omega.{arith}

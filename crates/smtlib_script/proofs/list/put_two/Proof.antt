@@ -1,4 +1,4 @@
--- `smtlib_line::list::put_two` meets its contract: the two texts with a space between them.
+-- `smtlib_script::list::put_two` meets its contract: the two texts with a space between them.
 -- Assumes nothing.
 use borrow.Author.Needs.{needs}
 use Rattle.script_spec.specs.Base.{joined, bytes}

@@ -1,4 +1,4 @@
--- `naming::get` meets its contract: what is at most the greatest depth is no name.
+-- `walk_names::naming::get` meets its contract: what is at most the greatest depth is no name.
 -- Assumes nothing.
 use Rattle.walk_names.proofs.Names.{no-name, some-name}
 use borrow.Author.Needs.{needs}

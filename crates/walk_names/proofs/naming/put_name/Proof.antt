@@ -1,4 +1,4 @@
--- `naming::put_name` meets its contract: nothing, or the letter and then the number.
+-- `walk_names::naming::put_name` meets its contract: nothing, or the letter and then the number.
 -- Assumes nothing.
 use Rattle.write_bytes.proofs.Laws.{_then_, says, nothing}
 use Rattle.walk_names.proofs.Names.{numbered-none, numbered-some}

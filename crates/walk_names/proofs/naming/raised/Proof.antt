@@ -1,4 +1,4 @@
--- `naming::raised` meets its contract.
+-- `walk_names::naming::raised` meets its contract.
 -- Assumes nothing.
 use Rattle.walk_names.proofs.Names.{raised-fits, raised-past}
 use borrow.Author.Needs.{needs}

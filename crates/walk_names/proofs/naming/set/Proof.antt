@@ -1,4 +1,4 @@
--- `naming::set` meets its contract.
+-- `walk_names::naming::set` meets its contract.
 -- Assumes nothing.
 use Rattle.walk_names.proofs.Names.{stored-name}
 use borrow.Author.Needs.{needs}

@@ -1,4 +1,4 @@
--- `progress::past_line` meets its contract.
+-- `walk_names::progress::past_line` meets its contract.
 -- Assumes nothing.
 use mathlib.Core.Path.{ap, _∙_}
 use Rattle.walk_names.proofs.Running.{movedTo}

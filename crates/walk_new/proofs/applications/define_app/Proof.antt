@@ -1,4 +1,4 @@
--- `term_new::applications::define_app` meets its contract.
+-- `walk_new::applications::define_app` meets its contract.
 -- Assumes nothing.
 use borrow.Author.Needs.{needs}
 use Rattle.walk_new.proofs.ApplicationLaws.{app-other}

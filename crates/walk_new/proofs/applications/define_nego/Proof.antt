@@ -1,4 +1,4 @@
--- `term_new::applications::define_nego` meets its contract: each answer by its arm.
+-- `walk_new::applications::define_nego` meets its contract: each answer by its arm.
 -- Assumes nothing.
 use borrow.Author.Needs.{needs}
 use Rattle.walk_new.proofs.ApplicationLaws.{app-false, app-comparison, app-ordinary}

@@ -1,4 +1,4 @@
--- `term_new::applications::define_ordinary` meets its contract: each operator by its arm.
+-- `walk_new::applications::define_ordinary` meets its contract: each operator by its arm.
 -- Assumes nothing.
 use borrow.Author.Needs.{needs}
 use Rattle.walk_new.proofs.OperatorLaws.{ordinary-get, ordinary-pattern, ordinary-uuf, ordinary-other}

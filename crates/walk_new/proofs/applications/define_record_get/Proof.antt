@@ -1,4 +1,4 @@
--- `term_new::applications::define_record_get` meets its contract.
+-- `walk_new::applications::define_record_get` meets its contract.
 -- Assumes nothing.
 use borrow.Author.Needs.{needs}
 use Rattle.walk_new.proofs.OperatorLaws.{record-get-then}

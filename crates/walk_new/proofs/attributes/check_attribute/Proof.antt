@@ -1,4 +1,4 @@
--- `term_step::attributes::check_attribute` meets its contract.
+-- `walk_new::attributes::check_attribute` meets its contract.
 -- Assumes nothing.
 use borrow.Author.Needs.{needs}
 use Rattle.walk_new.proofs.Testing.{tests-refused}

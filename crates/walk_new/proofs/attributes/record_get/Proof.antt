@@ -1,4 +1,4 @@
--- `term_step::attributes::record_get` meets its contract.
+-- `walk_new::attributes::record_get` meets its contract.
 -- Assumes nothing.
 use borrow.Author.Needs.{needs}
 use Rattle.walk_new.proofs.Testing.{tests-refused}

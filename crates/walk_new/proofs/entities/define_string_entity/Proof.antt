@@ -1,4 +1,4 @@
--- `term_new::entities::define_string_entity` meets its contract.
+-- `walk_new::entities::define_string_entity` meets its contract.
 -- Assumes nothing.
 use borrow.Author.Needs.{needs}
 use Rattle.walk_new.proofs.EntityLaws.{string-entity}

@@ -1,4 +1,4 @@
--- `term_step::patterns::check_pattern` meets its contract.
+-- `walk_new::patterns::check_pattern` meets its contract.
 -- Assumes nothing.
 use borrow.Author.Needs.{needs}
 use Rattle.walk_new.proofs.Testing.{pattern-refused, pattern-passed, pattern-stopped}

@@ -1,4 +1,4 @@
--- `term_step::enter` meets its contract.
+-- `walk_new::steps::enter` meets its contract.
 -- Assumes nothing.
 use borrow.Author.Needs.{needs}
 use Rattle.walk_new.proofs.Entering.{enters-refused, enters}

@@ -1,4 +1,4 @@
--- `term_new::terms::encode_new` meets its contract.
+-- `walk_new::terms::encode_new` meets its contract.
 -- Assumes nothing.
 use borrow.Author.Needs.{needs}
 use Rattle.walk_new.proofs.TermLaws.{new-var, new-bool, new-bits, new-string, new-entity, new-some, new-set, new-record, new-app, new-unreadable, new-defined}

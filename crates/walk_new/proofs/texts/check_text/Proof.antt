@@ -1,4 +1,4 @@
--- `term_step::texts::check_text` meets its contract.
+-- `walk_new::texts::check_text` meets its contract.
 -- Assumes nothing.
 use borrow.Author.Needs.{needs}
 use Rattle.walk_new.proofs.Testing.{text-refused, text-passed, text-stopped}

@@ -1,4 +1,4 @@
--- `positions::lists::fill_rows` meets its contract. The loop's invariant: the rows so far are filled.
+-- `walk_queries::lists::fill_rows` meets its contract. The loop's invariant: the rows so far are filled.
 -- Assumes nothing.
 use Prim.Native.Nat.{_-_}
 use Rattle.walk_queries.proofs.FillLaws.{Filling, filling-start, filling-more, filling-stop, filling-end}

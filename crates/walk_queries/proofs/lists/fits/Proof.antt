@@ -1,4 +1,4 @@
--- `positions::lists::fits` meets its contract.
+-- `walk_queries::lists::fits` meets its contract.
 -- Assumes nothing.
 use Rattle.walk_queries.proofs.Order.{untrue}
 use borrow.Author.Tests.{leb-true}

@@ -1,4 +1,4 @@
--- `positions::lists::list_at` meets its contract.
+-- `walk_queries::lists::list_at` meets its contract.
 -- Assumes nothing.
 use Rattle.walk_queries.proofs.FillLaws.{too-few, not-filled, list-made}
 use native.Mathlib.Omega.{arith}

@@ -1,4 +1,4 @@
--- `positions::lists::list_enum` meets its contract.
+-- `walk_queries::lists::list_enum` meets its contract.
 -- Assumes nothing.
 use Rattle.walk_queries.proofs.ListLaws.{enum-listed}
 use borrow.Author.Needs.{needs}

@@ -1,4 +1,4 @@
--- `positions::lists::list_enums` meets its contract.
+-- `walk_queries::lists::list_enums` meets its contract.
 -- Assumes nothing.
 use Prim.Native.Nat.{_-_}
 use Rattle.walk_queries.proofs.LoopLaws.{EnumsSoFar, enums-start, enums-more, enums-end}

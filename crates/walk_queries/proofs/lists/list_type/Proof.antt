@@ -1,4 +1,4 @@
--- `positions::lists::list_type` meets its contract.
+-- `walk_queries::lists::list_type` meets its contract.
 -- Assumes nothing.
 use Rattle.walk_queries.proofs.ListLaws.{type-listed, type-unlisted}
 use borrow.Author.Needs.{needs}

@@ -1,4 +1,4 @@
--- `positions::lists::list_types` meets its contract.
+-- `walk_queries::lists::list_types` meets its contract.
 -- Assumes nothing.
 use Prim.Native.Nat.{_-_}
 use Rattle.walk_queries.proofs.LoopLaws.{TypesSoFar, types-start, types-more, types-end}

@@ -1,4 +1,4 @@
--- `positions::lists::make_lists` meets its contract.
+-- `walk_queries::lists::make_lists` meets its contract.
 -- Assumes nothing.
 use Rattle.walk_queries.proofs.LoopLaws.{lists-made}
 use borrow.Author.Needs.{needs}

@@ -1,4 +1,4 @@
--- `positions::few` meets its contract.
+-- `walk_queries::positions::few` meets its contract.
 -- Assumes nothing.
 use mathlib.Core.Path.{refl}
 use mathlib.Core.Logic.{inl, inr}

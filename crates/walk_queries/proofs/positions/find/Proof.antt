@@ -1,4 +1,4 @@
--- `positions::find` meets its contract: by a scan where there is no list.
+-- `walk_queries::positions::find` meets its contract: by a scan where there is no list.
 -- Assumes nothing.
 use native.Mathlib.Omega.{arith}
 use borrow.Author.Needs.{needs}

@@ -1,4 +1,4 @@
--- `positions::find_listed` meets its contract: by a scan of the two texts of the row.
+-- `walk_queries::positions::find_listed` meets its contract: by a scan of the two texts of the row.
 -- Assumes nothing.
 use mathlib.Core.Path.{refl}
 use Rattle.walk_queries.proofs.RowLaws.{place-few, listed-at, listed-nowhere}

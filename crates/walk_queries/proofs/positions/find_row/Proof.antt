@@ -1,4 +1,4 @@
--- `positions::find_row` meets its contract. The loop's invariant: the text can only be between the two rows.
+-- `walk_queries::positions::find_row` meets its contract. The loop's invariant: the text can only be between the two rows.
 -- Assumes nothing.
 use Prim.Native.Nat.{_-_}
 use Rattle.walk_queries.specs.Found.{Halves}

@@ -1,4 +1,4 @@
--- `positions::find_text` meets its contract. The loop's invariant: no text that was passed is the same.
+-- `walk_queries::positions::find_text` meets its contract. The loop's invariant: no text that was passed is the same.
 -- Assumes nothing.
 use Prim.Native.Nat.{_-_}
 use Rattle.walk_queries.proofs.SearchLaws.{Passed, passed-none, passed-on, found-here, found-nowhere}
@@ -19,7 +19,7 @@ returns : tie.Need-returns Inv-loop μ-loop
 returns c = found-here c.before.before.before.before.loop.inv c.before.before.before.loop-test.taken c.before.before.text-at.ensures c.before.same.ensures c.if1.taken
 
 loop-again : tie.Need-loop-again Inv-loop μ-loop
-loop-again c = passed-on c.before.before.before.before.before.before.loop.inv c.before.before.before.before.before.loop-test.taken c.before.before.before.before.text-at.ensures c.before.before.before.same.ensures _ c.before.before.if1.left c.before.past-text.ensures c.past.ensures
+loop-again c = passed-on c.before.before.before.before.before.loop.inv c.before.before.before.before.loop-test.taken c.before.before.before.text-at.ensures c.before.before.same.ensures _ c.before.if1.left c.after-text.ensures
 
 returns-2 : tie.Need-returns-2 Inv-loop μ-loop
 returns-2 c = found-nowhere c.before.loop.inv c.loop-test.left
@@ -31,6 +31,6 @@ find-text-spec =
     Inv-loop
     μ-loop
     loop-holds (λ c κs. search needs) (λ c κs. search needs)
-    returns (λ c κs. search needs) (λ c κs. search needs) (λ c. search needs) (λ c. search needs)
+    returns (λ c κs. search needs) (λ c. search needs) (λ c. search needs)
     loop-again
     returns-2)

@@ -1,4 +1,4 @@
--- `positions::stands_before` meets its contract.
+-- `walk_queries::positions::stands_before` meets its contract.
 -- Assumes nothing.
 use mathlib.Core.Path.{ap, _∙_}
 use Rattle.script_spec.specs.Base.{before}

@@ -1,4 +1,4 @@
--- `query::enum_of` meets its contract: an entity type by its name.
+-- `walk_queries::queries::enum_of` meets its contract: an entity type by its name.
 -- Assumes nothing.
 use Rattle.walk_queries.proofs.MemberLaws.{entity-enum, not-entity}
 use borrow.Author.Needs.{needs}

@@ -1,4 +1,4 @@
--- `query::find_in` meets its contract.
+-- `walk_queries::queries::find_in` meets its contract.
 -- Assumes nothing.
 use Rattle.walk_queries.proofs.MemberLaws.{finds-in}
 use borrow.Author.Needs.{needs}

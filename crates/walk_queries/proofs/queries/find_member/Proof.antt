@@ -1,4 +1,4 @@
--- `query::find_member` meets its contract: among the members of the enum.
+-- `walk_queries::queries::find_member` meets its contract: among the members of the enum.
 -- Assumes nothing.
 use Rattle.walk_queries.proofs.MemberLaws.{no-enum, member-at, not-member}
 use borrow.Author.Needs.{needs}

@@ -1,4 +1,4 @@
--- `query::index_of_attr` meets its contract: among the attributes that the record has.
+-- `walk_queries::queries::index_of_attr` meets its contract: among the attributes that the record has.
 -- Assumes nothing.
 use Rattle.walk_queries.proofs.MemberLaws.{attribute-at, attribute-missing, not-record}
 use borrow.Author.Needs.{needs}

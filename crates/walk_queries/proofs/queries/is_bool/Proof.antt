@@ -1,4 +1,4 @@
--- `query::is_bool` meets its contract.
+-- `walk_queries::queries::is_bool` meets its contract.
 -- Assumes nothing.
 use Rattle.walk_queries.proofs.NegationLaws.{is-bool, not-bool}
 use borrow.Author.Needs.{needs}

@@ -1,4 +1,4 @@
--- `query::is_nego` meets its contract.
+-- `walk_queries::queries::is_nego` meets its contract.
 -- Assumes nothing.
 use Rattle.walk_queries.proofs.NegoLaws.{is-nego, not-nego}
 use borrow.Author.Needs.{needs}

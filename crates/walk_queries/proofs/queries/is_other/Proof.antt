@@ -1,4 +1,4 @@
--- `query::is_other` meets its contract: by the mark, and of an application by the code.
+-- `walk_queries::queries::is_other` meets its contract: by the mark, and of an application by the code.
 -- Assumes nothing.
 use Rattle.walk_queries.proofs.CodeLaws.{record-other, letter-other}
 use borrow.Author.Needs.{needs}

@@ -1,4 +1,4 @@
--- `query::is_other_code` meets its contract: by the code, where there is one.
+-- `walk_queries::queries::is_other_code` meets its contract: by the code, where there is one.
 -- Assumes nothing.
 use mathlib.Core.Path.{ap}
 use Rattle.read_field.specs.Answers.{numberTold}

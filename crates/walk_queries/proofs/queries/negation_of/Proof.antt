@@ -1,4 +1,4 @@
--- `query::negation_of` meets its contract: by its mark and its code where they tell, or else by its record.
+-- `walk_queries::queries::negation_of` meets its contract: by its mark and its code where they tell, or else by its record.
 -- Assumes nothing.
 use Rattle.walk_queries.proofs.NegationLaws.{of-nego, of-ordinary, of-other, of-unlike}
 use borrow.Author.Needs.{needs}

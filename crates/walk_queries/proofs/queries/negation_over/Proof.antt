@@ -1,4 +1,4 @@
--- `query::negation_over` meets its contract.
+-- `walk_queries::queries::negation_over` meets its contract.
 -- Assumes nothing.
 use Rattle.walk_queries.proofs.NegationLaws.{over-bits, over-other}
 use borrow.Author.Needs.{needs}

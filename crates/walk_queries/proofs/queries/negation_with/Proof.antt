@@ -1,4 +1,4 @@
--- `query::negation_with` meets its contract: with one argument and result Bool, by the type of the argument.
+-- `walk_queries::queries::negation_with` meets its contract: with one argument and result Bool, by the type of the argument.
 -- Assumes nothing.
 use Rattle.walk_queries.proofs.NegationLaws.{with-not-one, with-other, with-one}
 use borrow.Author.Needs.{needs}

@@ -1,4 +1,4 @@
--- `type_walk::declare::declare_fun` meets its contract: after a refusal, and else a name and a line in the rest.
+-- `walk_types::declare::declare_fun` meets its contract: after a refusal, and else a name and a line in the rest.
 -- Assumes nothing.
 use Rattle.walk_names.proofs.Running.{advances-refused}
 use Rattle.walk_types.proofs.Entering.{declares-fun}

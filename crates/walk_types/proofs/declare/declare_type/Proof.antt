@@ -1,4 +1,4 @@
--- `type_walk::declare::declare_type` meets its contract: after a refusal, for a type that is no datatype, for one that is.
+-- `walk_types::declare::declare_type` meets its contract: after a refusal, for a type that is no datatype, for one that is.
 -- Assumes nothing.
 use borrow.Author.Tests.{not-true, not-false}
 use Rattle.walk_names.proofs.Running.{advances-refused}

@@ -1,4 +1,4 @@
--- `type_walk::declare::is_datatype` meets its contract: by the mark.
+-- `walk_types::declare::is_datatype` meets its contract: by the mark.
 -- Assumes nothing.
 use Rattle.walk_types.proofs.Datatypes.{is-declared, not-declared}
 use borrow.Author.Needs.{needs}

@@ -1,4 +1,4 @@
--- `type_walk::declare::put_id` meets its contract: after a refusal, and else a line in the rest.
+-- `walk_types::declare::put_id` meets its contract: after a refusal, and else a line in the rest.
 -- Assumes nothing.
 use Rattle.walk_names.proofs.Running.{advances-refused}
 use Rattle.walk_types.proofs.Entering.{writes-id}

@@ -1,4 +1,4 @@
--- `type_walk::parts::parts_at` meets its contract.
+-- `walk_types::parts::parts_at` meets its contract.
 -- Assumes nothing.
 use Rattle.walk_types.proofs.PartLaws.{has-parts}
 use borrow.Author.Needs.{needs}

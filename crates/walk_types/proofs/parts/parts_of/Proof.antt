@@ -1,4 +1,4 @@
--- `type_walk::parts::parts_of` meets its contract: each type by its arm.
+-- `walk_types::parts::parts_of` meets its contract: each type by its arm.
 -- Assumes nothing.
 use Rattle.walk_types.specs.Parts.{noParts, onePart, partsSaid}
 use Rattle.walk_types.proofs.PartLaws.{says-none}

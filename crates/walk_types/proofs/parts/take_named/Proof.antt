@@ -1,4 +1,4 @@
--- `type_walk::parts::take_named` meets its contract.
+-- `walk_types::parts::take_named` meets its contract.
 -- Assumes nothing.
 use Rattle.walk_types.proofs.PartLaws.{takes-named}
 use borrow.Author.Needs.{needs}

@@ -1,4 +1,4 @@
--- `type_walk::parts::take_part` meets its contract.
+-- `walk_types::parts::take_part` meets its contract.
 -- Assumes nothing.
 use Rattle.walk_types.proofs.PartLaws.{takes-none, takes-first, takes-alone}
 use borrow.Author.Needs.{needs}

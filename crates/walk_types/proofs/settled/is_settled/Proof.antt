@@ -1,4 +1,5 @@
--- `type_walk::settled::is_settled` meets its contract. The loop's invariant: whether the type that was reached is settled tells it of the first.
+-- `walk_types::settled::is_settled` meets its contract. The loop's invariant: whether the type that was reached is settled tells it of the
+-- first.
 -- Assumes nothing.
 use mathlib.Core.Path.{refl, _∙_}
 use Rattle.walk_types.proofs.Settling.{settled-mark, settled-name, unsettled, Follows, follows-itself, follows-part}

@@ -1,4 +1,4 @@
--- `type_walk::settled::settled_by` meets its contract: each letter by its arm.
+-- `walk_types::settled::settled_by` meets its contract: each letter by its arm.
 -- Assumes nothing.
 use Rattle.walk_types.proofs.Settling.{settles-mark, settles-option, settles-set, settles-name}
 use borrow.Author.Needs.{needs}

@@ -1,4 +1,4 @@
--- `atom::put_atom` meets its contract: by the mark and the operator's code where they tell, or else by the record.
+-- `write_atoms::atoms::put_atom` meets its contract: by the mark and the operator's code where they tell, or else by the record.
 -- Assumes nothing.
 use Rattle.write_atoms.proofs.MarkLaws.{marked-call, marked-leaf, marked-other, marked-named}
 use borrow.Author.Needs.{needs}

@@ -1,4 +1,4 @@
--- `atom::put_call` meets its contract.
+-- `write_atoms::atoms::put_call` meets its contract.
 -- Assumes nothing.
 use Rattle.script_spec.specs.Base.{bytes}
 use Rattle.write_atoms.proofs.QueryLaws.{call-false, call-named}

@@ -1,4 +1,4 @@
--- `term_parts::put_bool` meets its contract.
+-- `write_atoms::parts::put_bool` meets its contract.
 -- Assumes nothing.
 use Rattle.script_spec.specs.Base.{bytes}
 use Rattle.write_bytes.proofs.Laws.{says}

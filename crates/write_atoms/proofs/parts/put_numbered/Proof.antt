@@ -1,4 +1,4 @@
--- `term_parts::put_numbered` meets its contract.
+-- `write_atoms::parts::put_numbered` meets its contract.
 -- Assumes nothing.
 use Rattle.write_atoms.proofs.Numbered.{spells-numbered}
 use borrow.Author.Needs.{needs}

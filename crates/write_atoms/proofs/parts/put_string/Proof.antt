@@ -1,4 +1,4 @@
--- `term_parts::put_string` meets its contract.
+-- `write_atoms::parts::put_string` meets its contract.
 -- Assumes nothing.
 use Rattle.write_bytes.proofs.Laws.{says}
 use Rattle.read_field.specs.Answers.{spanned}

@@ -1,4 +1,4 @@
--- `symbol::put_bvsdiv_to_bvsrem` meets its contract: each symbol by its arm, those of later operators by the next function.
+-- `write_atoms::symbols::put_bvsdiv_to_bvsrem` meets its contract: each symbol by its arm, those of later operators by the next function.
 -- Assumes nothing.
 use mathlib.Core.List.{[], _∷_}
 use Rattle.script_spec.specs.Base.{bytes, all}

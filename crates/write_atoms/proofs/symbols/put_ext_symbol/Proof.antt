@@ -1,4 +1,4 @@
--- `symbol::put_ext_symbol` meets its contract: each symbol by its arm.
+-- `write_atoms::symbols::put_ext_symbol` meets its contract: each symbol by its arm.
 -- Assumes nothing.
 use Rattle.script_spec.specs.Base.{bytes}
 use Rattle.script_spec.specs.Spelling.{extOpName}

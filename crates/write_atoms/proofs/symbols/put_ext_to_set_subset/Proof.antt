@@ -1,4 +1,4 @@
--- `symbol::put_ext_to_set_subset` meets its contract: each symbol by its arm; the operators that are left have none.
+-- `write_atoms::symbols::put_ext_to_set_subset` meets its contract: each symbol by its arm; the operators that are left have none.
 -- Assumes nothing.
 use Rattle.script_spec.specs.Base.{bytes}
 use Rattle.script_spec.specs.Spelling.{plainName}

@@ -1,4 +1,4 @@
--- `ext_value::put_ext_value` meets its contract: each value by its arm.
+-- `write_atoms::values::put_ext_value` meets its contract: each value by its arm.
 -- Assumes nothing.
 use Rattle.script_spec.specs.Base.{bytes}
 use Rattle.write_bytes.proofs.Laws.{says}

@@ -1,4 +1,4 @@
--- `ext_value::put_number` meets its contract.
+-- `write_atoms::values::put_number` meets its contract.
 -- Assumes nothing.
 use Rattle.script_spec.specs.Base.{bytes}
 use Rattle.write_atoms.proofs.ValueLaws.{number-written}

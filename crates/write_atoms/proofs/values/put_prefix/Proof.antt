@@ -1,4 +1,4 @@
--- `ext_value::put_prefix` meets its contract.
+-- `write_atoms::values::put_prefix` meets its contract.
 -- Assumes nothing.
 use Rattle.script_spec.specs.Base.{bytes}
 use Rattle.write_bytes.proofs.Laws.{_then_, says}

@@ -1,4 +1,4 @@
--- `bitvec::decimal::put_decimal128` meets its contract: the last digit follows the numeral of a tenth. The measure is the number.
+-- `write_bitvec::decimal::put_decimal128` meets its contract: the last digit follows the numeral of a tenth. The measure is the number.
 -- Assumes nothing.
 use borrow.Author.Needs.{needs}
 use Rattle.write_bitvec.specs.Value.{whole}

@@ -1,4 +1,4 @@
--- `bitvec::decimal::by_ten` meets its contract: the two digits of each half, put together.
+-- `write_bitvec::decimal::by_ten` meets its contract: the two digits of each half, put together.
 -- Assumes nothing.
 use borrow.Author.Needs.{needs}
 use Rattle.write_bitvec.proofs.Division.{joined-lt, half, tenth}

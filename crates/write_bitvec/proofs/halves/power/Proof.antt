@@ -1,4 +1,4 @@
--- `bitvec::halves::power` meets its contract, by three cases of the exponent.
+-- `write_bitvec::halves::power` meets its contract, by three cases of the exponent.
 -- Assumes nothing.
 use borrow.Author.Needs.{needs}
 use Rattle.write_bitvec.proofs.Powers.{power-low, power-high, power-past}

@@ -1,4 +1,4 @@
--- `bitvec::halves::power64` meets its contract: 1 is shifted whole.
+-- `write_bitvec::halves::power64` meets its contract: 1 is shifted whole.
 -- Assumes nothing.
 use borrow.Author.Needs.{needs}
 use Rattle.write_bitvec.proofs.Powers.{one-shl}

@@ -1,4 +1,4 @@
--- `bitvec::reading::high_first` meets its contract: the loop keeps `High`, and its measure is what is left.
+-- `write_bitvec::reading::high_first` meets its contract: the loop keeps `High`, and its measure is what is left.
 -- Assumes nothing.
 use mathlib.Core.Path.{_≡_}
 use Prim.Native.Nat.{_-_, _≤_, min}

@@ -1,4 +1,4 @@
--- `bitvec::reading::low_first` meets its contract: the loop keeps `Low`, and its measure is what is left.
+-- `write_bitvec::reading::low_first` meets its contract: the loop keeps `Low`, and its measure is what is left.
 -- Assumes nothing.
 use Prim.Native.Nat.{_-_}
 use native.Mathlib.Omega.{arith}

@@ -1,4 +1,4 @@
--- `bitvec::reading::pushed` meets its contract, by arithmetic.
+-- `write_bitvec::reading::pushed` meets its contract, by arithmetic.
 -- Assumes nothing.
 use borrow.Author.Needs.{needs}
 use Rattle.write_bitvec.proofs.reading.pushed.Statement.{statement}

@@ -1,4 +1,4 @@
--- `bitvec::spelling::put_bitvec_sort` meets its contract: the pieces are the spelling.
+-- `write_bitvec::spelling::put_bitvec_sort` meets its contract: the pieces are the spelling.
 -- Assumes nothing.
 use borrow.Author.Needs.{needs}
 use Rattle.script_spec.specs.Base.{bytes}

@@ -1,4 +1,4 @@
--- `bitvec::spelling::put_int_min` meets its contract: the power below the width is written.
+-- `write_bitvec::spelling::put_int_min` meets its contract: the power below the width is written.
 -- Assumes nothing.
 use borrow.Author.Needs.{needs}
 use Rattle.write_bytes.proofs.Laws.{says}

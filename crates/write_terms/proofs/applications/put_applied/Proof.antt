@@ -1,4 +1,4 @@
--- `application::put_applied` meets its contract.
+-- `write_terms::applications::put_applied` meets its contract.
 -- Assumes nothing.
 use Rattle.script_spec.specs.Base.{bytes}
 use Rattle.write_terms.proofs.ApplicationLaws.{spells-applied}

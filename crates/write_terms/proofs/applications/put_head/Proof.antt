@@ -1,4 +1,4 @@
--- `application::put_head` meets its contract: each operator by its arm.
+-- `write_terms::applications::put_head` meets its contract: each operator by its arm.
 -- Assumes nothing.
 use Rattle.script_spec.specs.Base.{bytes}
 use Rattle.write_terms.proofs.HeadLaws.{head-selector, head-function, head-extend, head-symbol}

@@ -1,4 +1,4 @@
--- `application::put_like` meets its contract.
+-- `write_terms::applications::put_like` meets its contract.
 -- Assumes nothing.
 use Rattle.script_spec.specs.Base.{bytes}
 use Rattle.write_terms.proofs.ApplicationLaws.{spells-like}

@@ -1,4 +1,4 @@
--- `application::put_operator` meets its contract.
+-- `write_terms::applications::put_operator` meets its contract.
 -- Assumes nothing.
 use Rattle.write_terms.proofs.ApplicationLaws.{operator-like, operator-applied}
 use borrow.Author.Needs.{needs}

@@ -1,4 +1,4 @@
--- `application::put_zero_extend` meets its contract.
+-- `write_terms::applications::put_zero_extend` meets its contract.
 -- Assumes nothing.
 use Rattle.script_spec.specs.Base.{bytes}
 use Rattle.write_bytes.proofs.Laws.{_then_, says}

@@ -1,4 +1,4 @@
--- `term_value::arguments::put_closed` meets its contract.
+-- `write_terms::arguments::put_closed` meets its contract.
 -- Assumes nothing.
 use Rattle.script_spec.specs.Base.{bytes}
 use Rattle.write_terms.proofs.ArgumentLaws.{closed-none, closed-some}

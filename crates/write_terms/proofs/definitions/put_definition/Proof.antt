@@ -1,4 +1,4 @@
--- `term_line::definitions::put_definition` meets its contract: nothing counts, or head, term and end are a line.
+-- `write_terms::definitions::put_definition` meets its contract: nothing counts, or head, term and end are a line.
 -- Assumes nothing.
 use borrow.Author.Needs.{needs}
 use Rattle.write_terms.proofs.DefinitionLaws.{definition-past, definition-line}

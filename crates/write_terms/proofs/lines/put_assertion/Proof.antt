@@ -1,4 +1,4 @@
--- `term_line::put_assertion` meets its contract: nothing counts, or three pieces are a line.
+-- `write_terms::lines::put_assertion` meets its contract: nothing counts, or three pieces are a line.
 -- Assumes nothing.
 use Rattle.script_spec.specs.Base.{bytes}
 use Rattle.smtlib_script.specs.Opened.{opened}

@@ -1,4 +1,4 @@
--- `term_line::put_body` meets its contract: each term by its arm.
+-- `write_terms::lines::put_body` meets its contract: each term by its arm.
 -- Assumes nothing.
 use Rattle.script_spec.specs.Base.{bytes}
 use Rattle.write_terms.proofs.BodyLaws.{body-entity, body-value, body-none, body-atom}

@@ -1,4 +1,4 @@
--- `term_line::put_constructed` meets its contract.
+-- `write_terms::lines::put_constructed` meets its contract.
 -- Assumes nothing.
 use Rattle.script_spec.specs.Base.{bytes}
 use Rattle.write_terms.proofs.BodyLaws.{spells-constructed}

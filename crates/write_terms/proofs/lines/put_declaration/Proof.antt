@@ -1,4 +1,4 @@
--- `term_line::put_declaration` meets its contract.
+-- `write_terms::lines::put_declaration` meets its contract: nothing with no room, and else by whether the term is a variable.
 -- Assumes nothing.
 use Rattle.write_terms.proofs.LineLaws.{variable-past, variable-named, variable-never}
 use borrow.Author.Needs.{needs}

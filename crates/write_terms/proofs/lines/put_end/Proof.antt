@@ -1,4 +1,4 @@
--- `term_line::put_end` meets its contract.
+-- `write_terms::lines::put_end` meets its contract.
 -- Assumes nothing.
 use Rattle.script_spec.specs.Base.{bytes}
 use borrow.Author.Needs.{needs}

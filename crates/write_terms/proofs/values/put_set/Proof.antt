@@ -1,4 +1,4 @@
--- `term_value::values::put_set` meets its contract.
+-- `write_terms::values::put_set` meets its contract.
 -- Assumes nothing.
 use Rattle.script_spec.specs.Base.{bytes}
 use Rattle.write_terms.proofs.ValueLaws.{set-none, spells-set}

@@ -1,4 +1,4 @@
--- `term_value::values::put_term_sort` meets its contract.
+-- `write_terms::values::put_term_sort` meets its contract.
 -- Assumes nothing.
 use mathlib.Core.Path.{_∙_}
 use Rattle.write_terms.proofs.ValueLaws.{term-sort}

@@ -1,4 +1,4 @@
--- `spell::comments::put_next` meets its contract.
+-- `write_types::comments::put_next` meets its contract.
 -- Assumes nothing.
 use Rattle.script_spec.specs.Base.{bytes}
 use Rattle.write_bytes.proofs.Laws.{_then_}

@@ -1,4 +1,4 @@
--- `spell::comments::put_texts` meets its contract. The loop's invariant: the texts that are left, after those that were written, make
+-- `write_types::comments::put_texts` meets its contract. The loop's invariant: the texts that are left, after those that were written, make
 -- the whole. Assumes nothing.
 use mathlib.Core.Path.{_≡_, refl}
 use lib.ListN.{length, drop}
@@ -25,20 +25,20 @@ loop-holds : tie.Need-loop-holds Inv-loop μ-loop
 loop-holds c = (continues-start, refl)
 
 loop-again : tie.Need-loop-again Inv-loop μ-loop
-loop-again c = (continues-on (texts-next c.before.before.before.before.before.before.text-at2.ensures c.before.past-text2.ensures _ c.past2.result c.past2.ensures _ c.before.before.before.before.before.before.before.before.before.loop-test.taken) (c.before.before.before.before.before.before.before.before.before.before.loop.inv .0) c.before.before.before.before.put-next.ensures, search needs)
+loop-again c = (continues-on (texts-next c.before.before.before.before.before.before.before.before.before.before.before.before.before.before.before.before.before.before.before.args.body.now c.before.before.before.before.before.before.before.before.before.loop.next c.before.before.before.before.before.text-at2.ensures _ c.after-text2.result c.after-text2.ensures _ c.before.before.before.before.before.before.before.before.loop-test.taken) (c.before.before.before.before.before.before.before.before.before.loop.inv .0) c.before.before.before.put-next.ensures, search needs)
 
 same-length : tie.Need-same-length Inv-loop μ-loop
 same-length c = search needs
 
 returns-2 : tie.Need-returns-2 Inv-loop μ-loop
 returns-2 c =
-    says (texts-start c.before.before.before.before.before.before.before.before.before.before.text-at.ensures c.before.before.before.before.before.past-text.ensures _ c.before.before.before.before.past.result c.before.before.before.before.past.ensures (c.before.before.before.before.before.before.before.before.before.before.before.before.before.before.args.n) (omega (arith, c.before.before.before.before.before.before.before.before.before.before.before.if1.left)))
-    (c.before.before.before.before.before.before.before.before.put-comment-text.ensures then c.before.before.before.loop.inv .0 .go _ _ (stops-past c.before.is-past.ensures c.if2.taken))
+    says (texts-start c.before.before.before.before.before.before.before.before.before.before.before.before.before.args.body.now c.before.before.before.before.before.before.before.before.before.before.before.before.before.args.from c.before.before.before.before.before.before.before.before.before.text-at.ensures _ c.before.before.before.before.after-text.result c.before.before.before.before.after-text.ensures (c.before.before.before.before.before.before.before.before.before.before.before.before.before.args.n) (omega (arith, c.before.before.before.before.before.before.before.before.before.before.if1.left)))
+    (c.before.before.before.before.before.before.before.put-comment-text.ensures then c.before.before.before.loop.inv .0 .go _ _ (stops-past c.before.is-past.ensures c.if2.taken))
 
 returns-3 : tie.Need-returns-3 Inv-loop μ-loop
 returns-3 c =
-    says (texts-start c.before.before.before.before.before.before.before.before.text-at.ensures c.before.before.before.past-text.ensures _ c.before.before.past.result c.before.before.past.ensures (c.before.before.before.before.before.before.before.before.before.before.before.before.args.n) (omega (arith, c.before.before.before.before.before.before.before.before.before.if1.left)))
-    (c.before.before.before.before.before.before.put-comment-text.ensures then continues-end (led-none _ _ _ c.loop-test.left) (c.before.loop.inv .0))
+    says (texts-start c.before.before.before.before.before.before.before.before.before.before.before.args.body.now c.before.before.before.before.before.before.before.before.before.before.before.args.from c.before.before.before.before.before.before.before.text-at.ensures _ c.before.before.after-text.result c.before.before.after-text.ensures (c.before.before.before.before.before.before.before.before.before.before.before.args.n) (omega (arith, c.before.before.before.before.before.before.before.before.if1.left)))
+    (c.before.before.before.before.before.put-comment-text.ensures then continues-end (led-none _ _ _ c.loop-test.left) (c.before.loop.inv .0))
 
 pub put-texts-spec : {M : Type 1} → statement M
 put-texts-spec =
@@ -46,9 +46,9 @@ put-texts-spec =
     (tie.spec
     Inv-loop
     μ-loop
-    returns (λ c κs. search needs) (λ c κs. search needs) (λ c κs. search needs) (λ c κs. search needs) (λ c. search needs)
+    returns (λ c κs. search needs) (λ c κs. search needs) (λ c κs. search needs) (λ c. search needs)
     loop-holds (λ c κs. search needs)
     same-length
-    returns-2 (λ c κs. search needs) (λ c κs. search needs) (λ c κs. search needs) (λ c κs. search needs) (λ c. search needs) (λ c. search needs)
+    returns-2 (λ c κs. search needs) (λ c κs. search needs) (λ c κs. search needs) (λ c. search needs) (λ c. search needs)
     loop-again (λ c. search needs)
     returns-3)

@@ -1,4 +1,4 @@
--- `datatype::put_lines` meets its contract.
+-- `write_types::datatypes::put_lines` meets its contract.
 -- Assumes nothing.
 use Rattle.script_spec.specs.Base.{bytes}
 use Rattle.write_types.proofs.MemberLaws.{lines-none, lines-some}

@@ -1,11 +1,11 @@
--- `datatype::put_members` meets its contract. The loop's invariant: the members that are left, after those that were written, make the
--- whole. Assumes nothing.
+-- `write_types::datatypes::put_members` meets its contract. The loop's invariant: the members that are left, after those that were written,
+-- make the whole. Assumes nothing.
 use mathlib.Core.Path.{_≡_, refl}
 use Prim.Native.Nat.{_-_}
 use lib.ListN.{length}
 use Rattle.write_bytes.proofs.Laws.{says, stops-past}
 use Rattle.write_types.proofs.Runs.{Continues, continues-start, continues-on, continues-end}
-use Rattle.write_types.specs.Members.{entityName, membersText}
+use Rattle.write_types.specs.Members.{entitySymbol, membersText}
 use Rattle.write_types.proofs.MemberLaws.{members-next, members-none, members-whole}
 use borrow.Author.Needs.{needs}
 use Rattle.write_types.proofs.datatypes.put_members.Statement.{statement}
@@ -13,7 +13,7 @@ use Rattle.write_types.proofs.datatypes.put_members.Tie as tie
 
 abbrev Inv-loop : tie.InvT-loop
 Inv-loop out₀ at limit name n place₀ i₀ out place i =
-    Continues limit out₀ at (membersText (entityName name) 0 (n - 0)) out place (membersText (entityName name) i (n - i)) × (length out ≡ length out₀)
+    Continues limit out₀ at (membersText (entitySymbol name) 0 (n - 0)) out place (membersText (entitySymbol name) i (n - i)) × (length out ≡ length out₀)
 
 abbrev μ-loop : tie.MeasureT-loop
 μ-loop out₀ at limit name n place₀ i₀ out place i = n - i

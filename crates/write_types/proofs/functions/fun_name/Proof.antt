@@ -1,4 +1,4 @@
--- `spell::functions::fun_name` meets its contract.
+-- `write_types::functions::fun_name` meets its contract.
 -- Assumes nothing.
 use borrow.Author.Needs.{needs}
 use Rattle.write_types.proofs.functions.fun_name.Statement.{statement}

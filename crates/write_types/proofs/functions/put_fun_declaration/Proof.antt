@@ -1,4 +1,4 @@
--- `spell::functions::put_fun_declaration` meets its contract: nothing with no room, and else piece by piece.
+-- `write_types::functions::put_fun_declaration` meets its contract: nothing with no room, and else piece by piece.
 -- Assumes nothing.
 use mathlib.Core.Path.{_∙_}
 use Rattle.script_spec.specs.Base.{bytes}

@@ -1,4 +1,4 @@
--- `type_lines::declare_entity_type` meets its contract.
+-- `write_types::lines::declare_entity_type` meets its contract.
 -- Assumes nothing.
 use Rattle.write_types.proofs.LineLaws.{entity-found, entity-plain}
 use borrow.Author.Needs.{needs}

@@ -1,4 +1,4 @@
--- `type_lines::declare_enum_type` meets its contract: a line, and a line in the rest after it.
+-- `write_types::lines::declare_enum_type` meets its contract: a line, and a line in the rest after it.
 -- Assumes nothing.
 use mathlib.Core.Path.{_∙_}
 use Rattle.write_types.proofs.LineLaws.{enum-lines}

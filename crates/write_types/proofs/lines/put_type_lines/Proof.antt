@@ -1,4 +1,4 @@
--- `type_lines::put_type_lines` meets its contract: each type by its arm.
+-- `write_types::lines::put_type_lines` meets its contract: each type by its arm.
 -- Assumes nothing.
 use mathlib.Core.Path.{_∙_}
 use Rattle.write_types.proofs.TypeLaws.{type-at-place, spells-entity, spells-ext, spells-record-type, spells-none, type-past}

@@ -1,4 +1,4 @@
--- `spell::records::put_part_sort` meets its contract.
+-- `write_types::records::put_part_sort` meets its contract.
 -- Assumes nothing.
 use Rattle.script_spec.specs.Base.{bytes}
 use Rattle.write_types.proofs.RecordLaws.{spells-part-sort}

@@ -1,4 +1,4 @@
--- `spell::records::put_parts` meets its contract. The loop's invariant: the parts that are left, after those that were written, make
+-- `write_types::records::put_parts` meets its contract. The loop's invariant: the parts that are left, after those that were written, make
 -- the whole. Assumes nothing.
 use mathlib.Core.Path.{_≡_, refl}
 use Prim.Native.Nat.{_-_}

@@ -1,6 +1,7 @@
--- `spell::records::put_record_comment` meets its contract: nothing with no room, and else piece by piece.
+-- `write_types::records::put_record_comment` meets its contract: nothing with no room, and else piece by piece.
 -- Assumes nothing.
 use Rattle.script_spec.specs.Base.{bytes}
+use Rattle.smtlib_script.specs.Opened.{opened}
 use Rattle.write_bytes.proofs.Laws.{_then_, line-past, line-some}
 use Rattle.write_types.proofs.RecordLaws.{record-comment}
 use borrow.Author.Needs.{needs}
@@ -11,11 +12,11 @@ returns : tie.Need-returns
 returns c = rw c.if1.taken (line-past (line-some _))
 
 returns-2 : tie.Need-returns-2
-unfolding bytes
-returns-2 c = record-comment _ (c.before.before.before.before.before.before.before.before.before.before.before.put-at.ensures then c.before.before.before.before.before.before.before.put-texts.ensures then c.before.before.put-at2.ensures)
+unfolding opened bytes
+returns-2 c = record-comment _ (c.before.before.before.before.before.before.before.before.before.before.before.before.before.before.before.put-word.ensures then c.before.before.before.before.before.before.before.before.before.before.before.put-byte.ensures then c.before.before.before.before.before.before.before.put-texts.ensures then c.before.before.put-at.ensures)
 
 pub put-record-comment-spec : {M : Type 1} → statement M
 put-record-comment-spec =
     tie.close
-    (tie.spec returns (λ c. search needs) (λ c κs. search needs) (λ c κs. search needs) (λ c. search needs) (λ c κs. search needs) (λ c. search needs)
+    (tie.spec returns (λ c κs. search needs) (λ c κs. search needs) (λ c κs. search needs) (λ c. search needs) (λ c κs. search needs) (λ c. search needs)
     returns-2)

@@ -1,4 +1,4 @@
--- `spell::records::put_selector` meets its contract.
+-- `write_types::records::put_selector` meets its contract.
 -- Assumes nothing.
 use Rattle.script_spec.specs.Base.{bytes}
 use Rattle.script_spec.specs.Spelling.{attributeName}

@@ -1,4 +1,4 @@
--- `spell::records::put_spaced_parts` meets its contract.
+-- `write_types::records::put_spaced_parts` meets its contract.
 -- Assumes nothing.
 use Rattle.script_spec.specs.Base.{bytes}
 use Rattle.write_types.proofs.RecordLaws.{spaced-none, spaced-some}

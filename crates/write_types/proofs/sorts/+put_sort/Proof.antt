@@ -1,4 +1,4 @@
--- `spell::sorts::put_sort` meets its contract: by recursion on the number, which falls from a type to its part.
+-- `write_types::sorts::put_sort` meets its contract: by recursion on the number, which falls from a type to its part.
 -- Assumes nothing.
 use Rattle.script_spec.specs.Base.{bytes}
 use Rattle.write_types.proofs.SortLaws.{spells-past, spells-truth, spells-plain, spells-never, spells-over}

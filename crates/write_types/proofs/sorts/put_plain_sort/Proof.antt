@@ -1,4 +1,4 @@
--- `spell::sorts::put_plain_sort` meets its contract: each type by its arm.
+-- `write_types::sorts::put_plain_sort` meets its contract: each type by its arm.
 -- Assumes nothing.
 use Rattle.script_spec.specs.Base.{bytes}
 use Rattle.write_bytes.proofs.Laws.{says, nothing}

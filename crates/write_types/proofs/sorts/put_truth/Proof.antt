@@ -1,4 +1,4 @@
--- `spell::sorts::put_truth` meets its contract.
+-- `write_types::sorts::put_truth` meets its contract.
 -- Assumes nothing.
 use Rattle.script_spec.specs.Base.{bytes}
 use borrow.Author.Needs.{needs}

@@ -1,4 +1,4 @@
--- `spell::sorts::stands_over` meets its contract: each letter by its arm.
+-- `write_types::sorts::stands_over` meets its contract: each letter by its arm.
 -- Assumes nothing.
 use mathlib.Core.Path.{_∙_}
 use Rattle.write_types.proofs.SortLaws.{over-truth, over-set, over-option, over-nothing, over-at}

@@ -1,4 +1,4 @@
--- `spell::sorts::type_name` meets its contract.
+-- `write_types::sorts::type_name` meets its contract.
 -- Assumes nothing.
 use borrow.Author.Needs.{needs}
 use Rattle.write_types.proofs.sorts.type_name.Statement.{statement}

@@ -1,21 +1,21 @@
--- `segments::Walk::count` meets its contract: the count that was read is the one that is cut.
+-- `index_compare::segments::Walk::count` meets its contract: the count that was read is the one that is cut.
 -- Assumes nothing.
 use borrow.Author.Needs.{needs}
 use lib.ListN.{drop}
 use Rattle.index_compare.specs.Segment.{plain}
-use Rattle.index_compare.specs.Machine.{counted, remaining, fieldThen, last}
+use Rattle.index_compare.specs.Machine.{countThen, remaining, fieldThen, last}
 use Rattle.index_compare.proofs.Steps.{word-value, word-short, cut-uncounted}
 use Rattle.index_compare.proofs.segments.Walk.count.Statement.{statement}
 use Rattle.index_compare.proofs.segments.Walk.count.Tie as tie
 
 returns : tie.Need-returns
-unfolding counted
+unfolding countThen
 returns c =
     let s = c.before.before.before.before in
     cut-uncounted 0 _ plain _ (word-short (drop s.args.self.at s.args.body.now) c.before.before.read-word.result c.before.before.read-word.ensures c.enum-told.given.1)
 
 returns-2 : tie.Need-returns-2
-unfolding counted remaining fieldThen last
+unfolding countThen remaining fieldThen last
 returns-2 c =
     let s = c.before.before.before.before.before.before.before in
     let read-word = c.before.before.before.before.before.read-word in

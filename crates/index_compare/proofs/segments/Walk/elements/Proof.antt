@@ -1,4 +1,4 @@
--- `segments::Walk::elements` meets its contract: the size is told by the count that was read.
+-- `index_compare::segments::Walk::elements` meets its contract: the size is told by the count that was read.
 -- Assumes nothing.
 use borrow.Author.Needs.{needs}
 use lib.ListN.{drop}

@@ -1,16 +1,16 @@
--- `segments::Walk::ending` meets its contract: by the count, and else by the item.
+-- `index_compare::segments::Walk::walkEnding` meets its contract: by the count, and else by the item.
 -- Assumes nothing.
 use native.Mathlib.Omega.{arith}
 use borrow.Author.Needs.{needs}
 use Rattle.index_compare.proofs.Steps.{ending-none, ending-item}
 use lib.ListN.{drop}
-use Rattle.index_compare.specs.Step.{ending}
+use Rattle.index_compare.specs.Step.{walkEnding}
 use Rattle.index_compare.specs.Machine.{remaining, fieldThen, last, itemThen}
 use Rattle.index_compare.proofs.segments.Walk.ending.Statement.{statement}
 use Rattle.index_compare.proofs.segments.Walk.ending.Tie as tie
 
 returns : tie.Need-returns
-unfolding ending last
+unfolding walkEnding last
 returns c = rw c.before.if1.taken c.count.ensures
 
 returns-2 : tie.Need-returns-2

@@ -1,13 +1,13 @@
--- `segments::Walk::next` meets its contract: by the first field.
+-- `index_compare::segments::Walk::next` meets its contract: by the first field.
 -- Assumes nothing.
 use borrow.Author.Needs.{needs}
-use Rattle.index_compare.specs.Step.{after, ending}
+use Rattle.index_compare.specs.Step.{afterField, walkEnding}
 use Rattle.index_compare.specs.Machine.{ahead, remaining, fieldThen}
 use Rattle.index_compare.proofs.segments.Walk.next.Statement.{statement}
 use Rattle.index_compare.proofs.segments.Walk.next.Tie as tie
 
 returns : tie.Need-returns
-unfolding ahead remaining fieldThen after ending
+unfolding ahead remaining fieldThen afterField walkEnding
 returns c = rw c.before.enum-told.given.1 c.ending.ensures
 
 returns-2 : tie.Need-returns-2
@@ -27,26 +27,21 @@ unfolding ahead remaining fieldThen
 returns-5 c = rw c.before.before.enum-told5.given.1 (rw c.before.put.ensures at c.text.ensures)
 
 returns-6 : tie.Need-returns-6
-unfolding ahead remaining fieldThen
-returns-6 c = rw c.before.before.enum-told6.given.1 (rw c.before.put2.ensures at c.text2.ensures)
+unfolding ahead remaining fieldThen afterField walkEnding
+returns-6 c = rw c.before.enum-told6.given.1 c.operator.ensures
 
 returns-7 : tie.Need-returns-7
-unfolding ahead remaining fieldThen after ending
-returns-7 c = rw c.before.enum-told7.given.1 c.operator.ensures
-
-returns-8 : tie.Need-returns-8
 unfolding ahead remaining fieldThen
-returns-8 c = rw c.before.before.before.first.given.1 (rw c.before.popped4.ensures at c.operand.ensures)
+returns-7 c = rw c.before.before.before.first.given.1 (rw c.before.popped4.ensures at c.operand.ensures)
 
 pub next-spec : {M : Type 1} → statement M
 next-spec =
     tie.close
-    (tie.spec (λ c. search needs) (λ c κs. search needs) (λ c. search needs) (λ c κs. search needs) (λ c κs. search needs) (λ c. search needs) (λ c κs. search needs) (λ c κs. search needs) (λ c. search needs) (λ c κs. search needs) (λ c κs. search needs) (λ c. search needs) (λ c κs. search needs) (λ c κs. search needs) (λ c. search needs) (λ c κs. search needs) (λ c κs. search needs) (λ c. search needs) (λ c κs. search needs) (λ c. search needs) (λ c κs. search needs) (λ c κs. search needs)
+    (tie.spec (λ c. search needs) (λ c κs. search needs) (λ c. search needs) (λ c κs. search needs) (λ c κs. search needs) (λ c. search needs) (λ c κs. search needs) (λ c κs. search needs) (λ c. search needs) (λ c κs. search needs) (λ c κs. search needs) (λ c. search needs) (λ c κs. search needs) (λ c κs. search needs) (λ c. search needs) (λ c κs. search needs) (λ c. search needs) (λ c κs. search needs) (λ c κs. search needs)
     returns
     returns-2
     returns-3
     returns-4
     returns-5
     returns-6
-    returns-7
-    returns-8)
+    returns-7)

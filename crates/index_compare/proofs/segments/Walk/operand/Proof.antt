@@ -1,4 +1,4 @@
--- `segments::Walk::operand` meets its contract: by the operand.
+-- `index_compare::segments::Walk::operand` meets its contract: by the operand.
 -- Assumes nothing.
 use borrow.Author.Needs.{needs}
 use Rattle.index_compare.specs.Machine.{operandThen}

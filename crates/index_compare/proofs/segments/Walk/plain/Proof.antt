@@ -1,4 +1,4 @@
--- `segments::Walk::plain` meets its contract: the bytes are cut at the place, or there are too few.
+-- `index_compare::segments::Walk::plain` meets its contract: the bytes are cut at the place, or there are too few.
 -- Assumes nothing.
 use native.Mathlib.Omega.{arith}
 use borrow.Author.Needs.{needs}

@@ -1,4 +1,4 @@
--- `segments::Walk::reference` meets its contract: the four bytes are the number.
+-- `index_compare::segments::Walk::reference` meets its contract: the four bytes are the number.
 -- Assumes nothing.
 use native.Mathlib.Omega.{arith}
 use borrow.Author.Needs.{needs}

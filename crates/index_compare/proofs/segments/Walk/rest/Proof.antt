@@ -1,4 +1,4 @@
--- `segments::Walk::rest` meets its contract: past the end as at it the rest is empty.
+-- `index_compare::segments::Walk::rest` meets its contract: past the end as at it the rest is empty.
 -- Assumes nothing.
 use native.Mathlib.Omega.{arith}
 use Rattle.index_compare.proofs.Steps.{rest-past, rest-at}

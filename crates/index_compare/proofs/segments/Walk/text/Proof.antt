@@ -1,21 +1,21 @@
--- `segments::Walk::text` meets its contract: the size is told by the count that was read.
+-- `index_compare::segments::Walk::text` meets its contract: the size is told by the count that was read.
 -- Assumes nothing.
 use borrow.Author.Needs.{needs}
 use lib.ListN.{drop}
 use Rattle.index_compare.specs.Segment.{plain}
-use Rattle.index_compare.specs.Machine.{named, countedSize}
+use Rattle.index_compare.specs.Machine.{textThen, countedSize}
 use Rattle.index_compare.proofs.Steps.{word-value, word-short, cut-uncounted}
 use Rattle.index_compare.proofs.segments.Walk.text.Statement.{statement}
 use Rattle.index_compare.proofs.segments.Walk.text.Tie as tie
 
 returns : tie.Need-returns
-unfolding named countedSize
+unfolding textThen countedSize
 returns c =
     let s = c.before.before.before.before in
     cut-uncounted _ _ plain _ (word-short (drop s.args.self.at s.args.body.now) c.before.before.read-word.result c.before.before.read-word.ensures c.enum-told.given.1)
 
 returns-2 : tie.Need-returns-2
-unfolding named countedSize
+unfolding textThen countedSize
 returns-2 c =
     let s = c.before.before.before.before.before.before in
     let read-word = c.before.before.before.before.read-word in
