@@ -23,7 +23,7 @@ check)
     echo "rt: write_bytes proved (7 s)"
     echo "rt: write_text proved (unchanged since it was last proved)"
     [ ! -e fails/check ] || { echo "rt: write_types NOT PROVED (exit 1, 3 s)"; exit 1; }
-    [ ! -e edit ] || { rm edit; sleep 0.1; echo >>crates/index.rt; }
+    [ ! -e edit ] || { rm edit; sleep 0.1; echo >>crates/index; }
     ;;
 staticlib)
     echo "fn sakyelbo::sakyelbo_check: proved" >&2
@@ -60,7 +60,7 @@ fn repository(name: &str) -> PathBuf {
         fs::create_dir_all(root.join(name)).unwrap();
     }
     for name in
-        ["crates.txt", "crates/index.rt", "crates/unused.rt", "bindings/rust/build.rs", "bindings/rust/Cargo.toml"]
+        ["crates.txt", "crates/index", "crates/unused", "bindings/rust/build.rs", "bindings/rust/Cargo.toml"]
     {
         fs::write(root.join(name), "").unwrap();
     }
@@ -125,12 +125,18 @@ fn the_first_build_shows_a_line_a_crate() {
     assert_eq!(sakyelbo(&root), ran(""));
 }
 
+/// A repository with stubs of both commands.
+fn with_commands(name: &str) -> PathBuf {
+    let root = repository(name);
+    add_rt(&root);
+    add_cargo(&root);
+    root
+}
+
 #[test]
 fn what_has_changed_is_built_again() {
     let _alone = ALONE.lock();
-    let root = repository("changed");
-    add_rt(&root);
-    add_cargo(&root);
+    let root = with_commands("changed");
     let all = format!("{PROVING}sakyelbo: building the library\ncargo build\n");
     let change = |name: &str| fs::write(root.join(name), "changed").unwrap();
     let remove = |name: &str| fs::remove_file(root.join(name)).unwrap();
@@ -141,7 +147,7 @@ fn what_has_changed_is_built_again() {
     built(&all);
     change("crates.txt");
     built(&all);
-    remove("crates/unused.rt");
+    remove("crates/unused");
     built(&all);
     remove("target/staticlib/libsakyelbo.a");
     built(&all);
@@ -166,9 +172,7 @@ fn what_has_changed_is_built_again() {
 #[test]
 fn two_calls_at_once_build_once() {
     let _alone = ALONE.lock();
-    let root = repository("at_once");
-    add_rt(&root);
-    add_cargo(&root);
+    let root = with_commands("at_once");
     let calls = [(); 2].map(|()| {
         let root = root.clone();
         thread::spawn(move || sakyelbo(&root))

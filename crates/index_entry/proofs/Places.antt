@@ -1,25 +1,16 @@
 -- Laws of numbers, texts and lists at places: where bytes are missing, a number is 0.
 -- Assumes nothing.
-use mathlib.Core.Path.{_≡_, refl, sym, ap, _∙_, subst}
-use mathlib.Core.Bool.{Bool, true, false}
-use mathlib.Core.List.{List, [], _∷_}
-use Prim.Native.Nat.{ℕ, zero, suc, _+_, _≤_, _<_}
+use mathlib.Core.Path.{_≡_, refl, sym, ap, _∙_}
+use mathlib.Core.List.{List, _∷_}
+use Prim.Native.Nat.{ℕ, zero, suc, _+_, _≤_}
 use native.Mathlib.Omega.{arith}
-use lib.Dec.{leb}
-use lib.ListN.{length, take, drop, length-take, length-drop, drop-of-length-le, getD}
-use lib.Seq.{drop-drop, getD-drop}
+use lib.ListN.{length, take, drop, length-drop, drop-of-length-le}
+use lib.Seq.{drop-drop}
 use borrow.Author.Tests.{lt-leb}
-use Rattle.script_spec.specs.Base.{Bytes, bytes, same, any, firsts}
-use Rattle.script_spec.specs.Fields.{low, u32}
-use Rattle.script_spec.proofs.Laws.{and-false}
-use Rattle.script_spec.proofs.Lists.{take-two}
+use Rattle.script_spec.specs.Base.{Bytes, firsts}
+use Rattle.script_spec.specs.Fields.{u32}
 use Rattle.script_spec.proofs.Readers.{u32-short}
 use Rattle.read_field.specs.Reads.{value, refusal, asRead, Reads}
-use Rattle.index.specs.Standing.{markAt}
-use Rattle.read_record.specs.Marks.{Marked, MarkedAs, mark}
-use Rattle.read_record.specs.declared.mark.Kind.{Kind}
-use Rattle.read_record.specs.declared.mark.Kind.the-variants as kind
-use Rattle.read_record.proofs.Marked.{names, unmarked}
 use Rattle.index.specs.Lists.{numberAt, firstText, textSize, texts}
 use Rattle.index_entry.specs.Places.{namedItems, afterText, PastText}
 use Rattle.index_entry.proofs.Inverse.{u32-inverse}

@@ -9,7 +9,7 @@ use mathlib.Core.Option.{Option, none, some}
 use Rattle.script_spec.specs.Base.{Bytes, isSome, andThen, same, place}
 use Rattle.script_spec.specs.Tree.{Ty, Enums, attributes, attribute, enumOf}
 use Rattle.script_spec.proofs.Laws.{never}
-use Rattle.walk_queries.specs.Searches.{Asked, stands, refusal, attributeAnswer, placeOr, askedAttribute, memberAnswer, askedMember}
+use Rattle.walk_queries.specs.Searches.{stands, refusal, attributeAnswer, placeOr, askedAttribute, memberAnswer, askedMember}
 use Rattle.walk_queries.specs.declared.queries.Attribute.{Attribute}
 use Rattle.walk_queries.specs.declared.queries.Attribute.the-variants as answer
 use Rattle.walk_queries.specs.declared.queries.Member.{Member}
