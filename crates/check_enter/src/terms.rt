@@ -6,7 +6,10 @@ use check_rules::terms::Rules;
 use check_types::Found;
 use index::Sizes;
 use index_search::search::Table;
+use read_record::mark::Kind;
 ghost use Rattle.script_spec.specs.File.{term};
+ghost use Rattle.index.specs.Standing.{markAt};
+ghost use Rattle.read_record.specs.Marks.{Marked};
 ghost use Rattle.check_enter.specs.Entering.{Enters};
 ghost use Rattle.check_enter.specs.Terms.{StoresTerm, EntersTyped};
 
@@ -40,16 +43,17 @@ fn store_term(
     index::set(work, rows, index::NOTE, n, 0);
 }
 
-// Enters a term; `found` says its type.
+// Enters a term of this kind; `found` says its type.
 fn enter_typed(
     file: &[u8],
     work: &mut [u32],
     sizes: Sizes,
     offset: u32,
+    kind: Kind,
     place: u32,
     found: Found,
 ) -> Entered
-    ensures { λ r. ⌜ EntersTyped (now (file .entry)) (now (work .entry)) (now (work .exit)) sizes offset place found r ⌝ }
+    ensures { λ r. ⌜ EntersTyped (now (file .entry)) (now (work .entry)) (now (work .exit)) sizes offset kind place found r ⌝ }
 {
     let deepest = index_compare::compare::greatest(
         file,
@@ -58,7 +62,14 @@ fn enter_typed(
         offset as usize,
         index_compare::compare::TERM_REF,
     );
-    let rules = check_rules::terms::broken_rule(file, work, sizes.rows, offset as usize, deepest);
+    let rules = check_rules::terms::broken_rule(
+        file,
+        work,
+        sizes.rows,
+        offset as usize,
+        kind,
+        deepest,
+    );
     if let Rules::Broken(n) = rules {
         return Entered::Broken(n);
     }
@@ -75,10 +86,17 @@ fn enter_typed(
     Entered::Done
 }
 
-// Enters the term at an offset and a place, after the records of these sizes.
-pub fn enter_term(file: &[u8], work: &mut [u32], sizes: Sizes, offset: u32, place: u32) -> Entered
-    ensures { λ r. ⌜ Enters term (now (file .entry)) (now (work .entry)) (now (work .exit)) sizes offset place r ⌝ }
+// Enters the term at an offset and a place, of this kind, after the records of these sizes.
+pub fn enter_term(
+    file: &[u8],
+    work: &mut [u32],
+    sizes: Sizes,
+    offset: u32,
+    kind: Kind,
+    place: u32,
+) -> Entered
+    ensures { λ r. ⌜ (Marked (markAt (now (file .entry)) offset) kind → Enters term (now (file .entry)) (now (work .entry)) (now (work .exit)) sizes offset place r) ⌝ }
 {
-    let found = check_types::type_of(file, work, sizes, offset as usize);
-    enter_typed(file, work, sizes, offset, place, found)
+    let found = check_types::type_of(file, work, sizes, offset as usize, kind);
+    enter_typed(file, work, sizes, offset, kind, place, found)
 }

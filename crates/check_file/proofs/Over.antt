@@ -14,6 +14,8 @@ use Rattle.index.specs.Meaning.{Stands, SizesOf}
 use Rattle.index.specs.declared.Sizes.{Sizes}
 use Rattle.index.proofs.Cells.{below-capacity}
 use Rattle.index.proofs.Growth.{counts-fewer, counts-together}
+use Rattle.read_record.specs.Marks.{MarkedAs, Marked}
+use Rattle.read_record.specs.declared.mark.Kind.{Kind}
 use Rattle.check_rules.specs.Marks.{markOf}
 use Rattle.check_rules.proofs.Marks.{entry-mark}
 use Rattle.check_enter.specs.Entering.{Outcome, Enters}
@@ -21,7 +23,7 @@ use Rattle.check_enter.specs.Enums.{enumNamed}
 use Rattle.check_enter.specs.declared.Entered.{Entered}
 use Rattle.check_enter.specs.declared.Entered.the-variants.{Done, Broken}
 use Rattle.check_file.specs.Promise.{together}
-use Rattle.check_file.specs.Stepping.{Before, Stepped, TurnedBack, ReadUpTo, TypeRecord, EnumRecord, FunRecord, TermRecord, InputRecord, StepsOver}
+use Rattle.check_file.specs.Stepping.{Before, Stepped, TurnedBack, ReadUpTo, TypeRecord, EnumRecord, FunRecord, TermOf, InputRecord, StepsOver}
 use Rattle.check_file.specs.declared.kinds.Step.the-variants as step
 use Rattle.check_file.proofs.Reading.{read-entry, read-stands}
 use Rattle.check_file.proofs.Kept.{next-kept, next-broken, sizes-type, sizes-enum, sizes-func, sizes-term, sizes-input}
@@ -153,17 +155,18 @@ module _ (file : Bytes) {work work′ : List ℕ} {at : ℕ} (to : ℕ) (sizes :
             };
       }
 
-  pub term-row : (sizes .terms < 4294967295 → m ≡ suc (sizes .terms)) → Enters term file work work′ sizes o place r → Row TermRecord file work work′ at to sizes r (record { rows = sizes .rows; types = sizes .types; funs = sizes .funs; terms = m; enums = sizes .enums; inputs = sizes .inputs })
-  unfolding named
-  term-row more E =
+  pub term-row : (kind : Kind) → (sizes .terms < 4294967295 → m ≡ suc (sizes .terms)) → (Marked (markAt file o) kind → Enters term file work work′ sizes o place r) → Row (TermOf kind) file work work′ at to sizes r (record { rows = sizes .rows; types = sizes .types; funs = sizes .funs; terms = m; enums = sizes .enums; inputs = sizes .inputs })
+  unfolding named MarkedAs
+  term-row kind more E =
       record {
         go = λ f B x R K.
-            let e = ap (named f) (K .2) in
-            let t = node (namedMark f (K .0)) (forest (map (termAt f) (K .1))) in
+            let e = ap (named f) (K .0 .2) in
+            let t = node (namedMark f (K .0 .0)) (forest (map (termAt f) (K .0 .1))) in
+            let M : Marked (markAt file o) kind = record { is = rw (low (at-low B R), K .1) (next-mark B R) } in
             record {
               names = term t;
               is = e;
-              outcome = E .go f (B .indexed) (B .sizes-are) (next-room B R) (placed-at f (B .sizes-are) (omega (arith, few B R)) counted) t (rw (low (at-low B R)) (stands-as B R e));
+              outcome = E M .go f (B .indexed) (B .sizes-are) (next-room B R) (placed-at f (B .sizes-are) (omega (arith, few B R)) counted) t (rw (low (at-low B R)) (stands-as B R e));
               same-rows = refl;
               sizes-are = sizes-term (B .sizes-are) t (more (omega (arith, few B R, B .sizes-are .terms-are, counts-fewer f .terms-fewer)));
             };

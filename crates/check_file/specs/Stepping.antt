@@ -87,6 +87,10 @@ InputRecord x = (n : ℕ) × (x ≡ input n)
 abbrev pub HasMark : Kind → Entry → Type 0
 HasMark kind x = mark kind ≡ some (markOf x)
 
+-- x is a term of a kind
+abbrev pub TermOf : Kind → Entry → Type 0
+TermOf kind x = TermRecord x × HasMark kind x
+
 -- ---- the step over a record
 
 -- the record x was read after the records f, from one place up to another

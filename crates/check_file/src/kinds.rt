@@ -1,10 +1,11 @@
 // The record that was read, entered by its kind: the place after it, and the sizes with it.
 use check_enter::Entered;
 use index::Sizes;
+use read_record::mark::Kind;
 ghost use mathlib.Core.Path.{_≡_};
 ghost use Prim.Native.Nat.{suc, _<_};
 ghost use Rattle.check_file.specs.Promise.{together};
-ghost use Rattle.check_file.specs.Stepping.{TypeRecord, EnumRecord, FunRecord, TermRecord, InputRecord, StepsOver};
+ghost use Rattle.check_file.specs.Stepping.{TypeRecord, EnumRecord, FunRecord, TermOf, InputRecord, StepsOver};
 
 // The place after a record and the sizes with it, or the number of its refusal.
 pub enum Step {
@@ -110,13 +111,20 @@ pub fn next_fun(file: &[u8], work: &mut [u32], at: usize, to: usize, sizes: Size
     }
 }
 
-// Enters a term.
-pub fn next_term(file: &[u8], work: &mut [u32], at: usize, to: usize, sizes: Sizes) -> Step
-    ensures { λ r. ⌜ StepsOver TermRecord (now (file .entry)) (now (work .entry)) (now (work .exit)) at to sizes r ⌝ }
+// Enters a term of this kind.
+pub fn next_term(
+    file: &[u8],
+    work: &mut [u32],
+    at: usize,
+    to: usize,
+    sizes: Sizes,
+    kind: Kind,
+) -> Step
+    ensures { λ r. ⌜ StepsOver (TermOf kind) (now (file .entry)) (now (work .entry)) (now (work .exit)) at to sizes r ⌝ }
 {
     let terms = more(sizes.terms);
     let place = next_place(sizes);
-    match check_enter::terms::enter_term(file, work, sizes, narrow(at), place) {
+    match check_enter::terms::enter_term(file, work, sizes, narrow(at), kind, place) {
         Entered::Broken(n) => Step::Bad(n),
         Entered::Done => Step::To(
             to,

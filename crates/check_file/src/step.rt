@@ -25,7 +25,7 @@ fn enter_next(file: &[u8], work: &mut [u32], at: usize, to: usize, sizes: Sizes,
         | Kind::X1
         | Kind::XC
         | Kind::XR
-        | Kind::XA => kinds::next_term(file, work, at, to, sizes),
+        | Kind::XA => kinds::next_term(file, work, at, to, sizes, kind),
         Kind::IN => kinds::next_input(file, work, at, to, sizes),
         Kind::Unknown => Step::Bad(4),
     }

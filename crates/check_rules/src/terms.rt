@@ -3,8 +3,9 @@ use crate::record::list_ascends;
 use crate::record::list_differs;
 use index_compare::compare::byte_at;
 use index_compare::record::body_at;
-use index_compare::record::kind_at;
 use read_record::mark::Kind;
+ghost use Rattle.index.specs.Standing.{markAt};
+ghost use Rattle.read_record.specs.Marks.{Marked};
 ghost use Rattle.check_rules.specs.Decided.{LeavesMemory};
 ghost use Rattle.check_rules.specs.Terms.{TermRule};
 
@@ -14,11 +15,19 @@ pub enum Rules {
     Broken(u32),
 }
 
-// Whether rules 9 and 10 are kept; `depth` is the greatest of the arguments' depths, 0 where there are none; the memory is as it was.
-pub fn broken_rule(file: &[u8], work: &mut [u32], rows: usize, offset: usize, depth: u32) -> Rules
-    ensures { λ r. ⌜ LeavesMemory (now (work .entry)) (now (work .exit)) (TermRule (now (file .entry)) (now (work .entry)) rows offset depth r) ⌝ }
+// Whether rules 9 and 10 are kept by a term of this kind; `depth` is the greatest of the arguments' depths, 0 where there are none; the
+// memory is as it was.
+pub fn broken_rule(
+    file: &[u8],
+    work: &mut [u32],
+    rows: usize,
+    offset: usize,
+    kind: Kind,
+    depth: u32,
+) -> Rules
+    ensures { λ r. ⌜ LeavesMemory (now (work .entry)) (now (work .exit)) (Marked (markAt (now (file .entry)) offset) kind → TermRule (now (file .entry)) (now (work .entry)) rows offset depth r) ⌝ }
 {
-    match kind_at(file, offset) {
+    match kind {
         Kind::XC => {
             if list_differs(body_at(file, offset), work, rows, 4) {
                 return Rules::Kept;

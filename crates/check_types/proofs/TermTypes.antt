@@ -18,7 +18,7 @@ use Rattle.read_record.specs.declared.mark.Kind.the-variants as kind
 use Rattle.read_record.proofs.mark.Kind.{the-type}
 use Rattle.check_rules.specs.Marks.{datatypeBytes, typeBytes}
 use Rattle.check_rules.proofs.EntryKinds.{termKind, kindOf, entry-kind}
-use Rattle.check_types.specs.Sought.{typeLetter, KindSought, PartSought}
+use Rattle.check_types.specs.Sought.{typeLetter, soughtOf, KindSought, PartSought}
 use Rattle.check_types.proofs.Letters.{Over, over}
 
 -- the kind of a term at an offset
@@ -27,32 +27,6 @@ unfolding kindOf
 term-kind file o M e = entry-kind file o M e
 
 -- ---- the kind of its type
-
--- `Unknown` for a term that refers to its type, and for what is no term
-unfoldable pub soughtOf : Kind → Kind
-soughtOf kind.TB = kind.Unknown
-soughtOf kind.TS = kind.Unknown
-soughtOf kind.TV = kind.Unknown
-soughtOf kind.TO = kind.Unknown
-soughtOf kind.TC = kind.Unknown
-soughtOf kind.TE = kind.Unknown
-soughtOf kind.TX = kind.Unknown
-soughtOf kind.TR = kind.Unknown
-soughtOf kind.EN = kind.Unknown
-soughtOf kind.UF = kind.Unknown
-soughtOf kind.XV = kind.Unknown
-soughtOf kind.XB = kind.TB
-soughtOf kind.XN = kind.TV
-soughtOf kind.XS = kind.TS
-soughtOf kind.XE = kind.Unknown
-soughtOf kind.XX = kind.TX
-soughtOf kind.X0 = kind.TO
-soughtOf kind.X1 = kind.TO
-soughtOf kind.XC = kind.TC
-soughtOf kind.XR = kind.TR
-soughtOf kind.XA = kind.Unknown
-soughtOf kind.IN = kind.Unknown
-soughtOf kind.Unknown = kind.Unknown
 
 sought-mark : (τ : ℕ → ℕ) (m : TermMark ℕ ℕ) (rs : List ℕ) → Over (λ t parts. mark (soughtOf (termKind m)) ≡ some (typeBytes t)) (typeBy τ m rs)
 unfolding Over typeBy mark soughtOf termKind typeBytes datatypeBytes

@@ -84,6 +84,32 @@ partAt file work rows o = getD (referenceNumbers 2 (map (viewed work rows Listed
 
 -- ---- what is sought
 
+-- the kind of the type of a term of this kind; `Unknown` for a term that refers to its type, and for what is no term
+unfoldable pub soughtOf : Kind → Kind
+soughtOf kind.TB = kind.Unknown
+soughtOf kind.TS = kind.Unknown
+soughtOf kind.TV = kind.Unknown
+soughtOf kind.TO = kind.Unknown
+soughtOf kind.TC = kind.Unknown
+soughtOf kind.TE = kind.Unknown
+soughtOf kind.TX = kind.Unknown
+soughtOf kind.TR = kind.Unknown
+soughtOf kind.EN = kind.Unknown
+soughtOf kind.UF = kind.Unknown
+soughtOf kind.XV = kind.Unknown
+soughtOf kind.XB = kind.TB
+soughtOf kind.XN = kind.TV
+soughtOf kind.XS = kind.TS
+soughtOf kind.XE = kind.Unknown
+soughtOf kind.XX = kind.TX
+soughtOf kind.X0 = kind.TO
+soughtOf kind.X1 = kind.TO
+soughtOf kind.XC = kind.TC
+soughtOf kind.XR = kind.TR
+soughtOf kind.XA = kind.Unknown
+soughtOf kind.IN = kind.Unknown
+soughtOf kind.Unknown = kind.Unknown
+
 -- the kind is that of the type of the term at an offset, where the term does not refer to it
 pub record KindSought (file : Bytes) (o : ℕ) (sought : Kind) : Type 0 where
   pub go : (m : TermMark ℕ ℕ) (rs : List ℕ) → entryAt file o ≡ some (term m rs) → (τ : ℕ → ℕ) (t : TypeMark) (parts : List ℕ) → typeBy τ m rs ≡ listed t parts → mark sought ≡ some (typeBytes t)

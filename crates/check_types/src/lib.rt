@@ -5,7 +5,9 @@ use index_compare::record::kind_at;
 use read_record::mark::Kind;
 ghost use mathlib.Core.Path.{_≡_};
 ghost use lib.Dec.{eqb};
-ghost use Rattle.check_types.specs.Sought.{typeLetter, widthAt, codeAt, valueCode, partAt, KindSought, PartSought, Wanted, TypeSought, SameType};
+ghost use Rattle.index.specs.Standing.{markAt};
+ghost use Rattle.read_record.specs.Marks.{Marked};
+ghost use Rattle.check_types.specs.Sought.{soughtOf, typeLetter, widthAt, codeAt, valueCode, partAt, PartSought, Wanted, TypeSought, SameType};
 ghost use Rattle.check_types.specs.Probed.{TypeHash, TypeHome, HoldsType, ProbesType, ListedSought};
 
 // The first type that is equal to a term's type, by its number, or that none is listed.
@@ -14,11 +16,11 @@ pub enum Found {
     NotListed,
 }
 
-// The kind of the type of the term at an offset; `Unknown` where the term refers to its type, and where no term stands there.
-fn kind_sought(file: &[u8], offset: usize) -> Kind
-    ensures { λ r. ⌜ KindSought (now (file .entry)) offset r ⌝ }
+// The kind of the type of a term of this kind; `Unknown` where the term refers to its type, and for what is no term.
+fn kind_sought(kind: Kind) -> Kind
+    ensures { λ r. ⌜ r ≡ soughtOf kind ⌝ }
 {
-    match kind_at(file, offset) {
+    match kind {
         Kind::XB => Kind::TB,
         Kind::XN => Kind::TV,
         Kind::XS => Kind::TS,
@@ -114,8 +116,7 @@ fn same_type(
     kind: Kind,
     part: u32,
 ) -> bool
-    requires { ⌜ Wanted (now file) (now work) rows offset kind part ⌝ }
-    ensures { λ r. ⌜ SameType (now (file .entry)) (now (work .entry)) rows other offset r ⌝ }
+    ensures { λ r. ⌜ (Wanted (now (file .entry)) (now (work .entry)) rows offset kind part → SameType (now (file .entry)) (now (work .entry)) rows other offset r) ⌝ }
 {
     if letter_of(kind_at(file, other)) != letter_of(kind) {
         return false;
@@ -134,8 +135,7 @@ fn same_type(
 
 // The hash of the type of the term at an offset, of this kind and with this part; 0 where no type is of that kind.
 fn type_hash(file: &[u8], work: &[u32], rows: usize, offset: usize, kind: Kind, part: u32) -> u32
-    requires { ⌜ Wanted (now file) (now work) rows offset kind part ⌝ }
-    ensures { λ r. ⌜ TypeHash (now (file .entry)) (now (work .entry)) rows offset r ⌝ }
+    ensures { λ r. ⌜ (Wanted (now (file .entry)) (now (work .entry)) rows offset kind part → TypeHash (now (file .entry)) (now (work .entry)) rows offset r) ⌝ }
 {
     match kind {
         Kind::TB => index_search::hash::bare_hash(b'B'),
@@ -151,8 +151,7 @@ fn type_hash(file: &[u8], work: &[u32], rows: usize, offset: usize, kind: Kind, 
 
 // The slot from which the type of the term at an offset is looked for.
 fn home(file: &[u8], work: &[u32], rows: usize, offset: usize, kind: Kind, part: u32) -> usize
-    requires { ⌜ Wanted (now file) (now work) rows offset kind part ⌝ }
-    ensures { λ r. ⌜ TypeHome (now (file .entry)) (now (work .entry)) rows offset r ⌝ }
+    ensures { λ r. ⌜ (Wanted (now (file .entry)) (now (work .entry)) rows offset kind part → TypeHome (now (file .entry)) (now (work .entry)) rows offset r) ⌝ }
 {
     index_search::slots::scale(rows, type_hash(file, work, rows, offset, kind, part))
 }
@@ -168,8 +167,7 @@ fn holds(
     part: u32,
     v: u32,
 ) -> bool
-    requires { ⌜ Wanted (now file) (now work) rows offset kind part ⌝ }
-    ensures { λ r. ⌜ HoldsType (now (file .entry)) (now (work .entry)) rows types offset v r ⌝ }
+    ensures { λ r. ⌜ (Wanted (now (file .entry)) (now (work .entry)) rows offset kind part → HoldsType (now (file .entry)) (now (work .entry)) rows types offset v r) ⌝ }
 {
     let n = index_search::slots::number_of(v);
     if types <= n {
@@ -193,8 +191,7 @@ fn probe(
     part: u32,
     b: usize,
 ) -> Found
-    requires { ⌜ Wanted (now file) (now work) rows offset kind part ⌝ }
-    ensures { λ r. ⌜ ProbesType (now (file .entry)) (now (work .entry)) rows types offset b r ⌝ }
+    ensures { λ r. ⌜ (Wanted (now (file .entry)) (now (work .entry)) rows offset kind part → ProbesType (now (file .entry)) (now (work .entry)) rows types offset b r) ⌝ }
 {
     let mut d = 0;
     while d < rows {
@@ -216,26 +213,26 @@ fn probe(
     Found::NotListed
 }
 
-// The number of the first type that is that of the term at an offset, which does not refer to it.
-fn find(file: &[u8], work: &[u32], rows: usize, types: u32, offset: usize) -> Found
-    ensures { λ r. ⌜ ListedSought (now (file .entry)) (now (work .entry)) rows types offset r ⌝ }
+// The number of the first type that is that of the term at an offset, of this kind, which does not refer to it.
+fn find(file: &[u8], work: &[u32], rows: usize, types: u32, offset: usize, kind: Kind) -> Found
+    ensures { λ r. ⌜ (Marked (markAt (now (file .entry)) offset) kind → ListedSought (now (file .entry)) (now (work .entry)) rows types offset r) ⌝ }
 {
-    let kind = kind_sought(file, offset);
-    let part = part_sought(file, work, rows, offset, kind);
-    let b = home(file, work, rows, offset, kind, part);
-    probe(file, work, rows, types, offset, kind, part, b)
+    let sought = kind_sought(kind);
+    let part = part_sought(file, work, rows, offset, sought);
+    let b = home(file, work, rows, offset, sought, part);
+    probe(file, work, rows, types, offset, sought, part, b)
 }
 
-// The first type that is equal to the type of the term at an offset.
-pub fn type_of(file: &[u8], work: &[u32], sizes: Sizes, offset: usize) -> Found
-    ensures { λ r. ⌜ TypeSought (now (file .entry)) (now (work .entry)) sizes offset r ⌝ }
+// The first type that is equal to the type of the term at an offset, of this kind.
+pub fn type_of(file: &[u8], work: &[u32], sizes: Sizes, offset: usize, kind: Kind) -> Found
+    ensures { λ r. ⌜ (Marked (markAt (now (file .entry)) offset) kind → TypeSought (now (file .entry)) (now (work .entry)) sizes offset r) ⌝ }
 {
     let rows = sizes.rows;
-    match kind_at(file, offset) {
+    match kind {
         Kind::XV | Kind::XE | Kind::XA => {
             let first = index_compare::compare::first_reference(file, work, rows, offset);
             Found::Listed(first)
         }
-        _ => find(file, work, rows, sizes.types, offset),
+        _ => find(file, work, rows, sizes.types, offset, kind),
     }
 }

@@ -6,13 +6,13 @@ use Rattle.check_types.proofs.holds.Statement.{statement}
 use Rattle.check_types.proofs.holds.Tie as tie
 
 returns : tie.Need-returns
-returns c = holds-past c.before.number-of.ensures c.if1.taken
+returns c = λ W. holds-past c.before.number-of.ensures c.if1.taken
 
 returns-2 : tie.Need-returns-2
-returns-2 c = holds-same c.before.before.before.before.before.number-of.ensures c.before.before.before.has.ensures c.before.before.before.before.if1.left c.before.before.if2.taken c.before.get.ensures c.same-type.ensures
+returns-2 c = λ W. holds-same c.before.before.before.before.before.number-of.ensures c.before.before.before.has.ensures c.before.before.before.before.if1.left c.before.before.if2.taken c.before.get.ensures (c.same-type.ensures W)
 
 returns-3 : tie.Need-returns-3
-returns-3 c = holds-other c.before.before.before.number-of.ensures c.before.has.ensures c.if2.left
+returns-3 c = λ W. holds-other c.before.before.before.number-of.ensures c.before.has.ensures c.if2.left
 
 pub holds-spec : {M : Type 1} → statement M
 holds-spec =

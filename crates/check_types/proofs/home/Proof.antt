@@ -6,7 +6,7 @@ use Rattle.check_types.proofs.home.Statement.{statement}
 use Rattle.check_types.proofs.home.Tie as tie
 
 returns : tie.Need-returns
-returns c = home-found c.before.type-hash.ensures c.scale.ensures
+returns c = λ W. home-found (c.before.type-hash.ensures W) c.scale.ensures
 
 pub home-spec : {M : Type 1} → statement M
 home-spec = tie.close (tie.spec (λ c κs. search needs) (λ c κs. search needs) returns)

@@ -6,10 +6,10 @@ use Rattle.check_file.proofs.kinds.next_term.Statement.{statement}
 use Rattle.check_file.proofs.kinds.next_term.Tie as tie
 
 returns : tie.Need-returns
-returns c = row-broken (term-row _ _ _ c.before.before.before.before.before.before.narrow.ensures c.before.before.before.before.before.before.before.before.next-place.ensures c.before.before.before.before.before.before.before.before.before.more.ensures c.before.before.before.before.before.enter-term.ensures) c.before.n.given.1
+returns c = row-broken (term-row _ _ _ c.before.before.before.before.before.before.narrow.ensures c.before.before.before.before.before.before.before.before.next-place.ensures _ c.before.before.before.before.before.before.before.before.before.more.ensures c.before.before.before.before.before.enter-term.ensures) c.before.n.given.1
 
 returns-2 : tie.Need-returns-2
-returns-2 c = row-done (term-row _ _ _ c.before.before.before.before.before.narrow.ensures c.before.before.before.before.before.before.before.next-place.ensures c.before.before.before.before.before.before.before.before.more.ensures c.before.before.before.before.enter-term.ensures) c.enum-told.given.1
+returns-2 c = row-done (term-row _ _ _ c.before.before.before.before.before.narrow.ensures c.before.before.before.before.before.before.before.next-place.ensures _ c.before.before.before.before.before.before.before.before.more.ensures c.before.before.before.before.enter-term.ensures) c.enum-told.given.1
 
 pub next-term-spec : {M : Type 1} → statement M
 next-term-spec =

@@ -16,7 +16,7 @@ returns-3 : tie.Need-returns-3
 returns-3 c = over-as (λ x e. marked-fun x e c.before.before.before.before.enum-told2.given.1) c.before.before.next-fun.ensures
 
 returns-4 : tie.Need-returns-4
-returns-4 c = over-as (λ x. marked-term x _ c.before.before.before.before.match.keys4) c.before.before.next-term.ensures
+returns-4 c = over-as (λ x e. (marked-term x _ c.before.before.before.before.match.keys4 e, e)) c.before.before.next-term.ensures
 
 returns-5 : tie.Need-returns-5
 returns-5 c = over-as (λ x e. marked-input x e c.before.before.before.before.enum-told3.given.1) c.before.before.next-input.ensures
