@@ -15,9 +15,9 @@ use Rattle.check_enter.specs.declared.Entered.{Entered}
 use Rattle.check_enter.specs.declared.Entered.the-variants.{Done, Broken}
 
 -- the rule that is broken, by document 01's number, as an answer says it
-abbrev pub brokenRule : Entered → Option ℕ
-brokenRule Done = none
-brokenRule (Broken n) = some n
+abbrev pub enteredRule : Entered → Option ℕ
+enteredRule Done = none
+enteredRule (Broken n) = some n
 
 -- the memory after an answer: the index with the record x, or as it was
 abbrev pub Memory : Bytes → TermFile → List ℕ → List ℕ → ℕ → Named → Entered → Type 0
@@ -26,7 +26,7 @@ Memory file f work work′ rows x (Broken n) = work′ ≡ work
 
 -- the answer says the first rule that the record x breaks after the records f, if it breaks one
 pub record Outcome (file : Bytes) (f : TermFile) (work work′ : List ℕ) (rows : ℕ) (x : Named) (r : Entered) : Type 0 where
-  pub rule : broken (rules f x) ≡ brokenRule r
+  pub rule : broken (rules f x) ≡ enteredRule r
   pub memory : Memory file f work work′ rows x r
 
 -- a record of one kind at an offset is entered after the records f, of which these are the sizes and there are `place`

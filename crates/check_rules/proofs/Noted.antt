@@ -15,7 +15,7 @@ use Rattle.script_spec.proofs.Readers.{bind-inverse, pure-inverse, u32-inverse}
 use Rattle.index.specs.Cells.{cell, termFirst}
 use Rattle.index.specs.Lists.{numberAt}
 use Rattle.index.specs.Rules.{different}
-use Rattle.check_rules.specs.Repeats.{refAt, firstAt, Repeated, Different, Answers, Tells}
+use Rattle.check_rules.specs.Repeats.{refAt, firstAt, Repeated, Different, RepeatsTold, Tells}
 use Rattle.check_rules.specs.declared.repeats.Answer.{Answer}
 use Rattle.check_rules.specs.declared.repeats.Answer.the-variants.{Never, Once}
 use Rattle.check_rules.proofs.References.{ref-there}
@@ -108,8 +108,8 @@ length-map φ [] = refl
 length-map φ (x ∷ xs) = ap suc (length-map φ xs)
 
 module _ (body : Bytes) (work work′ : List ℕ) (k from count : ℕ) {r : Answer} (T : Tells body work work′ k from count r) where
-  says : {a : Answer} → r ≡ a → Answers (firstAt body work k from) count a
-  says e = subst (λ (r : Answer). Answers (firstAt body work k from) count r) e (T .answer)
+  says : {a : Answer} → r ≡ a → RepeatsTold (firstAt body work k from) count a
+  says e = subst (λ (r : Answer). RepeatsTold (firstAt body work k from) count r) e (T .answer)
 
   pub never-differ : r ≡ Never → LeavesMemory work work′ (DecidesItems u32 (differentTerms work k) body from count true)
   unfolding differentTerms

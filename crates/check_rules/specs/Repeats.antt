@@ -61,12 +61,12 @@ pub record SameEarlier (body : Bytes) (work : List ℕ) (rows from n : ℕ) (r :
   pub go : r ≡ true → Repeated (firstAt body work rows from) (suc n)
 
 -- what the answer says of some numbers
-abbrev pub Answers : (ℕ → ℕ) → ℕ → Answer → Type 0
-Answers φ count Never = Different φ count
-Answers φ count Once = Repeated φ count
-Answers φ count Unknown = Unit {0}
+abbrev pub RepeatsTold : (ℕ → ℕ) → ℕ → Answer → Type 0
+RepeatsTold φ count Never = Different φ count
+RepeatsTold φ count Once = Repeated φ count
+RepeatsTold φ count Unknown = Unit {0}
 
 -- the answer, and the memory is as it was
 pub record Tells (body : Bytes) (work work′ : List ℕ) (rows from count : ℕ) (r : Answer) : Type 0 where
   pub unchanged : work′ ≡ work
-  pub answer : Answers (firstAt body work rows from) count r
+  pub answer : RepeatsTold (firstAt body work rows from) count r

@@ -28,7 +28,7 @@ use Rattle.index_search.specs.Slots.{entries}
 use Rattle.index_search.proofs.Probing.{held-past, held-other, held-same, Passed, passed-none, passed-more, none-at-all, none-beyond}
 use Rattle.index_search.proofs.Numbers.{entries-read, type-at}
 use Rattle.check_types.specs.Sought.{placeFound, SameType}
-use Rattle.check_types.specs.Probed.{TypeHome, LooksForType, HoldsType, Told, ProbesType, ListedSought}
+use Rattle.check_types.specs.Probed.{TypeHome, LooksForType, HoldsType, TypeTold, ProbesType, ListedSought}
 use Rattle.check_types.specs.declared.Found.{Found}
 use Rattle.check_types.specs.declared.Found.the-variants as found
 use Rattle.check_types.proofs.Same.{type-value, seeks-below, decides-same}
@@ -110,7 +110,7 @@ rows-searched {file} {f} {work} {k} I =
 
 -- what is told is the place among the types
 told-place : {file : Bytes} {work : List ℕ} {k count o : ℕ} {f : TermFile} {t : TypeMark} {ps : List ℕ} → LooksForType file work k count o f t ps → (r : Found)
-    → Told f (type t ps) (entries file work k typeOffset) count (cell work k typeFirst) r → placeFound r ≡ place (eqTy (typeNamed f (listed t ps))) (types f)
+    → TypeTold f (type t ps) (entries file work k typeOffset) count (cell work k typeFirst) r → placeFound r ≡ place (eqTy (typeNamed f (listed t ps))) (types f)
 unfolding typeNamed named InRange earlier
 told-place {f} {t} {ps} L (found.Listed n) h =
     let I = L .seeks .index in

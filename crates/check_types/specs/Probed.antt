@@ -41,14 +41,14 @@ pub record HoldsType (file : Bytes) (work : List ℕ) (rows count o v : ℕ) (r 
   pub go : (f : TermFile) (t : TypeMark) (parts : List ℕ) → LooksForType file work rows count o f t parts → Decides r (HeldEqual f (type t parts) (entries file work rows typeOffset) count 0 v)
 
 -- what an answer says of the entry x: it is equal to one, by its first number, or to none
-abbrev pub Told : TermFile → Entry → (ℕ → Entry) → ℕ → (ℕ → ℕ) → Found → Type 0
-Told f x ε count first (found.Listed n) = Hit f x ε count first n
-Told f x ε count first found.NotListed = Miss f x ε count count
+abbrev pub TypeTold : TermFile → Entry → (ℕ → Entry) → ℕ → (ℕ → ℕ) → Found → Type 0
+TypeTold f x ε count first (found.Listed n) = Hit f x ε count first n
+TypeTold f x ε count first found.NotListed = Miss f x ε count count
 
 -- what the search answers from the slot b on, if this is the home of what is looked for
 pub record ProbesType (file : Bytes) (work : List ℕ) (rows count o b : ℕ) (r : Found) : Type 0 where
   pub go : (f : TermFile) (t : TypeMark) (parts : List ℕ) → LooksForType file work rows count o f t parts → (0 < rows → b ≡ homeOf rows (canonical f (type t parts)))
-      → Told f (type t parts) (entries file work rows typeOffset) count (cell work rows typeFirst) r
+      → TypeTold f (type t parts) (entries file work rows typeOffset) count (cell work rows typeFirst) r
 
 -- r says the first type that is that of the term at an offset
 pub record ListedSought (file : Bytes) (work : List ℕ) (rows count o : ℕ) (r : Found) : Type 0 where

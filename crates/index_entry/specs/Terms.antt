@@ -11,7 +11,7 @@ use Rattle.script_spec.specs.Tree as tree
 use Rattle.script_spec.specs.Tree.{TermMark}
 use Rattle.script_spec.specs.Fields.{Entry, term}
 use Rattle.index.specs.Standing.{entryOf, bodyAt, entryAt}
-use Rattle.write_bitvec.specs.Value.{whole}
+use Rattle.write_bitvec.specs.Value.{ofHalves}
 use Rattle.read_field.specs.Answers.{spanned}
 use Rattle.read_operator.specs.Operators.{opOf}
 use Rattle.index.specs.Lists.{numberAt}
@@ -34,7 +34,7 @@ childrenIn body c = elim (c .named) [ true ↦ seconds (namedItems (c .left) (dr
 -- an extension value
 unfoldable pub valueOf : Value → tree.Value
 valueOf (value.V4 a p) = tree.V4 a p
-valueOf (value.V6 a p) = tree.V6 (whole (a .high) (a .low)) p
+valueOf (value.V6 a p) = tree.V6 (ofHalves (a .high) (a .low)) p
 valueOf (value.Decimal n) = tree.DecimalV n
 valueOf (value.Datetime n) = tree.DatetimeV n
 valueOf (value.Duration n) = tree.DurationV n
@@ -43,7 +43,7 @@ valueOf (value.Duration n) = tree.DurationV n
 unfoldable pub termSaid : Bytes → TermEntry → Option Entry
 termSaid body (entry.Var p t) = some (term (tree.Var (spanned body p) t) [])
 termSaid body (entry.BoolLit b) = some (term (tree.BoolLit b) [])
-termSaid body (entry.BitVecLit n v) = some (term (tree.BitVecLit n (whole (v .high) (v .low))) [])
+termSaid body (entry.BitVecLit n v) = some (term (tree.BitVecLit n (ofHalves (v .high) (v .low))) [])
 termSaid body (entry.StringLit p) = some (term (tree.StringLit (spanned body p)) [])
 termSaid body (entry.Entity t p) = some (term (tree.Entity t (spanned body p)) [])
 termSaid body (entry.ExtLit v) = some (term (tree.ExtLit (valueOf v)) [])

@@ -11,7 +11,7 @@ use lib.Dec.{eqb, ltb}
 use lib.ListN.{drop}
 use Rattle.script_spec.specs.Base.{Bytes, between}
 use Rattle.script_spec.specs.Utf8.{decode}
-use Rattle.read_utf8.specs.Decoding.{First, nothing, malformed, point, longer, follow, led, first, choose}
+use Rattle.read_utf8.specs.Decoding.{First, nothing, malformed, point, longer, follow, led, firstPoint, choose}
 
 -- what `decode` makes of a text by what it starts with
 unfoldable pub after : First → Bytes → Option (List ℕ)
@@ -113,13 +113,13 @@ module _ (a : ℕ) (s : Bytes) where
       rw (e, f, g, k, led) (decode-four a s (ltb-false a 240 g) (ltb-true a 245 k) (eqb a 240) (eqb a 244) refl refl ∙ decode-follow 2 _ _ (a - 240) s)
   decode-led h false false false false e f g k = rw (e, f, g, k, led) (decode-high a s (ltb-false a 245 k))
 
-  decode-start : (t : Bool) → ltb a 128 ≡ t → decode zero 0 0 0 (a ∷ s) ≡ after (first (a ∷ s)) (a ∷ s)
-  unfolding first
-  decode-start true e = rw (e, first) (decode-ascii a s (ltb-true a 128 e))
+  decode-start : (t : Bool) → ltb a 128 ≡ t → decode zero 0 0 0 (a ∷ s) ≡ after (firstPoint (a ∷ s)) (a ∷ s)
+  unfolding firstPoint
+  decode-start true e = rw (e, firstPoint) (decode-ascii a s (ltb-true a 128 e))
   decode-start false e =
-      rw (e, first) (decode-led (ltb-false a 128 e) (ltb a 194) (ltb a 224) (ltb a 240) (ltb a 245) refl refl refl refl ∙ sym (after-longer (led a s) a s))
+      rw (e, firstPoint) (decode-led (ltb-false a 128 e) (ltb a 194) (ltb a 224) (ltb a 240) (ltb a 245) refl refl refl refl ∙ sym (after-longer (led a s) a s))
 
-pub decode-first : (s : Bytes) → decode zero 0 0 0 s ≡ after (first s) s
-unfolding decode first after
+pub decode-first : (s : Bytes) → decode zero 0 0 0 s ≡ after (firstPoint s) s
+unfolding decode firstPoint after
 decode-first [] = refl
 decode-first (a ∷ s) = decode-start a s (ltb a 128) refl

@@ -18,7 +18,7 @@ use Rattle.script_spec.proofs.Laws.{never}
 use Rattle.read_utf8.specs.declared.Cursor.{Cursor}
 use Rattle.read_utf8.specs.declared.Next.{Next}
 use Rattle.read_utf8.specs.declared.Next.the-variants.{Point, Malformed, End}
-use Rattle.read_utf8.specs.Decoding.{First, nothing, malformed, point, longer, follow, led, first, points, pointsBy, nextSaid, Finds, isLow}
+use Rattle.read_utf8.specs.Decoding.{First, nothing, malformed, point, longer, follow, led, firstPoint, points, pointsBy, nextSaid, DecodesAt, isLow}
 use Rattle.read_utf8.proofs.Decode.{after, decode-first}
 
 -- ---- how far a code point reaches
@@ -63,13 +63,13 @@ module _ (a : ℕ) (s : Bytes) where
   within-led false false false true e f g k = rw (e, f, g, k, led) (within-follow 3 _ _ _ s)
   within-led false false false false e f g k = rw (e, f, g, k, led) tt
 
-  within-start : (t : Bool) → ltb a 128 ≡ t → Within 1 (suc (length s)) (first (a ∷ s))
-  unfolding first
-  within-start true e = rw (e, first) (omega arith, omega arith)
-  within-start false e = rw (e, first) (within-longer (length s) (led a s) (within-led (ltb a 194) (ltb a 224) (ltb a 240) (ltb a 245) refl refl refl refl))
+  within-start : (t : Bool) → ltb a 128 ≡ t → Within 1 (suc (length s)) (firstPoint (a ∷ s))
+  unfolding firstPoint
+  within-start true e = rw (e, firstPoint) (omega arith, omega arith)
+  within-start false e = rw (e, firstPoint) (within-longer (length s) (led a s) (within-led (ltb a 194) (ltb a 224) (ltb a 240) (ltb a 245) refl refl refl refl))
 
-within-first : (s : Bytes) → Within 1 (length s) (first s)
-unfolding first
+within-first : (s : Bytes) → Within 1 (length s) (firstPoint s)
+unfolding firstPoint
 within-first [] = tt
 within-first (a ∷ s) = within-start a s (ltb a 128) refl
 
@@ -77,7 +77,7 @@ within-first (a ∷ s) = within-start a s (ltb a 128) refl
 
 -- more fuel than bytes changes nothing
 pointsBy-step : (n m : ℕ) (s : Bytes) → length s ≤ suc n → length s ≤ suc m → ((r : Bytes) → length r ≤ n → length r ≤ m → pointsBy n r ≡ pointsBy m r)
-    → (f : First) → first s ≡ f → Within 1 (length s) f → pointsBy (suc n) s ≡ pointsBy (suc m) s
+    → (f : First) → firstPoint s ≡ f → Within 1 (length s) f → pointsBy (suc n) s ≡ pointsBy (suc m) s
 unfolding pointsBy
 pointsBy-step n m s h k ih nothing e w = rw (e, pointsBy)
 pointsBy-step n m s h k ih malformed e w = rw (e, pointsBy)
@@ -86,13 +86,13 @@ pointsBy-step n m s h k ih (point v j) e w =
     rw (e, pointsBy) (ap (λ (cs : List ℕ). v ∷ cs) (ih (drop j s) (omega (arith, w .0)) (omega (arith, w .0))))
 
 pointsBy-enough : (n m : ℕ) (s : Bytes) → length s ≤ n → length s ≤ m → pointsBy n s ≡ pointsBy m s
-unfolding pointsBy first
+unfolding pointsBy firstPoint
 pointsBy-enough zero zero s h k = refl
 pointsBy-enough zero (suc m) [] h k = refl
 pointsBy-enough zero (suc m) (a ∷ s) h k = absurd (not-suc-le-zero h)
 pointsBy-enough (suc n) zero [] h k = refl
 pointsBy-enough (suc n) zero (a ∷ s) h k = absurd (not-suc-le-zero k)
-pointsBy-enough (suc n) (suc m) s h k = pointsBy-step n m s h k (λ r i j. pointsBy-enough n m r i j) (first s) refl (within-first s)
+pointsBy-enough (suc n) (suc m) s h k = pointsBy-step n m s h k (λ r i j. pointsBy-enough n m r i j) (firstPoint s) refl (within-first s)
 
 -- the code points by what a text starts with
 unfoldable pub pointed : First → Bytes → List ℕ
@@ -100,7 +100,7 @@ pointed nothing s = []
 pointed malformed s = []
 pointed (point v k) s = v ∷ points (drop k s)
 
-points-by : (n : ℕ) (s : Bytes) → length s ≡ n → (f : First) → first s ≡ f → Within 1 (length s) f → pointsBy n s ≡ pointed f s
+points-by : (n : ℕ) (s : Bytes) → length s ≡ n → (f : First) → firstPoint s ≡ f → Within 1 (length s) f → pointsBy n s ≡ pointed f s
 unfolding pointsBy pointed points
 points-by zero s h nothing e w = refl
 points-by zero s h malformed e w = refl
@@ -111,14 +111,14 @@ points-by (suc n) s h (point v k) e w =
     let l : length (drop k s) ≡ length s - k = length-drop k s in
     rw (e, pointsBy) (ap (λ (cs : List ℕ). v ∷ cs) (pointsBy-enough n (length (drop k s)) (drop k s) (omega (arith, w .0)) (omega arith)))
 
-pub points-first : (s : Bytes) → points s ≡ pointed (first s) s
+pub points-first : (s : Bytes) → points s ≡ pointed (firstPoint s) s
 unfolding points
-points-first s = points-by (length s) s refl (first s) refl (within-first s)
+points-first s = points-by (length s) s refl (firstPoint s) refl (within-first s)
 
 -- a byte below 128 is its own code point
 pub points-ascii : (a : ℕ) (s : Bytes) → a < 128 → points (a ∷ s) ≡ a ∷ points s
-unfolding first pointed
-points-ascii a s h = points-first (a ∷ s) ∙ (rw (lt-ltb a 128 h, first))
+unfolding firstPoint pointed
+points-ascii a s h = points-first (a ∷ s) ∙ (rw (lt-ltb a 128 h, firstPoint))
 
 -- ---- the code points of UTF-8
 
@@ -135,13 +135,13 @@ utf8-step s cs malformed ih h = absurd (Option·none-ne-some cs h)
 utf8-step s cs (point v k) ih h = map-some v (decode zero 0 0 0 (drop k s)) cs (points (drop k s)) (ih v k refl) h
 
 points-decoded : (n : ℕ) (s : Bytes) (cs : List ℕ) → length s ≤ n → decode zero 0 0 0 s ≡ some cs → points s ≡ cs
-points-decoded zero s cs h e = points-first s ∙ utf8-step s cs (first s) (λ v k q r d. absurd (shorter v k q)) (sym (decode-first s) ∙ e)
+points-decoded zero s cs h e = points-first s ∙ utf8-step s cs (firstPoint s) (λ v k q r d. absurd (shorter v k q)) (sym (decode-first s) ∙ e)
   where
-    shorter : (v k : ℕ) → first s ≡ point v k → ⊥
+    shorter : (v k : ℕ) → firstPoint s ≡ point v k → ⊥
     shorter v k q = let w = subst (λ (f : First). Within 1 (length s) f) q (within-first s) in omega (arith, w .0, w .1)
-points-decoded (suc n) s cs h e = points-first s ∙ utf8-step s cs (first s) (λ v k q r d. points-decoded n (drop k s) r (shorter v k q) d) (sym (decode-first s) ∙ e)
+points-decoded (suc n) s cs h e = points-first s ∙ utf8-step s cs (firstPoint s) (λ v k q r d. points-decoded n (drop k s) r (shorter v k q) d) (sym (decode-first s) ∙ e)
   where
-    shorter : (v k : ℕ) → first s ≡ point v k → length (drop k s) ≤ n
+    shorter : (v k : ℕ) → firstPoint s ≡ point v k → length (drop k s) ≤ n
     shorter v k q = let w = subst (λ (f : First). Within 1 (length s) f) q (within-first s) in rw length-drop (omega (arith, w .0))
 
 utf8-cases : (s : Bytes) (o : Option (List ℕ)) → decode zero 0 0 0 s ≡ o → isSome o ≡ true → points s ≡ Option·getD o []
@@ -180,16 +180,16 @@ utf8-after nothing s = refl
 utf8-after malformed s = refl
 utf8-after (point v k) s = some-map v (decode zero 0 0 0 (drop k s))
 
-utf8-first : (s : Bytes) → isUtf8 s ≡ utf8Then (first s) s
+utf8-first : (s : Bytes) → isUtf8 s ≡ utf8Then (firstPoint s) s
 unfolding isUtf8 codePoints?
-utf8-first s = ap isSome (decode-first s) ∙ utf8-after (first s) s
+utf8-first s = ap isSome (decode-first s) ∙ utf8-after (firstPoint s) s
 
 -- a cursor that finds a code point
-pub next-point : {s : Bytes} {at v : ℕ} {r : Next} {c : Cursor} → Finds (first (drop at s)) at r → r ≡ Point v c → PointAt s at v c
+pub next-point : {s : Bytes} {at v : ℕ} {r : Next} {c : Cursor} → DecodesAt (firstPoint (drop at s)) at r → r ≡ Point v c → PointAt s at v c
 unfolding nextSaid pointed utf8Then
 next-point {s} {at} {v} {r} {c} F h =
-    let G : Finds (first (drop at s)) at (Point v c) = subst (λ (r : Next). Finds (first (drop at s)) at r) h F in
-    let e : first (drop at s) ≡ point v (c .at - at) = sym (G .is) in
+    let G : DecodesAt (firstPoint (drop at s)) at (Point v c) = subst (λ (r : Next). DecodesAt (firstPoint (drop at s)) at r) h F in
+    let e : firstPoint (drop at s) ≡ point v (c .at - at) = sym (G .is) in
     let w : Within 1 (length (drop at s)) (point v (c .at - at)) = subst (λ (f : First). Within 1 (length (drop at s)) f) e (within-first (drop at s)) in
     let on : at ≤ c .at = G .onward in
     let p : at + (c .at - at) ≡ c .at = omega arith in
@@ -203,16 +203,16 @@ next-point {s} {at} {v} {r} {c} F h =
     }
 
 -- a cursor at bytes that are not UTF-8, and at the end
-pub next-malformed : (s : Bytes) (at : ℕ) {r : Next} → Finds (first (drop at s)) at r → r ≡ Malformed → (isUtf8 (drop at s) ≡ false) × (points (drop at s) ≡ [])
+pub next-malformed : (s : Bytes) (at : ℕ) {r : Next} → DecodesAt (firstPoint (drop at s)) at r → r ≡ Malformed → (isUtf8 (drop at s) ≡ false) × (points (drop at s) ≡ [])
 unfolding nextSaid pointed utf8Then
 next-malformed s at F h =
-    let e : first (drop at s) ≡ malformed = sym (F .is) ∙ ap (nextSaid at) h in
+    let e : firstPoint (drop at s) ≡ malformed = sym (F .is) ∙ ap (nextSaid at) h in
     (utf8-first (drop at s) ∙ ap (λ (f : First). utf8Then f (drop at s)) e, points-first (drop at s) ∙ ap (λ (f : First). pointed f (drop at s)) e)
 
-pub next-end : (s : Bytes) (at : ℕ) {r : Next} → Finds (first (drop at s)) at r → r ≡ End → (isUtf8 (drop at s) ≡ true) × (points (drop at s) ≡ [])
+pub next-end : (s : Bytes) (at : ℕ) {r : Next} → DecodesAt (firstPoint (drop at s)) at r → r ≡ End → (isUtf8 (drop at s) ≡ true) × (points (drop at s) ≡ [])
 unfolding nextSaid pointed utf8Then
 next-end s at F h =
-    let e : first (drop at s) ≡ nothing = sym (F .is) ∙ ap (nextSaid at) h in
+    let e : firstPoint (drop at s) ≡ nothing = sym (F .is) ∙ ap (nextSaid at) h in
     (utf8-first (drop at s) ∙ ap (λ (f : First). utf8Then f (drop at s)) e, points-first (drop at s) ∙ ap (λ (f : First). pointed f (drop at s)) e)
 
 -- ---- code points that SMT-LIB's strings have

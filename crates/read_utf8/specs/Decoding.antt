@@ -56,14 +56,14 @@ led a s =
       ]
     ]
 
-unfoldable pub first : Bytes → First
-first [] = nothing
-first (a ∷ s) = elim (ltb a 128) [ true ↦ point a 1 | false ↦ longer (led a s) ]
+unfoldable pub firstPoint : Bytes → First
+firstPoint [] = nothing
+firstPoint (a ∷ s) = elim (ltb a 128) [ true ↦ point a 1 | false ↦ longer (led a s) ]
 
 -- the code points of a text up to its end or to the first bytes that are not UTF-8; `fuel` is at least their number
 unfoldable pub pointsBy : ℕ → Bytes → List ℕ
 pointsBy zero s = []
-pointsBy (suc fuel) s = elim (first s) [ nothing ↦ [] | malformed ↦ [] | point v k ↦ v ∷ pointsBy fuel (drop k s) ]
+pointsBy (suc fuel) s = elim (firstPoint s) [ nothing ↦ [] | malformed ↦ [] | point v k ↦ v ∷ pointsBy fuel (drop k s) ]
 
 unfoldable pub points : Bytes → List ℕ
 points s = pointsBy (length s) s
@@ -81,7 +81,7 @@ NotBefore at Malformed = Unit {0}
 NotBefore at (Point v c) = at ≤ c .at
 
 -- an answer at a place is what is decoded there
-pub record Finds (f : First) (at : ℕ) (r : Next) : Type 0 where
+pub record DecodesAt (f : First) (at : ℕ) (r : Next) : Type 0 where
   pub is : nextSaid at r ≡ f
   pub onward : NotBefore at r
 

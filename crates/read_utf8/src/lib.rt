@@ -4,7 +4,7 @@ ghost use Prim.Native.Nat.{_<_};
 ghost use lib.ListN.{drop};
 ghost use Rattle.script_spec.specs.Utf8.{isUtf8};
 ghost use Rattle.script_spec.specs.Walk.{lowEnough};
-ghost use Rattle.read_utf8.specs.Decoding.{first, led, follow, points, Finds, choose, isLow, Small};
+ghost use Rattle.read_utf8.specs.Decoding.{firstPoint, led, follow, points, DecodesAt, choose, isLow, Small};
 
 // The highest code point that SMT-LIB's strings have.
 pub const HIGHEST: u32 = 196607;
@@ -40,7 +40,7 @@ fn either(test: bool, x: u32, y: u32) -> u32
 // The rest of a code point, of which `more` bytes are to come, the next of them from `low` to `high`.
 fn continued(s: &[u8], at: usize, more: u32, low: u32, high: u32, value: u32) -> Next
     requires { ⌜ Small more low high value ⌝ }
-    ensures { λ r. ⌜ Finds (follow more low high value (drop at (now (s .entry)))) at r ⌝ }
+    ensures { λ r. ⌜ DecodesAt (follow more low high value (drop at (now (s .entry)))) at r ⌝ }
 {
     if more == 0 {
         return Next::Point(value, Cursor { at });
@@ -60,7 +60,7 @@ fn continued(s: &[u8], at: usize, more: u32, low: u32, high: u32, value: u32) ->
 
 // The bytes after a first byte of 128 or more.
 fn led_by(s: &[u8], at: usize, a: u32) -> Next
-    ensures { λ r. ⌜ Finds (led a (drop at (now (s .entry)))) at r ⌝ }
+    ensures { λ r. ⌜ DecodesAt (led a (drop at (now (s .entry)))) at r ⌝ }
 {
     if a < 194 {
         return Next::Malformed;
@@ -84,7 +84,7 @@ fn led_by(s: &[u8], at: usize, a: u32) -> Next
 impl Cursor {
     // What stands at the cursor.
     pub fn next(self, s: &[u8]) -> Next
-        ensures { λ r. ⌜ Finds (first (drop (self .at) (now (s .entry)))) (self .at) r ⌝ }
+        ensures { λ r. ⌜ DecodesAt (firstPoint (drop (self .at) (now (s .entry)))) (self .at) r ⌝ }
     {
         let at = self.at;
         if s.len() <= at {

@@ -19,23 +19,23 @@ use Rattle.check_file.specs.Promise.{checkedAs, withoutRecords, Checks}
 use Rattle.encoder.specs.declared.Encoded.{Encoded}
 use Rattle.encoder.specs.Printing.{written}
 use Rattle.encoder.specs.Promise.{encodedAs, Encodes}
-use Rattle.sakyelbo.specs.Answers.{code, SaysAnswer}
+use Rattle.sakyelbo.specs.Answers.{answerCode, SaysAnswer}
 use Rattle.sakyelbo.specs.Promise.{ChecksFile, EncodesFile, WritesCommand}
 use Rattle.sakyelbo.proofs.Numbers.{Numbered, checked-numbered, encoded-numbered, command-numbered}
 
 -- a length is said by itself, with the number 0
 pub says-length : {a : Answer ℕ} {n : ℕ} → a ≡ accepted n → SaysAnswer a n 0
-unfolding code written
+unfolding answerCode written
 says-length {n = n} e = subst (λ (a : Answer ℕ). SaysAnswer a n 0) (sym e) (record { number = refl; size = refl })
 
 -- a refusal is said by its number, with the size 0
 pub says-refusal : {a : Answer ℕ} {n p r : ℕ} → a ≡ refused n p → r ≡ n * 4294967296 + p → SaysAnswer a 0 r
-unfolding code written
+unfolding answerCode written
 says-refusal {r = r} e h = subst (λ (a : Answer ℕ). SaysAnswer a 0 r) (sym e) (record { number = h; size = refl })
 
 -- the number of an answer is that of the answer without its records
-code-withoutRecords : (a : Answer TermFile) → code (withoutRecords a) ≡ code a
-unfolding withoutRecords code
+code-withoutRecords : (a : Answer TermFile) → answerCode (withoutRecords a) ≡ answerCode a
+unfolding withoutRecords answerCode
 code-withoutRecords (accepted f) = refl
 code-withoutRecords (refused n p) = refl
 
@@ -46,8 +46,8 @@ code-refused : {A : Type 0} {greatest : ℕ} {a : Answer A} {n p : ℕ} → Numb
 code-refused {n = n} {p} h e z = let w = h .number n p e in omega (arith, w .least)
 
 -- the number 0 is that of acceptance
-code-zero : {A : Type 0} {greatest : ℕ} (a : Answer A) → Numbered greatest a → code a ≡ 0 → (x : A) × (a ≡ accepted x)
-unfolding code
+code-zero : {A : Type 0} {greatest : ℕ} (a : Answer A) → Numbered greatest a → answerCode a ≡ 0 → (x : A) × (a ≡ accepted x)
+unfolding answerCode
 code-zero (accepted x) h e = (x, refl)
 code-zero (refused n p) h e = absurd (code-refused h refl e)
 
@@ -60,8 +60,8 @@ starts (refused m q) room S h never = absurd (never m q refl)
 module _ (w : Answer Bytes) (room : ℕ) {y : Bytes} {n r : ℕ} (S : SaysAnswer (lengthOf w) n r) (h : y ≡ left w room) where
   -- the number 0 is that of a text
   starts-zero : Numbered 20 w → r ≡ 0 → w ≡ accepted (take n y)
-  unfolding lengthOf code
-  starts-zero N z = starts w room S h (λ m q e. code-refused N e (sym (S .number ∙ ap (λ (a : Answer Bytes). code (lengthOf a)) e) ∙ z))
+  unfolding lengthOf answerCode
+  starts-zero N z = starts w room S h (λ m q e. code-refused N e (sym (S .number ∙ ap (λ (a : Answer Bytes). answerCode (lengthOf a)) e) ∙ z))
 
   -- a size above 0 is that of a text
   starts-sized : 0 < n → w ≡ accepted (take n y)
@@ -71,9 +71,9 @@ module _ (w : Answer Bytes) (room : ℕ) {y : Bytes} {n r : ℕ} (S : SaysAnswer
 -- ---- promises
 
 -- check's promise
-pub checks-file : {file : Bytes} {work work′ : List ℕ} {c : Checked} {r : ℕ} → Checks file work work′ c → r ≡ code (checkedAs c) → ChecksFile file work work′ r
+pub checks-file : {file : Bytes} {work work′ : List ℕ} {c : Checked} {r : ℕ} → Checks file work work′ c → r ≡ answerCode (checkedAs c) → ChecksFile file work work′ r
 checks-file {file} {work} {r = r} k e =
-    let is : r ≡ code (checked file (length work)) = e ∙ (ap code (k .answer) ∙ code-withoutRecords (checked file (length work))) in
+    let is : r ≡ answerCode (checked file (length work)) = e ∙ (ap answerCode (k .answer) ∙ code-withoutRecords (checked file (length work))) in
     record {
       answer = is;
       accepts = λ z. code-zero (checked file (length work)) (checked-numbered file (length work)) (sym is ∙ z);

@@ -6,11 +6,11 @@ use Rattle.script_spec.specs.Base.{Answer, accepted, refused}
 use Rattle.encoder.specs.Printing.{written}
 
 -- an answer as one number
-unfoldable pub code : {A : Type 0} → Answer A → ℕ
-code (accepted a) = 0
-code (refused n p) = n * 4294967296 + p
+unfoldable pub answerCode : {A : Type 0} → Answer A → ℕ
+answerCode (accepted a) = 0
+answerCode (refused n p) = n * 4294967296 + p
 
 -- a call that writes says an answer by a number r and a size n
 pub record SaysAnswer (a : Answer ℕ) (n r : ℕ) : Type 0 where
-  pub number : r ≡ code a
+  pub number : r ≡ answerCode a
   pub size : n ≡ written a

@@ -10,11 +10,11 @@ use Rattle.script_spec.specs.Command.{Command, commandWritten, left}
 use Rattle.script_spec.specs.Walk.{encoded}
 use Rattle.script_spec.specs.Faithful.{Faithful}
 use Rattle.write_bytes.specs.Writing.{lengthOf}
-use Rattle.sakyelbo.specs.Answers.{code, SaysAnswer}
+use Rattle.sakyelbo.specs.Answers.{answerCode, SaysAnswer}
 
 -- check's promise on a file, the memory at entry and at exit, and its answer
 pub record ChecksFile (file : Bytes) (work work′ : List ℕ) (r : ℕ) : Type 0 where
-  pub answer : r ≡ code (checked file (length work))
+  pub answer : r ≡ answerCode (checked file (length work))
   -- 0 is acceptance
   pub accepts : r ≡ 0 → (f : TermFile) × (checked file (length work) ≡ accepted f)
   pub cleared : work′ ≡ replicate (length work) 0

@@ -7,7 +7,7 @@ ghost use Prim.Native.Nat.{_+_, _*_};
 ghost use Rattle.smtlib_script.specs.Writes.{commandAnswer};
 ghost use Rattle.encoder.specs.Promise.{encodedAs};
 ghost use Rattle.check_file.specs.Promise.{checkedAs};
-ghost use Rattle.sakyelbo.specs.Answers.{code, SaysAnswer};
+ghost use Rattle.sakyelbo.specs.Answers.{answerCode, SaysAnswer};
 
 // A refusal as one number.
 fn refusal(number: u32, place: u32) -> u64
@@ -18,7 +18,7 @@ fn refusal(number: u32, place: u32) -> u64
 
 // Check's answer as one number.
 pub fn of_check(checked: Checked) -> u64
-    ensures { λ r. ⌜ r ≡ code (checkedAs checked) ⌝ }
+    ensures { λ r. ⌜ r ≡ answerCode (checkedAs checked) ⌝ }
 {
     match checked {
         Checked::Accepted => 0,

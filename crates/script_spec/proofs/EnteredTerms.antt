@@ -13,9 +13,9 @@ use Rattle.script_spec.specs.Base.{Bytes, any}
 use Rattle.script_spec.specs.Tree.{Ty, Fun, Tm, Mark, Forest, node, nil, cons, children, depth, depths, typeOf, isFalsehood, eqTm, Enums, enumOf, Negation, ordinary, falsehood, comparison, negation}
 use Rattle.script_spec.specs.Tree.{uuf, Var, BoolLit, BitVecLit, StringLit, Entity, ExtLit, None, Some, Set, Record, App, Op, Plain, Ext, RecordGet, StringLike, Uuf, ZeroExtend}
 use Rattle.script_spec.specs.Command.{Command}
-use Rattle.script_spec.specs.Walk.{State, Step, Walk, _>>_, unless, ensure, enterFun, enterTerm, write, writing, declareFunction, encodeType, encodeUuf, enter, declareVar, defineTerm, defineEntity, recordGet, operatorStep, defineApp, encodeNew, encodeTerm, encodeTerms}
+use Rattle.script_spec.specs.Walk.{State, Step, Walk, _>>_, unless, refuseUnless, enterFun, enterTerm, write, writing, declareFunction, encodeType, encodeUuf, enter, declareVar, defineTerm, defineEntity, recordGet, operatorStep, defineApp, encodeNew, encodeTerm, encodeTerms}
 use Rattle.script_spec.proofs.Laws.{is-true}
-use Rattle.script_spec.proofs.Steps.{Ends, Goes, goes, ends-then, ends-unless, ends-ensure, ends-map, goes-map}
+use Rattle.script_spec.proofs.Steps.{Ends, Goes, goes, ends-then, ends-unless, ends-tested, ends-map, goes-map}
 use Rattle.script_spec.proofs.Entered.{term-cases, encodeType-only}
 
 -- ---- types and functions enter no term
@@ -53,8 +53,8 @@ enters-goes d s g = goes-map (λ s′ p. only-same d s s′ p) g
 enters-then : (a b c : ℕ) (w v : Walk) (s : State) → a ≤ c → b ≤ c → Enters a s (w s) → ((s₁ : State) → Enters b s₁ (v s₁)) → Enters c s (_>>_ w v s)
 enters-then a b c w v s p q x y = ends-then w v s (ends-map (λ s₁ o. ends-map (λ s₂ o′. only-both a b c s s₁ s₂ p q o o′) (y s₁)) x)
 
-ensure-enters : (d n : ℕ) (t : Tm) (b : Bool) (s : State) → Enters d s (ensure n t b s)
-ensure-enters d n t b s = ends-ensure n t b s (only-same d s s refl) tt
+tested-enters : (d n : ℕ) (t : Tm) (b : Bool) (s : State) → Enters d s (refuseUnless n t b s)
+tested-enters d n t b s = ends-tested n t b s (only-same d s s refl) tt
 
 -- a term entered, with whatever is written
 entered-only : (t : Tm) (cs : List Command) (s : State) → TermsOnly (depth t) s (write cs (enterTerm t s))
@@ -78,16 +78,16 @@ defineTerm-only e t s = goes (entered-only t _ s)
 -- an entity by the members of its type
 defineEntity-only : (e : Enums) (t : Tm) (id : Bytes) (o : Option (List Bytes)) (s : State) → Enters (depth t) s (defineEntity e t id o s)
 unfolding defineEntity
-defineEntity-only e t id none s = enters-then (depth t) (depth t) (depth t) _ _ s (omega arith) (omega arith) (ensure-enters (depth t) 15 t _ s) (defineTerm-only e t)
-defineEntity-only e t id (some ms) s = enters-then (depth t) (depth t) (depth t) _ _ s (omega arith) (omega arith) (ensure-enters (depth t) 14 t _ s) (enter-only t)
+defineEntity-only e t id none s = enters-then (depth t) (depth t) (depth t) _ _ s (omega arith) (omega arith) (tested-enters (depth t) 15 t _ s) (defineTerm-only e t)
+defineEntity-only e t id (some ms) s = enters-then (depth t) (depth t) (depth t) _ _ s (omega arith) (omega arith) (tested-enters (depth t) 14 t _ s) (enter-only t)
 
 -- what `RecordGet` asks
 recordGet-only : (d : ℕ) (t : Tm) (a : Bytes) (tys : List Ty) (s : State) → Enters d s (recordGet t a tys s)
 unfolding recordGet
-recordGet-only d t a [] s = ensure-enters d 19 t false s
+recordGet-only d t a [] s = tested-enters d 19 t false s
 recordGet-only d t a (ty ∷ tys) s =
-    enters-then d d d _ _ s (omega arith) (omega arith) (ensure-enters d 18 t _ s)
-    (λ s₁. enters-then d d d _ _ s₁ (omega arith) (omega arith) (ensure-enters d 17 t _ s₁) (λ s₂. ensure-enters d 16 t _ s₂))
+    enters-then d d d _ _ s (omega arith) (omega arith) (tested-enters d 18 t _ s)
+    (λ s₁. enters-then d d d _ _ s₁ (omega arith) (omega arith) (tested-enters d 17 t _ s₁) (λ s₂. tested-enters d 16 t _ s₂))
 
 -- what an operator asks for
 operatorStep-only : (d : ℕ) (e : Enums) (t : Tm) (op : Op Fun) (s : State) → Enters d s (operatorStep e t op s)
@@ -95,7 +95,7 @@ unfolding operatorStep
 operatorStep-only d e t (Plain o) s = goes (only-same d s s refl)
 operatorStep-only d e t (Ext o) s = goes (only-same d s s refl)
 operatorStep-only d e t (RecordGet a) s = recordGet-only d t a (map typeOf (children t)) s
-operatorStep-only d e t (StringLike p) s = ensure-enters d 15 t _ s
+operatorStep-only d e t (StringLike p) s = tested-enters d 15 t _ s
 operatorStep-only d e t (Uuf f) s = enters-goes d s (encodeUuf-terms e f s)
 operatorStep-only d e t (ZeroExtend n) s = goes (only-same d s s refl)
 
@@ -111,7 +111,7 @@ unfolding encodeNew declareVar
 encodeNew-only e (node (Var id ty) ts) s = goes (entered-only (node (Var id ty) ts) _ s)
 encodeNew-only e (node (BoolLit b) ts) s = goes (only-same _ s s refl)
 encodeNew-only e (node (BitVecLit n v) ts) s = goes (only-same _ s s refl)
-encodeNew-only e (node (StringLit x) ts) s = ensure-enters _ 15 _ _ s
+encodeNew-only e (node (StringLit x) ts) s = tested-enters _ 15 _ _ s
 encodeNew-only e (node (Entity ty id) ts) s = defineEntity-only e (node (Entity ty id) ts) id (enumOf e ty) s
 encodeNew-only e (node (ExtLit v) ts) s = defineTerm-only e _ s
 encodeNew-only e (node (None ty) ts) s = defineTerm-only e _ s

@@ -14,11 +14,11 @@ use Rattle.script_spec.specs.Tree.{Ty, Fun, Tm, Mark, Forest, node, nil,
 use Rattle.script_spec.specs.Tree.{Bool·, Var, BoolLit, BitVecLit, StringLit, Entity, ExtLit, None, Some, Set, Record, App, Op, Plain, Bvnego, Ext, RecordGet, StringLike, Uuf, ZeroExtend}
 use Rattle.script_spec.specs.Command.{Command, defineFun}
 use Rattle.script_spec.specs.Spelling.{Names, sort, body, atom, inlined}
-use Rattle.script_spec.specs.Walk.{State, _>>_, names, typeName, enterTerm, write, ensure, enter, declareVar, defineTerm, lowEnough, defineEntity, recordGet, operatorStep, defineApp, encodeNew}
+use Rattle.script_spec.specs.Walk.{State, _>>_, names, typeName, enterTerm, write, refuseUnless, enter, declareVar, defineTerm, lowEnough, defineEntity, recordGet, operatorStep, defineApp, encodeNew}
 use Rattle.script_spec.specs.Faithful.{Thing, term, func, type, NeededTerm, isApplied, Needed}
 use Rattle.script_spec.proofs.Laws.{is-false, never}
 use Rattle.script_spec.proofs.Log.{commandOf, silent, HasType, HasParts, nameable}
-use Rattle.script_spec.proofs.Steps.{Ends, goes, ends-then, ends-ensure, ends-map, goes-map}
+use Rattle.script_spec.proofs.Steps.{Ends, goes, ends-then, ends-tested, ends-map, goes-map}
 use Rattle.script_spec.proofs.Negated.{isFalsehood-by}
 use Rattle.script_spec.proofs.Grow.{grows-next, Done, Dones, dones-terms, type-grows, dones-grow}
 use Rattle.script_spec.proofs.Entered.{term-cases, term-new}
@@ -175,11 +175,11 @@ module _ (e : Enums) (ins : List Tm) where
 
       go : (o : Option (List Bytes)) → enumOf e ty ≡ o → Ends (Finished (Entity ty id) ts s log) (Refusal ins) (defineEntity e t id o s)
       go none p =
-          ends-then (ensure 15 t (lowEnough (codePoints id))) (defineTerm e t) s
-          (ends-ensure 15 t (lowEnough (codePoints id)) s (defined r (rw p tt) tt tt tt) (refusal r 15 (omega arith) (omega arith)))
+          ends-then (refuseUnless 15 t (lowEnough (codePoints id))) (defineTerm e t) s
+          (ends-tested 15 t (lowEnough (codePoints id)) s (defined r (rw p tt) tt tt tt) (refusal r 15 (omega arith) (omega arith)))
       go (some ms) p =
-          ends-then (ensure 14 t (any (same id) ms)) (enter t) s
-          (ends-ensure 14 t (any (same id) ms) s (goes (entered-inlined r (rw p tt) tt)) (refusal r 14 (omega arith) (omega arith)))
+          ends-then (refuseUnless 14 t (any (same id) ms)) (enter t) s
+          (ends-tested 14 t (any (same id) ms) s (goes (entered-inlined r (rw p tt) tt)) (refusal r 14 (omega arith) (omega arith)))
 
   -- ---- applications
 
@@ -190,13 +190,13 @@ module _ (e : Enums) (ins : List Tm) where
   recordGet-logs : {m : Mark} {ts : Forest Mark} {s : State} {log : List Thing} (a : Bytes) (tys : List Ty) → Ready m ts s log
       → Ends (Stepped (RecordGet a) s log) (Refusal ins) (recordGet (node m ts) a tys s)
   unfolding recordGet AppliedOp
-  recordGet-logs {m} {ts} {s} a [] r = ends-ensure 19 (node m ts) false s (logs-same e ins (r .inv) tt, refl) (refusal r 19 (omega arith) (omega arith))
+  recordGet-logs {m} {ts} {s} a [] r = ends-tested 19 (node m ts) false s (logs-same e ins (r .inv) tt, refl) (refusal r 19 (omega arith) (omega arith))
   recordGet-logs {m} {ts} {s} a (ty ∷ tys) r =
-      ends-then (λ s′. ensure 18 t (any (eqTy ty) (s′ .types)) s′) (_>>_ (ensure 17 t (isSome (attributes ty))) (ensure 16 t (isSome (attribute a ty)))) s
-      (ends-ensure 18 t (any (eqTy ty) (s .types)) s
-      (ends-then (ensure 17 t (isSome (attributes ty))) (ensure 16 t (isSome (attribute a ty))) s
-      (ends-ensure 17 t (isSome (attributes ty)) s
-      (ends-ensure 16 t (isSome (attribute a ty)) s (logs-same e ins (r .inv) tt, refl) (refusal r 16 (omega arith) (omega arith)))
+      ends-then (λ s′. refuseUnless 18 t (any (eqTy ty) (s′ .types)) s′) (_>>_ (refuseUnless 17 t (isSome (attributes ty))) (refuseUnless 16 t (isSome (attribute a ty)))) s
+      (ends-tested 18 t (any (eqTy ty) (s .types)) s
+      (ends-then (refuseUnless 17 t (isSome (attributes ty))) (refuseUnless 16 t (isSome (attribute a ty))) s
+      (ends-tested 17 t (isSome (attributes ty)) s
+      (ends-tested 16 t (isSome (attribute a ty)) s (logs-same e ins (r .inv) tt, refl) (refusal r 16 (omega arith) (omega arith)))
       (refusal r 17 (omega arith) (omega arith))))
       (refusal r 18 (omega arith) (omega arith)))
     where
@@ -209,7 +209,7 @@ module _ (e : Enums) (ins : List Tm) where
   operatorStep-logs (Plain o) r = goes (logs-same e ins (r .inv) tt, refl)
   operatorStep-logs (Ext o) r = goes (logs-same e ins (r .inv) tt, refl)
   operatorStep-logs {ty} {ts} (RecordGet a) r = recordGet-logs a (map typeOf (children (node (App ty (RecordGet a)) ts))) r
-  operatorStep-logs {ty} {ts} {s} (StringLike p) r = ends-ensure 15 (node (App ty (StringLike p)) ts) (lowEnough p) s (logs-same e ins (r .inv) tt, refl) (refusal r 15 (omega arith) (omega arith))
+  operatorStep-logs {ty} {ts} {s} (StringLike p) r = ends-tested 15 (node (App ty (StringLike p)) ts) (lowEnough p) s (logs-same e ins (r .inv) tt, refl) (refusal r 15 (omega arith) (omega arith))
   operatorStep-logs {s = s} {log = log} (Uuf f) r = goes-map (λ s′ l. l) (encodeUuf-logs e ins f s log (isApplied (r .needed)) (r .inv))
   operatorStep-logs (ZeroExtend n) r = goes (logs-same e ins (r .inv) tt, refl)
 
@@ -250,7 +250,7 @@ module _ (e : Enums) (ins : List Tm) where
   encodeNew-logs (Var id ty) ts s log r = goes (entered-named r _ tt (λ n. absurd n) tt refl)
   encodeNew-logs (BoolLit b) ts s log r = goes (unentered r tt tt)
   encodeNew-logs (BitVecLit n v) ts s log r = goes (unentered r tt tt)
-  encodeNew-logs (StringLit x) ts s log r = ends-ensure 15 (node (StringLit x) ts) (lowEnough (codePoints x)) s (unentered r tt tt) (refusal r 15 (omega arith) (omega arith))
+  encodeNew-logs (StringLit x) ts s log r = ends-tested 15 (node (StringLit x) ts) (lowEnough (codePoints x)) s (unentered r tt tt) (refusal r 15 (omega arith) (omega arith))
   encodeNew-logs (Entity ty id) ts s log r = entity-logs ty id ts s log r
   encodeNew-logs (ExtLit v) ts s log r = defined r tt tt tt tt
   encodeNew-logs (None ty) ts s log r = defined r tt tt tt tt

@@ -26,7 +26,7 @@ use Rattle.index.proofs.Cells.{shared, Apart, length-store, cell-store-same, ce
 use Rattle.index.proofs.Growth.{counts-together}
 use Rattle.index.proofs.Rows.{listed-same, types-fit, funs-fit, terms-fit}
 use Rattle.index.proofs.Firsts.{FirstEqual, Equality, first-below, first-types, first-funs, first-terms, equal-types, equal-funs, equal-terms}
-use Rattle.walk_names.specs.Naming.{typeName, funName, termName, isName, hasNames, nameIn, raised, nameStored, nameAt, placeOf, Table, Numbers, Kept}
+use Rattle.walk_names.specs.Naming.{typeNames, funNames, termNames, isName, hasNames, nameIn, raised, nameStored, nameAt, placeOf, Table, Numbers, Kept}
 use Rattle.walk_names.proofs.Tables.{table-start, table-same, table-place, table-enter}
 
 -- ---- memories that differ in names alone
@@ -40,13 +40,13 @@ kept-trans p q = record { size = q .size ∙ p .size; others = λ column i h. q 
 -- a column of names has names, and so has the one that it shares with
 names-both : (column : ℕ) → isName column ≡ true → (hasNames column ≡ true) × (hasNames (shared column) ≡ true)
 unfolding isName hasNames shared placed
-names-both column h = go (ℕ-discrete column typeName) (ℕ-discrete column funName) (ℕ-discrete column termName)
+names-both column h = go (ℕ-discrete column typeNames) (ℕ-discrete column funNames) (ℕ-discrete column termNames)
   where
-    go : Dec (column ≡ typeName) → Dec (column ≡ funName) → Dec (column ≡ termName) → (hasNames column ≡ true) × (hasNames (shared column) ≡ true)
+    go : Dec (column ≡ typeNames) → Dec (column ≡ funNames) → Dec (column ≡ termNames) → (hasNames column ≡ true) × (hasNames (shared column) ≡ true)
     go (yes e) b c = rw e (refl, refl)
     go (no a) (yes e) c = rw e (refl, refl)
     go (no a) (no b) (yes e) = rw e (refl, refl)
-    go (no a) (no b) (no c) = absurd (true≢false (sym h ∙ rw (ne-eqb column typeName a, ne-eqb column funName b, ne-eqb column termName c)))
+    go (no a) (no b) (no c) = absurd (true≢false (sym h ∙ rw (ne-eqb column typeNames a, ne-eqb column funNames b, ne-eqb column termNames c)))
 
 pub kept-store : (work : List ℕ) (k column i v : ℕ) → isName column ≡ true → Kept work (nameStored work k column i v) k
 unfolding nameStored
@@ -144,69 +144,69 @@ unfolding write
 numbers-write cs N = record { type-table = N .type-table; fun-table = N .fun-table; term-table = N .term-table }
 
 module _ {file : Bytes} {f : TermFile} {work : List ℕ} {k : ℕ} {S : State} (I : Rows file f work k) (N : Numbers f work k S) (n v : ℕ) where
-  pub numbers-type : n < length (types f) → nameIn work k typeName (firstType f n) ≡ 0 → v ≡ length (S .types) + 1 → v < 4294967040
-      → Numbers f (nameStored work k typeName (firstType f n) v) k (enterType (typeAt f n) S)
+  pub numbers-type : n < length (types f) → nameIn work k typeNames (firstType f n) ≡ 0 → v ≡ length (S .types) + 1 → v < 4294967040
+      → Numbers f (nameStored work k typeNames (firstType f n) v) k (enterType (typeAt f n) S)
   unfolding enterType shared placed
   numbers-type l z e small =
       let few = counts-together f in
       let fit = I .fit in
       let below = first-below (first-types f) n l in
       record {
-        type-table = table-stored (first-types f) equal-types work k typeName (I .fits) (omega arith) (λ q. omega arith) (types-fit I) n v l (N .type-table) z e small;
-        fun-table = table-beside (first-funs f) work k funName typeName (firstType f n) v (λ j h. record { other = λ e q. omega arith; facing = λ e q. omega arith }) (N .fun-table);
-        term-table = table-beside (first-terms f) work k termName typeName (firstType f n) v (λ j h. record { other = λ e q. omega arith; facing = λ e q. omega arith }) (N .term-table);
+        type-table = table-stored (first-types f) equal-types work k typeNames (I .fits) (omega arith) (λ q. omega arith) (types-fit I) n v l (N .type-table) z e small;
+        fun-table = table-beside (first-funs f) work k funNames typeNames (firstType f n) v (λ j h. record { other = λ e q. omega arith; facing = λ e q. omega arith }) (N .fun-table);
+        term-table = table-beside (first-terms f) work k termNames typeNames (firstType f n) v (λ j h. record { other = λ e q. omega arith; facing = λ e q. omega arith }) (N .term-table);
       }
 
-  pub numbers-fun : n < length (funs f) → nameIn work k funName (firstFun f n) ≡ 0 → v ≡ length (S .funs) + 1 → v < 4294967040
-      → Numbers f (nameStored work k funName (firstFun f n) v) k (enterFun (funAt f n) S)
+  pub numbers-fun : n < length (funs f) → nameIn work k funNames (firstFun f n) ≡ 0 → v ≡ length (S .funs) + 1 → v < 4294967040
+      → Numbers f (nameStored work k funNames (firstFun f n) v) k (enterFun (funAt f n) S)
   unfolding enterFun shared placed
   numbers-fun l z e small =
       let few = counts-together f in
       let fit = I .fit in
       let below = first-below (first-funs f) n l in
       record {
-        type-table = table-beside (first-types f) work k typeName funName (firstFun f n) v (λ j h. record { other = λ e q. omega arith; facing = λ e q. omega arith }) (N .type-table);
-        fun-table = table-stored (first-funs f) equal-funs work k funName (I .fits) (omega arith) (λ q. omega arith) (funs-fit I) n v l (N .fun-table) z e small;
-        term-table = table-beside (first-terms f) work k termName funName (firstFun f n) v (λ j h. record { other = λ e q. omega arith; facing = λ e q. omega arith }) (N .term-table);
+        type-table = table-beside (first-types f) work k typeNames funNames (firstFun f n) v (λ j h. record { other = λ e q. omega arith; facing = λ e q. omega arith }) (N .type-table);
+        fun-table = table-stored (first-funs f) equal-funs work k funNames (I .fits) (omega arith) (λ q. omega arith) (funs-fit I) n v l (N .fun-table) z e small;
+        term-table = table-beside (first-terms f) work k termNames funNames (firstFun f n) v (λ j h. record { other = λ e q. omega arith; facing = λ e q. omega arith }) (N .term-table);
       }
 
-  pub numbers-term : n < length (terms f) → nameIn work k termName (firstTerm f n) ≡ 0 → v ≡ length (S .terms) + 1 → v < 4294967040
-      → Numbers f (nameStored work k termName (firstTerm f n) v) k (enterTerm (termAt f n) S)
+  pub numbers-term : n < length (terms f) → nameIn work k termNames (firstTerm f n) ≡ 0 → v ≡ length (S .terms) + 1 → v < 4294967040
+      → Numbers f (nameStored work k termNames (firstTerm f n) v) k (enterTerm (termAt f n) S)
   unfolding enterTerm shared placed
   numbers-term l z e small =
       let few = counts-together f in
       let fit = I .fit in
       let below = first-below (first-terms f) n l in
       record {
-        type-table = table-beside (first-types f) work k typeName termName (firstTerm f n) v (λ j h. record { other = λ e q. omega arith; facing = λ e q. omega arith }) (N .type-table);
-        fun-table = table-beside (first-funs f) work k funName termName (firstTerm f n) v (λ j h. record { other = λ e q. omega arith; facing = λ e q. omega arith }) (N .fun-table);
-        term-table = table-stored (first-terms f) equal-terms work k termName (I .fits) (omega arith) (λ q. omega arith) (terms-fit I) n v l (N .term-table) z e small;
+        type-table = table-beside (first-types f) work k typeNames termNames (firstTerm f n) v (λ j h. record { other = λ e q. omega arith; facing = λ e q. omega arith }) (N .type-table);
+        fun-table = table-beside (first-funs f) work k funNames termNames (firstTerm f n) v (λ j h. record { other = λ e q. omega arith; facing = λ e q. omega arith }) (N .fun-table);
+        term-table = table-stored (first-terms f) equal-terms work k termNames (I .fits) (omega arith) (λ q. omega arith) (terms-fit I) n v l (N .term-table) z e small;
       }
 
 -- ---- names by numbers of records
 
 module _ {file : Bytes} {f : TermFile} {work : List ℕ} {k : ℕ} (I : Rows file f work k) (n : ℕ) where
-  pub nameAt-type : n < length (types f) → nameAt work k typeFirst typeName n ≡ nameIn work k typeName (firstType f n)
+  pub nameAt-type : n < length (types f) → nameAt work k typeFirst typeNames n ≡ nameIn work k typeNames (firstType f n)
   unfolding nameAt
-  nameAt-type l = ap (nameIn work k typeName) (I .type-row n l .first)
+  nameAt-type l = ap (nameIn work k typeNames) (I .type-row n l .first)
 
-  pub nameAt-fun : n < length (funs f) → nameAt work k funFirst funName n ≡ nameIn work k funName (firstFun f n)
+  pub nameAt-fun : n < length (funs f) → nameAt work k funFirst funNames n ≡ nameIn work k funNames (firstFun f n)
   unfolding nameAt
-  nameAt-fun l = ap (nameIn work k funName) (I .fun-row n l .first)
+  nameAt-fun l = ap (nameIn work k funNames) (I .fun-row n l .first)
 
-  pub nameAt-term : n < length (terms f) → nameAt work k termFirst termName n ≡ nameIn work k termName (firstTerm f n)
+  pub nameAt-term : n < length (terms f) → nameAt work k termFirst termNames n ≡ nameIn work k termNames (firstTerm f n)
   unfolding nameAt
-  nameAt-term l = ap (nameIn work k termName) (I .term-row n l .first)
+  nameAt-term l = ap (nameIn work k termNames) (I .term-row n l .first)
 
   module _ {S : State} (N : Numbers f work k S) where
-    pub place-type : n < length (types f) → place (eqTy (typeAt f n)) (S .types) ≡ placeOf (nameAt work k typeFirst typeName n)
+    pub place-type : n < length (types f) → place (eqTy (typeAt f n)) (S .types) ≡ placeOf (nameAt work k typeFirst typeNames n)
     place-type l = table-place (N .type-table) n l ∙ ap placeOf (sym (nameAt-type l))
 
-    pub name-fun : n < length (funs f) → names S .func (funAt f n) ≡ numbered (bytes "f") (placeOf (nameAt work k funFirst funName n))
+    pub name-fun : n < length (funs f) → names S .func (funAt f n) ≡ numbered (bytes "f") (placeOf (nameAt work k funFirst funNames n))
     unfolding names
     name-fun l = ap (numbered (bytes "f")) (table-place (N .fun-table) n l ∙ ap placeOf (sym (nameAt-fun l)))
 
-    pub name-term : n < length (terms f) → names S .term (termAt f n) ≡ numbered (bytes "t") (placeOf (nameAt work k termFirst termName n))
+    pub name-term : n < length (terms f) → names S .term (termAt f n) ≡ numbered (bytes "t") (placeOf (nameAt work k termFirst termNames n))
     unfolding names
     name-term l = ap (numbered (bytes "t")) (table-place (N .term-table) n l ∙ ap placeOf (sym (nameAt-term l)))
 

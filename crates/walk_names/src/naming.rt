@@ -5,7 +5,7 @@ ghost use mathlib.Core.List.{[], _∷_};
 ghost use Rattle.script_spec.specs.Walk.{numbered};
 ghost use Rattle.index.specs.Cells.{cell, termFirst};
 ghost use Rattle.write_bytes.specs.Writing.{Appends};
-ghost use Rattle.walk_names.specs.Naming.{nameAt, termName, raised, nameStored, placeOf};
+ghost use Rattle.walk_names.specs.Naming.{nameAt, termNames, raised, nameStored, placeOf};
 
 // The columns of the names: those of depths, which only check needs, serve for types and terms.
 pub const TYPE_NAME: usize = index::TYPE_DEPTH;
@@ -34,7 +34,7 @@ pub fn get(work: &[u32], rows: usize, first: usize, column: usize, n: usize) -> 
 
 // What stands for the name of the term with number n.
 pub fn term_name(work: &[u32], rows: usize, n: u32) -> u32
-    ensures { λ r. ⌜ r ≡ nameAt (now (work .entry)) rows termFirst termName n ⌝ }
+    ensures { λ r. ⌜ r ≡ nameAt (now (work .entry)) rows termFirst termNames n ⌝ }
 {
     get(work, rows, index::TERM_FIRST, TERM_NAME, n as usize)
 }

@@ -10,13 +10,13 @@ use lib.ListN.{length}
 use Rattle.script_spec.specs.Base.{Bytes, any, isSome}
 use Rattle.script_spec.specs.Tree.{Tm, Ty, typeOf, eqTy, attributes, attribute}
 use Rattle.script_spec.specs.File.{TermFile, types, termAt, typeAt}
-use Rattle.script_spec.specs.Walk.{State, went, stopped, _>>_, ensure, recordGet}
+use Rattle.script_spec.specs.Walk.{State, went, stopped, _>>_, refuseUnless, recordGet}
 use Rattle.script_spec.proofs.Laws.{any-place}
 use Rattle.index.specs.Cells.{cell, typeFirst, termType}
 use Rattle.index.specs.First.{All, Below}
 use Rattle.index.specs.Meaning.{Index}
 use Rattle.index.specs.declared.Sizes.{Sizes}
-use Rattle.walk_names.specs.Naming.{Numbers, nameAt, typeName, placeOf}
+use Rattle.walk_names.specs.Naming.{Numbers, nameAt, typeNames, placeOf}
 use Rattle.walk_names.proofs.Names.{place-type}
 use Rattle.index_entry.specs.Terms.{childrenIn}
 use Rattle.index_entry.specs.Children.{TakesChild}
@@ -36,21 +36,21 @@ use Rattle.walk_new.proofs.Testing.{tests-passed, tests-stopped}
 
 -- the three tests of a type: a name, attributes, this attribute
 get-unnamed : (t : Tm) (a : Bytes) (ty : Ty) (S : State) → any (eqTy ty) (S .types) ≡ false → recordGet t a (ty ∷ []) S ≡ stopped 18 t
-unfolding recordGet _>>_ ensure
+unfolding recordGet _>>_ refuseUnless
 get-unnamed t a ty S e = rw (e, recordGet, _>>_)
 
 get-plain : (t : Tm) (a : Bytes) (ty : Ty) (S : State) → any (eqTy ty) (S .types) ≡ true → isSome (attributes ty) ≡ false → recordGet t a (ty ∷ []) S ≡ stopped 17 t
-unfolding recordGet _>>_ ensure
+unfolding recordGet _>>_ refuseUnless
 get-plain t a ty S e h = rw (e, h, recordGet, _>>_)
 
 get-missing : (t : Tm) (a : Bytes) (ty : Ty) (S : State) → any (eqTy ty) (S .types) ≡ true → isSome (attributes ty) ≡ true → isSome (attribute a ty) ≡ false
     → recordGet t a (ty ∷ []) S ≡ stopped 16 t
-unfolding recordGet _>>_ ensure
+unfolding recordGet _>>_ refuseUnless
 get-missing t a ty S e h g = rw (e, h, g, recordGet, _>>_)
 
 get-found : (t : Tm) (a : Bytes) (ty : Ty) (S : State) → any (eqTy ty) (S .types) ≡ true → isSome (attributes ty) ≡ true → isSome (attribute a ty) ≡ true
     → recordGet t a (ty ∷ []) S ≡ went S
-unfolding recordGet _>>_ ensure
+unfolding recordGet _>>_ refuseUnless
 get-found t a ty S e h g = rw (e, h, g, recordGet, _>>_)
 
 -- a number that stands for a name, or for none
@@ -63,11 +63,11 @@ unfolding isSome placeOf
 is-named zero h = absurd (h refl)
 is-named (suc v) h = refl
 
-module _ {file : Bytes} {f : TermFile} {sizes : Sizes} {work : List ℕ} {S : State} (t v : ℕ) (e : v ≡ nameAt work (sizes .rows) typeFirst typeName t) (I : Index file f work sizes) (N : Numbers f work (sizes .rows) S) (l : t < length (types f)) where
+module _ {file : Bytes} {f : TermFile} {sizes : Sizes} {work : List ℕ} {S : State} (t v : ℕ) (e : v ≡ nameAt work (sizes .rows) typeFirst typeNames t) (I : Index file f work sizes) (N : Numbers f work (sizes .rows) S) (l : t < length (types f)) where
   any-type : any (eqTy (typeAt f t)) (S .types) ≡ isSome (placeOf v)
   any-type = any-place (eqTy (typeAt f t)) (S .types) ∙ ap isSome (place-type (I .rows) t N l) ∙ ap (λ (m : ℕ). isSome (placeOf m)) (sym e)
 
-module _ {file : Bytes} {sizes : Sizes} {n t v : ℕ} (a : Bytes) {work : List ℕ} {p : Progress} (z : p .refused ≡ 0) (name : v ≡ nameAt work (sizes .rows) typeFirst typeName t) where
+module _ {file : Bytes} {sizes : Sizes} {n t v : ℕ} (a : Bytes) {work : List ℕ} {p : Progress} (z : p .refused ≡ 0) (name : v ≡ nameAt work (sizes .rows) typeFirst typeNames t) where
   pub attribute-unnamed : {p′ : Progress} → v ≡ 0 → p′ ≡ refusedAt p 18 n → Tests file sizes (TypedAt n t) (attributeWalk n t a) work p p′
   unfolding attributeWalk
   attribute-unnamed h q =
@@ -110,7 +110,7 @@ first-below n r rs h = h .0
 module _ {file : Bytes} {sizes : Sizes} {n : ℕ} {work : List ℕ} (body : Bytes) (c : Children) (a : Bytes) {p : Progress} (z : p .refused ≡ 0) where
   -- no child
   pub get-none : {p′ : Progress} → c .left ≡ 0 → p′ ≡ refusedAt p 19 n → Tests file sizes (ParentAt n (childrenIn body c)) (getWalk n a) work p p′
-  unfolding getWalk recordGet ensure
+  unfolding getWalk recordGet refuseUnless
   get-none e q = tests-stopped 19 n z (omega arith) q (λ f S I R N. (R .below, rw (R .are, no-children body c e)))
 
   -- the first child's type

@@ -17,7 +17,7 @@ use Rattle.index.specs.First.{firstTerm}
 use Rattle.index.specs.Meaning.{Index}
 use Rattle.index.specs.declared.Sizes.{Sizes}
 use Rattle.index.proofs.Rows.{terms-fit}
-use Rattle.walk_names.specs.Naming.{termName, nameStored, isName, Kept}
+use Rattle.walk_names.specs.Naming.{termNames, nameStored, isName, Kept}
 use Rattle.walk_names.proofs.Names.{kept-store, numbers-term}
 use Rattle.walk_names.proofs.Tables.{table-known}
 use Rattle.walk_names.specs.Progress.{Went}
@@ -32,7 +32,7 @@ countedTo p n = record { at = p .at; limit = p .limit; types = p .types; funs = 
 module _ {file : Bytes} {f : TermFile} {sizes : Sizes} {limit : ℕ} {o out : Bytes} {work : List ℕ} {p : Progress} {S : State} where
   -- a term is entered by a store
   went-enter : (n v : ℕ) → Index file f work sizes → n < length (terms f) → any (eqTm (termAt f n)) (S .terms) ≡ false → v ≡ min (p .terms + 1) 4294967295
-      → Went f (sizes .rows) limit o work out p S → Went f (sizes .rows) limit o (nameStored work (sizes .rows) termName (firstTerm f n) v) out (countedTo p v) (enterTerm (termAt f n) S)
+      → Went f (sizes .rows) limit o work out p S → Went f (sizes .rows) limit o (nameStored work (sizes .rows) termNames (firstTerm f n) v) out (countedTo p v) (enterTerm (termAt f n) S)
   unfolding enterTerm
   went-enter n v I l new sum W =
       let taken = W .numbers .term-table .taken in
@@ -56,14 +56,14 @@ enters-refused h = record { go = λ file out. advances-refused h }
 
 -- the step by a store
 module _ {sizes : Sizes} {n v : ℕ} {work work′ : List ℕ} {p p′ : Progress} where
-  pub enters : (at : ℕ) → at ≡ n → p .refused ≡ 0 → v ≡ min (p .terms + 1) 4294967295 → work′ ≡ nameStored work (sizes .rows) termName (cell work (sizes .rows) termFirst at) v → p′ ≡ countedTo p v → EntersTerm sizes n work p work′ p′
+  pub enters : (at : ℕ) → at ≡ n → p .refused ≡ 0 → v ≡ min (p .terms + 1) 4294967295 → work′ ≡ nameStored work (sizes .rows) termNames (cell work (sizes .rows) termFirst at) v → p′ ≡ countedTo p v → EntersTerm sizes n work p work′ p′
   unfolding enterWalk walk.enter isName
   enters at same z sum e′ q =
-      let e : work′ ≡ nameStored work (sizes .rows) termName (cell work (sizes .rows) termFirst n) v = e′ ∙ ap (λ (i : ℕ). nameStored work (sizes .rows) termName (cell work (sizes .rows) termFirst i) v) same in
+      let e : work′ ≡ nameStored work (sizes .rows) termNames (cell work (sizes .rows) termFirst n) v = e′ ∙ ap (λ (i : ℕ). nameStored work (sizes .rows) termNames (cell work (sizes .rows) termFirst i) v) same in
       record {
         go = λ file out.
-            advances-went (subst (λ (w : List ℕ). Kept work w (sizes .rows)) (sym e) (kept-store work (sizes .rows) termName (cell work (sizes .rows) termFirst n) v refl)) z
+            advances-went (subst (λ (w : List ℕ). Kept work w (sizes .rows)) (sym e) (kept-store work (sizes .rows) termNames (cell work (sizes .rows) termFirst n) v refl)) z
             (λ f limit o S I r W.
-            let place : work′ ≡ nameStored work (sizes .rows) termName (firstTerm f n) v = e ∙ ap (λ (i : ℕ). nameStored work (sizes .rows) termName i v) (I .rows .term-row n (r .below) .first) in
+            let place : work′ ≡ nameStored work (sizes .rows) termNames (firstTerm f n) v = e ∙ ap (λ (i : ℕ). nameStored work (sizes .rows) termNames i v) (I .rows .term-row n (r .below) .first) in
             rw (place, q) (went-enter n v I (r .below) (r .new S refl) sum W));
       }

@@ -11,9 +11,9 @@ use Rattle.script_spec.specs.Utf8.{codePoints}
 use Rattle.script_spec.specs.Tree.{Tm, Enums, enumOf}
 use Rattle.script_spec.specs.File.{TermFile, members, typeAt, termAt}
 use Rattle.script_spec.specs.Walk as walk
-use Rattle.script_spec.specs.Walk.{State, Step, went, stopped, Walk, _>>_, ensure, lowEnough, defineEntity}
+use Rattle.script_spec.specs.Walk.{State, Step, went, stopped, Walk, _>>_, refuseUnless, lowEnough, defineEntity}
 use Rattle.script_spec.proofs.Laws.{any-place}
-use Rattle.script_spec.proofs.Steps.{Ends, went-ne-stopped, ends-went, ends-ensure}
+use Rattle.script_spec.proofs.Steps.{Ends, went-ne-stopped, ends-went, ends-tested}
 use Rattle.script_spec.proofs.EnteredTerms.{New}
 use Rattle.walk_names.specs.Sticky.{sticky}
 use Rattle.walk_names.specs.Progress.{Advances}
@@ -42,11 +42,11 @@ new-after n f (stopped c t) w r h = record { below = r .below; new = λ S′ e. 
 module _ (e : Enums) (t : Tm) (id : Bytes) (o : Option (List Bytes)) (ms : List Bytes) (S : State) (h : o ≡ some ms) where
   -- no member, and a member
   not-member : any (same id) ms ≡ false → defineEntity e t id o S ≡ stopped 14 t
-  unfolding defineEntity _>>_ ensure
+  unfolding defineEntity _>>_ refuseUnless
   not-member g = rw (h, g, defineEntity, _>>_)
 
   is-member : any (same id) ms ≡ true → defineEntity e t id o S ≡ walk.enter t S
-  unfolding defineEntity _>>_ ensure
+  unfolding defineEntity _>>_ refuseUnless
   is-member g = rw (h, g, defineEntity, _>>_)
 
 module _ {file : Bytes} {sizes : Sizes} {n : ℕ} (id : Bytes) {work work′ : List ℕ} {out out′ : Bytes} {p q r : Progress} where
@@ -57,7 +57,7 @@ module _ {file : Bytes} {sizes : Sizes} {n : ℕ} (id : Bytes) {work work′ : L
   string-entity T D =
       advances-then (textWalk n id) (defineWalk n)
       (advances-by (λ f x I s. (record { below = s .at .at .below; utf8 = s .utf8 }, λ S. refl)) (T .go file sizes work .go out)) D
-      (λ f x s. record { at = new-after n f x (textWalk n id f) (s .at .at) (λ S new. ends-ensure 15 (termAt f n) (lowEnough (codePoints id)) S new tt); is = s .at .is })
+      (λ f x s. record { at = new-after n f x (textWalk n id f) (s .at .at) (λ S new. ends-tested 15 (termAt f n) (lowEnough (codePoints id)) S new tt); is = s .at .is })
 
 module _ {file : Bytes} {sizes : Sizes} {n t : ℕ} (id : Bytes) {work : List ℕ} {out : Bytes} {p q : Progress} {r : Member} (F : FindsMember file work sizes t id r) where
   pub entity-plain : {work′ : List ℕ} {out′ : Bytes} → r ≡ member.NoEnum → Advances file sizes (StringAt n id) (stringWalk n id) work out p work′ out′ q

@@ -14,7 +14,7 @@ use Rattle.script_spec.specs.Tree as tree
 use Rattle.script_spec.specs.Tree.{Tm, Ty, Forest, Mark, TermMark, node, Enums, enumOf, isVariable, negation}
 use Rattle.script_spec.specs.Fields.{term}
 use Rattle.script_spec.specs.File.{TermFile, types, funs, terms, members, typeAt, termAt, namedMark}
-use Rattle.script_spec.specs.Walk.{State, Step, went, ensure, lowEnough, defineTerm, defineEntity, defineApp, encodeNew}
+use Rattle.script_spec.specs.Walk.{State, Step, went, refuseUnless, lowEnough, defineTerm, defineEntity, defineApp, encodeNew}
 use Rattle.walk_names.proofs.Sticky.{sticky-nothing}
 use Rattle.index.specs.Cells.{cell, termOffset}
 use Rattle.index.specs.First.{MarkInRange}
@@ -80,7 +80,7 @@ module _ (e : Enums) (u : Tm) (ts : Forest Mark) (S : State) where
   unfolding encodeNew
   step-entity ty id h = rw h
 
-  step-string : (id : Bytes) → u ≡ node (tree.StringLit id) ts → encodeNew e u S ≡ ensure 15 u (lowEnough (codePoints id)) S
+  step-string : (id : Bytes) → u ≡ node (tree.StringLit id) ts → encodeNew e u S ≡ refuseUnless 15 u (lowEnough (codePoints id)) S
   unfolding encodeNew
   step-string id h = rw h
 

@@ -10,7 +10,7 @@ use Rattle.script_spec.specs.Base.{Bytes}
 use Rattle.script_spec.specs.Utf8.{codePoints}
 use Rattle.script_spec.specs.Tree.{Tm}
 use Rattle.script_spec.specs.File.{TermFile, terms, termAt}
-use Rattle.script_spec.specs.Walk.{State, Step, went, stopped, Walk, ensure, lowEnough}
+use Rattle.script_spec.specs.Walk.{State, Step, went, stopped, Walk, refuseUnless, lowEnough}
 use Rattle.index.specs.Meaning.{Index}
 use Rattle.index.specs.declared.Sizes.{Sizes}
 use Rattle.walk_names.specs.Naming.{Numbers}
@@ -23,12 +23,12 @@ use Rattle.walk_new.specs.Steps.{termReady, textWalk, patternWalk, Tests
 -- ---- tests
 
 -- a test that passes, and one that does not
-ensured : (c : ℕ) (t : Tm) (b : Bool) (S : State) → b ≡ true → ensure c t b S ≡ went S
-unfolding ensure
-ensured c t b S e = rw e
+passes : (c : ℕ) (t : Tm) (b : Bool) (S : State) → b ≡ true → refuseUnless c t b S ≡ went S
+unfolding refuseUnless
+passes c t b S e = rw e
 
-refuses : (c : ℕ) (t : Tm) (b : Bool) (S : State) → b ≡ false → ensure c t b S ≡ stopped c t
-unfolding ensure
+refuses : (c : ℕ) (t : Tm) (b : Bool) (S : State) → b ≡ false → refuseUnless c t b S ≡ stopped c t
+unfolding refuseUnless
 refuses c t b S e = rw e
 
 module _ {file : Bytes} {sizes : Sizes} {ready : TermFile → Step → Type 0} {test : TermFile → Walk} {work : List ℕ} {p : Progress} where
@@ -54,7 +54,7 @@ module _ {n : ℕ} {s : Bytes} {p : Progress} where
   unfolding textWalk
   text-passed z e h =
       record {
-        go = λ file sizes work. tests-passed z (λ f S I r N. ensured 15 (termAt f n) (lowEnough (codePoints s)) S (ap lowEnough (sym (utf8-points s (r .utf8))) ∙ sym e ∙ h));
+        go = λ file sizes work. tests-passed z (λ f S I r N. passes 15 (termAt f n) (lowEnough (codePoints s)) S (ap lowEnough (sym (utf8-points s (r .utf8))) ∙ sym e ∙ h));
       }
 
   pub text-stopped : {low : Bool} {p′ : Progress} → p .refused ≡ 0 → low ≡ lowEnough (points s) → low ≡ false → p′ ≡ refusedAt p 15 n → TestsText n s p p′
@@ -72,7 +72,7 @@ module _ {n : ℕ} {pattern : List ℕ} {p : Progress} where
 
   pub pattern-passed : {low : Bool} → p .refused ≡ 0 → low ≡ lowEnough pattern → low ≡ true → TestsPattern n pattern p p
   unfolding patternWalk
-  pattern-passed z e h = record { go = λ file sizes work. tests-passed z (λ f S I r N. ensured 15 (termAt f n) (lowEnough pattern) S (sym e ∙ h)) }
+  pattern-passed z e h = record { go = λ file sizes work. tests-passed z (λ f S I r N. passes 15 (termAt f n) (lowEnough pattern) S (sym e ∙ h)) }
 
   pub pattern-stopped : {low : Bool} {p′ : Progress} → p .refused ≡ 0 → low ≡ lowEnough pattern → low ≡ false → p′ ≡ refusedAt p 15 n → TestsPattern n pattern p p′
   unfolding patternWalk termReady

@@ -10,7 +10,7 @@ use Rattle.script_spec.specs.Utf8.{isUtf8, codePoints}
 use Rattle.script_spec.specs.Tree.{typeOf, children, eqTm}
 use Rattle.script_spec.specs.File.{TermFile, types, terms, members, typeAt, termAt}
 use Rattle.script_spec.specs.Walk as walk
-use Rattle.script_spec.specs.Walk.{State, Step, went, Walk, ensure, lowEnough, recordGet, encodeNew}
+use Rattle.script_spec.specs.Walk.{State, Step, went, Walk, refuseUnless, lowEnough, recordGet, encodeNew}
 use Rattle.index.specs.First.{Below}
 use Rattle.walk_names.specs.Progress.{Advances}
 use Rattle.walk_names.specs.declared.progress.Progress.{Progress}
@@ -51,11 +51,11 @@ enterWalk n f = walk.enter (termAt f n)
 
 -- a text that SMT-LIB's strings have
 unfoldable pub textWalk : ℕ → Bytes → TermFile → Walk
-textWalk n s f = ensure 15 (termAt f n) (lowEnough (codePoints s))
+textWalk n s f = refuseUnless 15 (termAt f n) (lowEnough (codePoints s))
 
 -- a pattern that SMT-LIB's strings have
 unfoldable pub patternWalk : ℕ → List ℕ → TermFile → Walk
-patternWalk n p f = ensure 15 (termAt f n) (lowEnough p)
+patternWalk n p f = refuseUnless 15 (termAt f n) (lowEnough p)
 
 -- an attribute of the type with number t
 unfoldable pub attributeWalk : ℕ → ℕ → Bytes → TermFile → Walk

@@ -21,7 +21,7 @@ use Rattle.index.specs.First.{All, Below, MarkInRange}
 use Rattle.index.specs.Standing.{bodyAt}
 use Rattle.index.specs.Meaning.{Index, counted}
 use Rattle.index.specs.declared.Sizes.{Sizes}
-use Rattle.write_bitvec.specs.Value.{whole}
+use Rattle.write_bitvec.specs.Value.{ofHalves}
 use Rattle.read_field.specs.Answers.{spanned}
 use Rattle.read_operator.specs.Operators.{opOf}
 use Rattle.read_operator.specs.declared.Op.{Op}
@@ -152,7 +152,7 @@ module _ (body : Bytes) (f : TermFile) {m : TermMark ℕ ℕ} {rs : List ℕ} wh
   unfolding termSaid namedMark
   not-app-said (terms-entry.Var p t) o e q = let x = marked f m (tree.Var (spanned body p) t) (cc) q in never (cc)
   not-app-said (terms-entry.BoolLit b) o e q = let x = marked f m (tree.BoolLit b) (cc) q in never (cc)
-  not-app-said (terms-entry.BitVecLit n v) o e q = let x = marked f m (tree.BitVecLit n (whole (v .high) (v .low))) (cc) q in never (cc)
+  not-app-said (terms-entry.BitVecLit n v) o e q = let x = marked f m (tree.BitVecLit n (ofHalves (v .high) (v .low))) (cc) q in never (cc)
   not-app-said (terms-entry.StringLit p) o e q = let x = marked f m (tree.StringLit (spanned body p)) (cc) q in never (cc)
   not-app-said (terms-entry.Entity t p) o e q = let x = marked f m (tree.Entity t (spanned body p)) (cc) q in never (cc)
   not-app-said (terms-entry.ExtLit v) o e q = let x = marked f m (tree.ExtLit (valueOf v)) (cc) q in never (cc)

@@ -20,7 +20,7 @@ use Rattle.index.specs.First.{All, Below}
 use Rattle.index.specs.Standing.{bodyAt}
 use Rattle.index.specs.Meaning.{Index}
 use Rattle.index.specs.declared.Sizes.{Sizes}
-use Rattle.walk_names.specs.Naming.{termName, nameAt, Numbers}
+use Rattle.walk_names.specs.Naming.{termNames, nameAt, Numbers}
 use Rattle.walk_names.specs.Sticky.{sticky}
 use Rattle.walk_names.proofs.Names.{kept-trans, index-kept, nameAt-term}
 use Rattle.walk_names.proofs.Sticky.{sticky-went, sticky-nothing, sticky-then, unless-known, unless-new}
@@ -66,16 +66,16 @@ term-still-new e (node m ts) S S₁ h q =
 
 module _ {file : Bytes} {f : TermFile} {work : List ℕ} {sizes : Sizes} {S : State} (I : Index file f work sizes) (N : Numbers f work (sizes .rows) S) (n : ℕ) (l : n < length (terms f)) where
   -- a term is in the table where it has a name
-  known-by : any (eqTm (termAt f n)) (S .terms) ≡ not (eqb (nameAt work (sizes .rows) termFirst termName n) 0)
+  known-by : any (eqTm (termAt f n)) (S .terms) ≡ not (eqb (nameAt work (sizes .rows) termFirst termNames n) 0)
   known-by = table-known (N .term-table) n l ∙ ap (λ (m : ℕ). not (eqb m 0)) (sym (nameAt-term (I .rows) n l))
 
-  known : (nameAt work (sizes .rows) termFirst termName n ≡ 0 → ⊥) → any (eqTm (termAt f n)) (S .terms) ≡ true
-  known h = known-by ∙ ap not (ne-eqb (nameAt work (sizes .rows) termFirst termName n) 0 h)
+  known : (nameAt work (sizes .rows) termFirst termNames n ≡ 0 → ⊥) → any (eqTm (termAt f n)) (S .terms) ≡ true
+  known h = known-by ∙ ap not (ne-eqb (nameAt work (sizes .rows) termFirst termNames n) 0 h)
 
-  unknown : nameAt work (sizes .rows) termFirst termName n ≡ 0 → any (eqTm (termAt f n)) (S .terms) ≡ false
-  unknown h = known-by ∙ ap not (eq-eqb (nameAt work (sizes .rows) termFirst termName n) 0 h)
+  unknown : nameAt work (sizes .rows) termFirst termNames n ≡ 0 → any (eqTm (termAt f n)) (S .terms) ≡ false
+  unknown h = known-by ∙ ap not (eq-eqb (nameAt work (sizes .rows) termFirst termNames n) 0 h)
 
-module _ {file : Bytes} {sizes : Sizes} {name : ℕ} {work : List ℕ} {out : Bytes} {p : Progress} (n : ℕ) (z : p .refused ≡ 0) (e : name ≡ nameAt work (sizes .rows) termFirst termName n) where
+module _ {file : Bytes} {sizes : Sizes} {name : ℕ} {work : List ℕ} {out : Bytes} {p : Progress} (n : ℕ) (z : p .refused ≡ 0) (e : name ≡ nameAt work (sizes .rows) termFirst termNames n) where
   -- a term that has a name is left
   pub leaves-term : (name ≡ 0 → ⊥) → Advances file sizes (termReady n) (termWalk n) work out p work out p
   unfolding termReady termWalk

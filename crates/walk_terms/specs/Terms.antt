@@ -13,7 +13,7 @@ use Rattle.index.specs.First.{Below}
 use Rattle.index.specs.Standing.{markAt, bodyAt}
 use Rattle.index.specs.Meaning.{Index}
 use Rattle.index.specs.declared.Sizes.{Sizes}
-use Rattle.walk_names.specs.Naming.{termName, nameAt}
+use Rattle.walk_names.specs.Naming.{termNames, nameAt}
 use Rattle.walk_names.specs.Progress.{Advances}
 use Rattle.walk_names.specs.declared.progress.Progress.{Progress}
 use Rattle.index_entry.specs.Terms.{childrenIn}
@@ -55,4 +55,4 @@ pub record ArgumentsToEncode (file : Bytes) (work : List ℕ) (sizes : Sizes) (n
 
 -- where nothing was refused and the term with number n has no name, memory, script and progress go on by encoding it
 pub record EncodesUnnamed (file : Bytes) (sizes : Sizes) (n : ℕ) (work : List ℕ) (out : Bytes) (p : Progress) (work′ : List ℕ) (out′ : Bytes) (p′ : Progress) : Type 0 where
-  pub go : p .refused ≡ 0 → nameAt work (sizes .rows) termFirst termName n ≡ 0 → Advances file sizes (termReady n) (termWalk n) work out p work′ out′ p′
+  pub go : p .refused ≡ 0 → nameAt work (sizes .rows) termFirst termNames n ≡ 0 → Advances file sizes (termReady n) (termWalk n) work out p work′ out′ p′

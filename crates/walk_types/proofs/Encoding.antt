@@ -14,7 +14,7 @@ use Rattle.script_spec.specs.Walk.{State, went}
 use Rattle.index.specs.Cells.{cell, funOffset, funFirst}
 use Rattle.index.specs.Meaning.{Index, counted}
 use Rattle.index.specs.declared.Sizes.{Sizes}
-use Rattle.walk_names.specs.Naming.{funName, nameAt, Numbers}
+use Rattle.walk_names.specs.Naming.{funNames, nameAt, Numbers}
 use Rattle.walk_names.proofs.Names.{kept-trans, index-kept, nameAt-fun}
 use Rattle.walk_names.proofs.Tables.{table-known}
 use Rattle.index_entry.specs.Symbols.{FunAt}
@@ -29,16 +29,16 @@ use Rattle.walk_types.proofs.Declaring.{fun-left, fun-new, funs-still, 
 
 module _ {file : Bytes} {f : TermFile} {work : List ℕ} {sizes : Sizes} {S : State} (I : Index file f work sizes) (N : Numbers f work (sizes .rows) S) (g : ℕ) (l : g < length (funs f)) where
   -- a function is in the table where it has a name
-  known-by : any (eqFun (funAt f g)) (S .funs) ≡ not (eqb (nameAt work (sizes .rows) funFirst funName g) 0)
+  known-by : any (eqFun (funAt f g)) (S .funs) ≡ not (eqb (nameAt work (sizes .rows) funFirst funNames g) 0)
   known-by = table-known (N .fun-table) g l ∙ ap (λ (n : ℕ). not (eqb n 0)) (sym (nameAt-fun (I .rows) g l))
 
-  known : (nameAt work (sizes .rows) funFirst funName g ≡ 0 → ⊥) → any (eqFun (funAt f g)) (S .funs) ≡ true
-  known h = known-by ∙ ap not (ne-eqb (nameAt work (sizes .rows) funFirst funName g) 0 h)
+  known : (nameAt work (sizes .rows) funFirst funNames g ≡ 0 → ⊥) → any (eqFun (funAt f g)) (S .funs) ≡ true
+  known h = known-by ∙ ap not (ne-eqb (nameAt work (sizes .rows) funFirst funNames g) 0 h)
 
-  unknown : nameAt work (sizes .rows) funFirst funName g ≡ 0 → any (eqFun (funAt f g)) (S .funs) ≡ false
-  unknown h = known-by ∙ ap not (eq-eqb (nameAt work (sizes .rows) funFirst funName g) 0 h)
+  unknown : nameAt work (sizes .rows) funFirst funNames g ≡ 0 → any (eqFun (funAt f g)) (S .funs) ≡ false
+  unknown h = known-by ∙ ap not (eq-eqb (nameAt work (sizes .rows) funFirst funNames g) 0 h)
 
-module _ {file : Bytes} {sizes : Sizes} {name : ℕ} {work : List ℕ} {out : Bytes} {p : Progress} (g : ℕ) (z : p .refused ≡ 0) (e : name ≡ nameAt work (sizes .rows) funFirst funName g) where
+module _ {file : Bytes} {sizes : Sizes} {name : ℕ} {work : List ℕ} {out : Bytes} {p : Progress} (g : ℕ) (z : p .refused ≡ 0) (e : name ≡ nameAt work (sizes .rows) funFirst funNames g) where
   -- a function that has a name is left
   pub leaves-fun : (name ≡ 0 → ⊥) → Advances file sizes (funReady g) (funWalk g) work out p work out p
   unfolding funReady funWalk

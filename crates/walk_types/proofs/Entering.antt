@@ -22,13 +22,13 @@ use Rattle.index.specs.First.{firstType, firstFun}
 use Rattle.index.specs.Meaning.{Index}
 use Rattle.index.specs.declared.Sizes.{Sizes}
 use Rattle.index.proofs.Rows.{types-fit, funs-fit}
-use Rattle.walk_names.specs.Naming.{typeName, funName, nameIn, nameStored, isName, Kept}
+use Rattle.walk_names.specs.Naming.{typeNames, funNames, nameIn, nameStored, isName, Kept}
 use Rattle.walk_names.proofs.Names.{kept-refl, kept-store, index-kept, numbers-type, numbers-fun}
 use Rattle.walk_names.proofs.Tables.{table-known}
 use Rattle.walk_names.specs.Progress.{Went, Advances}
 use Rattle.walk_names.specs.declared.progress.Progress.{Progress}
 use Rattle.walk_names.proofs.Running.{movedTo, script-one, went-line, advances-went, advances-passed}
-use Rattle.write_types.specs.Functions.{idOf, SpellsId, SpellsFun}
+use Rattle.write_types.specs.Functions.{idOf, SpellsFunId, SpellsFun}
 use Rattle.write_types.specs.Lines.{SpellsType}
 use Rattle.walk_types.specs.Types.{IsDatatype, NewType, declareWalk, funReady, idWalk, NewFun, declareFunWalk}
 use Rattle.walk_types.proofs.Declaring.{declares-none, declares-some}
@@ -48,7 +48,7 @@ either (some d) b e = (λ h. never cc, λ h next. next d refl)
 module _ {file : Bytes} {f : TermFile} {sizes : Sizes} {limit : ℕ} {o out : Bytes} {work : List ℕ} {p : Progress} {S : State} (t v : ℕ) where
   -- a type is entered by a store
   went-type : Index file f work sizes → t < length (types f) → any (eqTy (typeAt f t)) (S .types) ≡ false → v ≡ min (p .types + 1) 4294967295
-      → Went f (sizes .rows) limit o work out p S → Went f (sizes .rows) limit o (nameStored work (sizes .rows) typeName (firstType f t) v) out (namedTo p v (p .funs)) (enterType (typeAt f t) S)
+      → Went f (sizes .rows) limit o work out p S → Went f (sizes .rows) limit o (nameStored work (sizes .rows) typeNames (firstType f t) v) out (namedTo p v (p .funs)) (enterType (typeAt f t) S)
   unfolding enterType
   went-type I l new sum W =
       let N = W .numbers in
@@ -56,7 +56,7 @@ module _ {file : Bytes} {f : TermFile} {sizes : Sizes} {limit : ℕ} {o out : By
       let fit = types-fit (I .rows) in
       let small = I .small in
       let same = W .types-are in
-      let z : nameIn work (sizes .rows) typeName (firstType f t) ≡ 0 = eqb-true _ 0 (not-false _ (sym (table-known (N .type-table) t l) ∙ new)) in
+      let z : nameIn work (sizes .rows) typeNames (firstType f t) ≡ 0 = eqb-true _ 0 (not-false _ (sym (table-known (N .type-table) t l) ∙ new)) in
       let e : v ≡ length (S .types) + 1 = omega arith in
       record {
         numbers = numbers-type (I .rows) N t v l z e (omega arith);
@@ -76,16 +76,16 @@ module _ {file : Bytes} {sizes : Sizes} {t : ℕ} {work : List ℕ} {out : Bytes
 
   -- a datatype
   pub declares-type : {v from room n : ℕ} {work′ : List ℕ} {ys : Bytes} {q p′ : Progress} (at : ℕ) → at ≡ t → b ≡ true → v ≡ min (p .types + 1) 4294967295
-      → work′ ≡ nameStored work (sizes .rows) typeName (cell work (sizes .rows) typeFirst at) v → q ≡ namedTo p v (p .funs)
+      → work′ ≡ nameStored work (sizes .rows) typeNames (cell work (sizes .rows) typeFirst at) v → q ≡ namedTo p v (p .funs)
       → from ≡ min (q .at) (length out) → room ≡ ceiling (q .limit) - q .at → SpellsType file work′ sizes t room (take (length out - from) (drop from out)) ys n
       → p′ ≡ movedTo q (moved (q .at) n (ceiling (q .limit)))
       → Advances file sizes (NewType t) (declareWalk t) work out p work′ (take from out ++ (ys ++ drop (length out - from) (drop from out))) p′
   unfolding declareWalk isName
   declares-type {v} {work′ = work′} {q = q} at same h sum e′ eq hf hr L last =
-      let e : work′ ≡ nameStored work (sizes .rows) typeName (cell work (sizes .rows) typeFirst t) v = e′ ∙ ap (λ (i : ℕ). nameStored work (sizes .rows) typeName (cell work (sizes .rows) typeFirst i) v) same in
-      let K : Kept work work′ (sizes .rows) = subst (λ (w : List ℕ). Kept work w (sizes .rows)) (sym e) (kept-store work (sizes .rows) typeName (cell work (sizes .rows) typeFirst t) v refl) in
+      let e : work′ ≡ nameStored work (sizes .rows) typeNames (cell work (sizes .rows) typeFirst t) v = e′ ∙ ap (λ (i : ℕ). nameStored work (sizes .rows) typeNames (cell work (sizes .rows) typeFirst i) v) same in
+      let K : Kept work work′ (sizes .rows) = subst (λ (w : List ℕ). Kept work w (sizes .rows)) (sym e) (kept-store work (sizes .rows) typeNames (cell work (sizes .rows) typeFirst t) v refl) in
       advances-went {ready = NewType t} {walk = declareWalk t} K z (λ f limit o S I R W.
-      let there : work′ ≡ nameStored work (sizes .rows) typeName (firstType f t) v = e ∙ ap (λ (i : ℕ). nameStored work (sizes .rows) typeName i v) (I .rows .type-row t (R .inside) .first) in
+      let there : work′ ≡ nameStored work (sizes .rows) typeNames (firstType f t) v = e ∙ ap (λ (i : ℕ). nameStored work (sizes .rows) typeNames i v) (I .rows .type-row t (R .inside) .first) in
       let E : Went f (sizes .rows) limit o work′ out q (enterType (typeAt f t) S) = rw (eq, there) (went-type t v I (R .inside) (R .new S refl) sum W) in
       either (datatype (typeAt f t)) b (D .go f I (R .inside)) .1 h (λ d is.
       rw (declares-some (members f) (typeAt f t) S d is)
@@ -97,7 +97,7 @@ module _ {file : Bytes} {sizes : Sizes} {t : ℕ} {work : List ℕ} {out : Bytes
 module _ {file : Bytes} {f : TermFile} {sizes : Sizes} {limit : ℕ} {o out : Bytes} {work : List ℕ} {p : Progress} {S : State} (g v : ℕ) where
   -- a function is entered by a store
   went-fun : Index file f work sizes → g < length (funs f) → any (eqFun (funAt f g)) (S .funs) ≡ false → v ≡ min (p .funs + 1) 4294967295
-      → Went f (sizes .rows) limit o work out p S → Went f (sizes .rows) limit o (nameStored work (sizes .rows) funName (firstFun f g) v) out (namedTo p (p .types) v) (enterFun (funAt f g) S)
+      → Went f (sizes .rows) limit o work out p S → Went f (sizes .rows) limit o (nameStored work (sizes .rows) funNames (firstFun f g) v) out (namedTo p (p .types) v) (enterFun (funAt f g) S)
   unfolding enterFun
   went-fun I l new sum W =
       let N = W .numbers in
@@ -105,7 +105,7 @@ module _ {file : Bytes} {f : TermFile} {sizes : Sizes} {limit : ℕ} {o out : By
       let fit = funs-fit (I .rows) in
       let small = I .small in
       let same = W .funs-are in
-      let z : nameIn work (sizes .rows) funName (firstFun f g) ≡ 0 = eqb-true _ 0 (not-false _ (sym (table-known (N .fun-table) g l) ∙ new)) in
+      let z : nameIn work (sizes .rows) funNames (firstFun f g) ≡ 0 = eqb-true _ 0 (not-false _ (sym (table-known (N .fun-table) g l) ∙ new)) in
       let e : v ≡ length (S .funs) + 1 = omega arith in
       record {
         numbers = numbers-fun (I .rows) N g v l z e (omega arith);
@@ -119,7 +119,7 @@ module _ {file : Bytes} {f : TermFile} {sizes : Sizes} {limit : ℕ} {o out : By
 
 module _ {file : Bytes} {sizes : Sizes} {from room n : ℕ} {work : List ℕ} {out ys : Bytes} {p p′ : Progress} (g : ℕ) (z : p .refused ≡ 0) where
   -- its comment
-  pub writes-id : from ≡ min (p .at) (length out) → room ≡ ceiling (p .limit) - p .at → SpellsId file work sizes g room (take (length out - from) (drop from out)) ys n
+  pub writes-id : from ≡ min (p .at) (length out) → room ≡ ceiling (p .limit) - p .at → SpellsFunId file work sizes g room (take (length out - from) (drop from out)) ys n
       → p′ ≡ movedTo p (moved (p .at) n (ceiling (p .limit)))
       → Advances file sizes (funReady g) (idWalk g) work out p work (take from out ++ (ys ++ drop (length out - from) (drop from out))) p′
   unfolding funReady idWalk writing
@@ -129,16 +129,16 @@ module _ {file : Bytes} {sizes : Sizes} {from room n : ℕ} {work : List ℕ} {o
 
   -- its name and its declaration
   pub declares-fun : {v : ℕ} {work′ : List ℕ} {q : Progress} (at : ℕ) → at ≡ g → v ≡ min (p .funs + 1) 4294967295
-      → work′ ≡ nameStored work (sizes .rows) funName (cell work (sizes .rows) funFirst at) v → q ≡ namedTo p (p .types) v
+      → work′ ≡ nameStored work (sizes .rows) funNames (cell work (sizes .rows) funFirst at) v → q ≡ namedTo p (p .types) v
       → from ≡ min (q .at) (length out) → room ≡ ceiling (q .limit) - q .at → SpellsFun file work′ sizes g room (take (length out - from) (drop from out)) ys n
       → p′ ≡ movedTo q (moved (q .at) n (ceiling (q .limit)))
       → Advances file sizes (NewFun g) (declareFunWalk g) work out p work′ (take from out ++ (ys ++ drop (length out - from) (drop from out))) p′
   unfolding declareFunWalk declareFunction isName
   declares-fun {v} {work′} {q} at same sum e′ eq hf hr L last =
-      let e : work′ ≡ nameStored work (sizes .rows) funName (cell work (sizes .rows) funFirst g) v = e′ ∙ ap (λ (i : ℕ). nameStored work (sizes .rows) funName (cell work (sizes .rows) funFirst i) v) same in
-      let K : Kept work work′ (sizes .rows) = subst (λ (w : List ℕ). Kept work w (sizes .rows)) (sym e) (kept-store work (sizes .rows) funName (cell work (sizes .rows) funFirst g) v refl) in
+      let e : work′ ≡ nameStored work (sizes .rows) funNames (cell work (sizes .rows) funFirst g) v = e′ ∙ ap (λ (i : ℕ). nameStored work (sizes .rows) funNames (cell work (sizes .rows) funFirst i) v) same in
+      let K : Kept work work′ (sizes .rows) = subst (λ (w : List ℕ). Kept work w (sizes .rows)) (sym e) (kept-store work (sizes .rows) funNames (cell work (sizes .rows) funFirst g) v refl) in
       advances-went {ready = NewFun g} {walk = declareFunWalk g} K z (λ f limit o S I R W.
-      let there : work′ ≡ nameStored work (sizes .rows) funName (firstFun f g) v = e ∙ ap (λ (i : ℕ). nameStored work (sizes .rows) funName i v) (I .rows .fun-row g (R .inside) .first) in
+      let there : work′ ≡ nameStored work (sizes .rows) funNames (firstFun f g) v = e ∙ ap (λ (i : ℕ). nameStored work (sizes .rows) funNames i v) (I .rows .fun-row g (R .inside) .first) in
       let E : Went f (sizes .rows) limit o work′ out q (enterFun (funAt f g) S) = rw (eq, there) (went-fun g v I (R .inside) (R .new S refl) sum W) in
       went-line (funDeclaration (names (enterFun (funAt f g) S)) (funAt f g) ∷ [])
       hf hr (line-says (script-one (funDeclaration (names (enterFun (funAt f g) S)) (funAt f g))) (L .go f (enterFun (funAt f g) S) (index-kept K I) (E .numbers) (R .inside))) last E)

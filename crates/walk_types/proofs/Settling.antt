@@ -20,7 +20,7 @@ use Rattle.index.specs.Cells.{cell, typeOffset, typeFirst}
 use Rattle.index.specs.Standing.{markAt, bodyAt, entryAt}
 use Rattle.index.specs.Meaning.{Index}
 use Rattle.index.specs.declared.Sizes.{Sizes}
-use Rattle.walk_names.specs.Naming.{typeName, nameAt}
+use Rattle.walk_names.specs.Naming.{typeNames, nameAt}
 use Rattle.walk_names.specs.Sticky.{sticky}
 use Rattle.walk_names.proofs.Names.{kept-refl}
 use Rattle.walk_names.proofs.Sticky.{sticky-then}
@@ -114,7 +114,7 @@ module _ {file : Bytes} {work : List ℕ} {sizes : Sizes} {t : ℕ} where
         (rw (b .0) (part-settled (members f) (typeAt f n) S (P .go h f S I N (omega arith)))));
   }
 
-  pub settled-name : {name : ℕ} {r : Bool} → name ≡ nameAt work (sizes .rows) typeFirst typeName t → r ≡ not (eqb name 0) → Settled file work sizes t r
+  pub settled-name : {name : ℕ} {r : Bool} → name ≡ nameAt work (sizes .rows) typeFirst typeNames t → r ≡ not (eqb name 0) → Settled file work sizes t r
   unfolding typeWalk
   settled-name e q = record { go = λ h f S I N l. type-left (members f) (typeAt f t) S (known-by I N t l ∙ ap (λ (n : ℕ). not (eqb n 0)) (sym e) ∙ sym q ∙ h) }
 

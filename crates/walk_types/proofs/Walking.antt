@@ -17,7 +17,7 @@ use Rattle.index.specs.First.{All, Below}
 use Rattle.index.specs.Standing.{bodyAt}
 use Rattle.index.specs.Meaning.{Index, counted}
 use Rattle.index.specs.declared.Sizes.{Sizes}
-use Rattle.walk_names.specs.Naming.{typeName, nameAt, Numbers}
+use Rattle.walk_names.specs.Naming.{typeNames, nameAt, Numbers}
 use Rattle.walk_names.specs.Sticky.{sticky}
 use Rattle.walk_names.proofs.Names.{kept-trans, index-kept, nameAt-type}
 use Rattle.walk_names.proofs.Sticky.{sticky-nothing}
@@ -36,16 +36,16 @@ use Rattle.walk_types.proofs.Declaring.{type-left, type-new, type-still
 
 module _ {file : Bytes} {f : TermFile} {work : List ℕ} {sizes : Sizes} {S : State} (I : Index file f work sizes) (N : Numbers f work (sizes .rows) S) (t : ℕ) (l : t < length (types f)) where
   -- a type is in the table where it has a name
-  pub known-by : any (eqTy (typeAt f t)) (S .types) ≡ not (eqb (nameAt work (sizes .rows) typeFirst typeName t) 0)
+  pub known-by : any (eqTy (typeAt f t)) (S .types) ≡ not (eqb (nameAt work (sizes .rows) typeFirst typeNames t) 0)
   known-by = table-known (N .type-table) t l ∙ ap (λ (n : ℕ). not (eqb n 0)) (sym (nameAt-type (I .rows) t l))
 
-  known : (nameAt work (sizes .rows) typeFirst typeName t ≡ 0 → ⊥) → any (eqTy (typeAt f t)) (S .types) ≡ true
-  known h = known-by ∙ ap not (ne-eqb (nameAt work (sizes .rows) typeFirst typeName t) 0 h)
+  known : (nameAt work (sizes .rows) typeFirst typeNames t ≡ 0 → ⊥) → any (eqTy (typeAt f t)) (S .types) ≡ true
+  known h = known-by ∙ ap not (ne-eqb (nameAt work (sizes .rows) typeFirst typeNames t) 0 h)
 
-  unknown : nameAt work (sizes .rows) typeFirst typeName t ≡ 0 → any (eqTy (typeAt f t)) (S .types) ≡ false
-  unknown h = known-by ∙ ap not (eq-eqb (nameAt work (sizes .rows) typeFirst typeName t) 0 h)
+  unknown : nameAt work (sizes .rows) typeFirst typeNames t ≡ 0 → any (eqTy (typeAt f t)) (S .types) ≡ false
+  unknown h = known-by ∙ ap not (eq-eqb (nameAt work (sizes .rows) typeFirst typeNames t) 0 h)
 
-module _ {file : Bytes} {sizes : Sizes} {name : ℕ} {work : List ℕ} {out : Bytes} {p : Progress} (t : ℕ) (z : p .refused ≡ 0) (e : name ≡ nameAt work (sizes .rows) typeFirst typeName t) where
+module _ {file : Bytes} {sizes : Sizes} {name : ℕ} {work : List ℕ} {out : Bytes} {p : Progress} (t : ℕ) (z : p .refused ≡ 0) (e : name ≡ nameAt work (sizes .rows) typeFirst typeNames t) where
   -- a type that has a name is left
   pub leaves-type : (name ≡ 0 → ⊥) → Advances file sizes (typeReady t) (typeWalk t) work out p work out p
   unfolding typeReady typeWalk

@@ -20,7 +20,7 @@ use Rattle.write_bytes.specs.Writing.{Appends}
 use Rattle.write_bytes.proofs.Laws.{says}
 use Rattle.read_utf8.specs.Decoding.{points}
 use Rattle.read_utf8.proofs.Laws.{utf8-points}
-use Rattle.write_bitvec.specs.Value.{whole}
+use Rattle.write_bitvec.specs.Value.{ofHalves}
 use Rattle.write_bitvec.specs.declared.halves.Halves.{Halves}
 use Rattle.read_field.specs.Answers.{spanned}
 use Rattle.read_field.specs.declared.Span.{Span}
@@ -93,7 +93,7 @@ module _ {file : Bytes} {work : List ℕ} {sizes : Sizes} {n limit at q : ℕ} {
   atom-bool {b} e A = record { go = λ f S I N l other. says (bool-is (members f) (names S) b ∙ ap (atom (members f) (names S)) (entry-is T (ap (termSaid _) e) f I l .tree)) A }
 
   -- a bit vector
-  pub atom-bits : {w : ℕ} {v : Halves} → r ≡ entry.BitVecLit w v → Appends limit x at y q (bitVec w (whole (v .high) (v .low))) → SpellsLeaf file work sizes n limit x at y q
+  pub atom-bits : {w : ℕ} {v : Halves} → r ≡ entry.BitVecLit w v → Appends limit x at y q (bitVec w (ofHalves (v .high) (v .low))) → SpellsLeaf file work sizes n limit x at y q
   unfolding termSaid namedMark forest
   atom-bits {w} {v} e A = record { go = λ f S I N l other. says (bits-is (members f) (names S) w _ ∙ ap (atom (members f) (names S)) (entry-is T (ap (termSaid _) e) f I l .tree)) A }
 

@@ -13,7 +13,7 @@ use Rattle.write_bytes.specs.Writing.{Appends}
 use Rattle.index.specs.Cells.{termFirst}
 use Rattle.index.specs.Meaning.{Index}
 use Rattle.index.specs.declared.Sizes.{Sizes}
-use Rattle.walk_names.specs.Naming.{termName, nameAt, placeOf, Numbers}
+use Rattle.walk_names.specs.Naming.{termNames, nameAt, placeOf, Numbers}
 
 -- a truth value
 unfoldable pub truth : Bool → Bytes
@@ -22,7 +22,7 @@ truth false = bytes "false"
 
 -- the name of the term with number n in memory
 unfoldable pub termNameOf : List ℕ → ℕ → ℕ → Bytes
-termNameOf work rows n = numbered (bytes "t") (placeOf (nameAt work rows termFirst termName n))
+termNameOf work rows n = numbered (bytes "t") (placeOf (nameAt work rows termFirst termNames n))
 
 -- the sort of the type with number t before a mark and a place is written, whatever file was accepted and whatever names were given
 pub record SpellsNumbered (file : Bytes) (work : List ℕ) (sizes : Sizes) (t : ℕ) (mark : Bytes) (i limit : ℕ) (x : Bytes) (at : ℕ) (y : Bytes) (r : ℕ) : Type 0 where

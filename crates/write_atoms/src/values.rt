@@ -6,7 +6,7 @@ ghost use Rattle.script_spec.specs.Base.{bytes};
 ghost use Rattle.script_spec.specs.Tree.{V4, V6};
 ghost use Rattle.script_spec.specs.Spelling.{bitVec, prefixLength, extValue};
 ghost use Rattle.write_bytes.specs.Writing.{Appends};
-ghost use Rattle.write_bitvec.specs.Value.{whole};
+ghost use Rattle.write_bitvec.specs.Value.{ofHalves};
 ghost use Rattle.index_entry.specs.Terms.{valueOf};
 
 // Writes a prefix in n bits, or an absent one.
@@ -36,7 +36,7 @@ fn put_v4(out: &mut [u8], at: usize, limit: usize, address: u64, p: u32) -> usiz
 
 // Writes an address of 128 bits with its prefix.
 fn put_v6(out: &mut [u8], at: usize, limit: usize, address: Halves, p: u32) -> usize
-    ensures { λ r. ⌜ Appends limit (now (out .entry)) at (now (out .exit)) r (extValue (V6 (whole (address .high) (address .low)) p)) ⌝ }
+    ensures { λ r. ⌜ Appends limit (now (out .entry)) at (now (out .exit)) r (extValue (V6 (ofHalves (address .high) (address .low)) p)) ⌝ }
 {
     let a = write_bytes::put_at(out, at, limit, b"(V6 ");
     let b = write_bitvec::spelling::put_bitvec(out, a, limit, 128, address.high, address.low);

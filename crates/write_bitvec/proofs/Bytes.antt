@@ -10,7 +10,7 @@ use lib.ListN.{length, getD, take, drop, length-take, drop-of-length-le}
 use lib.Pow.{pow-pos, pow-mono, pow-add}
 use lib.Seq.{drop-cons, getD-take}
 use Rattle.script_spec.specs.Fields.{low, high}
-use Rattle.write_bitvec.specs.Value.{whole}
+use Rattle.write_bitvec.specs.Value.{ofHalves}
 
 -- ---- sizes
 
@@ -22,10 +22,10 @@ bytes-lt v b k h g =
     omega arith
 
 -- fewer than 16 bytes leave a byte free at the high end
-pub high-lt : (h l k : ℕ) → k < 16 → whole h l < 2 ^ (8 * k) → h < 2 ^ 56
+pub high-lt : (h l k : ℕ) → k < 16 → ofHalves h l < 2 ^ (8 * k) → h < 2 ^ 56
 high-lt h l k b g =
     let q : 8 * k ≤ 120 = omega arith in
-    let w : whole h l < 2 ^ 120 = lt-of-lt-of-le g (pow-mono q) in
+    let w : ofHalves h l < 2 ^ 120 = lt-of-lt-of-le g (pow-mono q) in
     omega arith
 
 -- ---- the first 16 bytes

@@ -9,7 +9,7 @@ use lib.Dec.{ltb, eqb, lit<}
 use lib.Arith.{digits-lt}
 use lib.Pow.{pow-pos, pow-mono, pow-lt, pow-add, shl-exact, mod-pow-add, high, low}
 use borrow.Author.Tests.{lt-ltb, le-ltb, ne-eqb}
-use Rattle.write_bitvec.specs.Value.{whole}
+use Rattle.write_bitvec.specs.Value.{ofHalves}
 
 -- ---- powers
 
@@ -26,15 +26,15 @@ pow-split m k h = ap (λ (j : ℕ). 2 ^ j) (let e : k ≡ k - m + m = omega arit
 pub power-whole : (k : ℕ) → k < 128 → 2 ^ k % 2 ^ 128 ≡ 2 ^ k
 power-whole k h = mod-eq-of-lt (pow-lt h)
 
-pub power-low : (k p : ℕ) → k < 64 → p ≡ 2 ^ k → whole 0 p ≡ 2 ^ k % 2 ^ 128
+pub power-low : (k p : ℕ) → k < 64 → p ≡ 2 ^ k → ofHalves 0 p ≡ 2 ^ k % 2 ^ 128
 power-low k p h e =
-    let z : whole 0 p ≡ 2 ^ k = omega arith in
+    let z : ofHalves 0 p ≡ 2 ^ k = omega arith in
     z ∙ sym (power-whole k (omega arith))
 
-pub power-high : (k p : ℕ) → 64 ≤ k → k < 128 → p ≡ 2 ^ (k - 64) → whole p 0 ≡ 2 ^ k % 2 ^ 128
+pub power-high : (k p : ℕ) → 64 ≤ k → k < 128 → p ≡ 2 ^ (k - 64) → ofHalves p 0 ≡ 2 ^ k % 2 ^ 128
 power-high k p g h e =
     let s : 2 ^ k ≡ 2 ^ (k - 64) * 2 ^ 64 = pow-split 64 k g in
-    let z : whole p 0 ≡ 2 ^ k = omega arith in
+    let z : ofHalves p 0 ≡ 2 ^ k = omega arith in
     z ∙ sym (power-whole k h)
 
 pub power-past : (k : ℕ) → 128 ≤ k → 0 ≡ 2 ^ k % 2 ^ 128
@@ -50,40 +50,40 @@ ltb-same a b c d f g = go (decLt a b)
     go (yes h) = lt-ltb a b h ∙ sym (lt-ltb c d (f h))
     go (no n) = let h : b ≤ a = omega arith in le-ltb a b h ∙ sym (le-ltb c d (g h))
 
-pub fits-low : (n h l p : ℕ) → h ≡ 0 → p ≡ 2 ^ n → ltb l p ≡ ltb (whole h l) (2 ^ n)
-fits-low n h l p z e = ltb-same l p (whole h l) (2 ^ n) (λ g. omega arith) (λ g. omega arith)
+pub fits-low : (n h l p : ℕ) → h ≡ 0 → p ≡ 2 ^ n → ltb l p ≡ ltb (ofHalves h l) (2 ^ n)
+fits-low n h l p z e = ltb-same l p (ofHalves h l) (2 ^ n) (λ g. omega arith) (λ g. omega arith)
 
-pub fits-not : (n h l : ℕ) → n < 64 → (h ≡ 0 → ⊥) → eqb h 0 ≡ ltb (whole h l) (2 ^ n)
+pub fits-not : (n h l : ℕ) → n < 64 → (h ≡ 0 → ⊥) → eqb h 0 ≡ ltb (ofHalves h l) (2 ^ n)
 fits-not n h l b z =
     let q : 2 ^ n < 2 ^ 64 = pow-lt b in
-    ne-eqb h 0 z ∙ sym (le-ltb (whole h l) (2 ^ n) (omega arith))
+    ne-eqb h 0 z ∙ sym (le-ltb (ofHalves h l) (2 ^ n) (omega arith))
 
-pub fits-high : (n h l p : ℕ) → 64 ≤ n → l < 2 ^ 64 → p ≡ 2 ^ (n - 64) → ltb h p ≡ ltb (whole h l) (2 ^ n)
+pub fits-high : (n h l p : ℕ) → 64 ≤ n → l < 2 ^ 64 → p ≡ 2 ^ (n - 64) → ltb h p ≡ ltb (ofHalves h l) (2 ^ n)
 fits-high n h l p g b e =
     let s : 2 ^ n ≡ 2 ^ (n - 64) * 2 ^ 64 = pow-split 64 n g in
-    ltb-same h p (whole h l) (2 ^ n) (λ k. omega arith) (λ k. omega arith)
+    ltb-same h p (ofHalves h l) (2 ^ n) (λ k. omega arith) (λ k. omega arith)
 
-whole-lt : (n h l : ℕ) → 128 ≤ n → h < 2 ^ 64 → l < 2 ^ 64 → whole h l < 2 ^ n
-whole-lt n h l g a b = lt-of-lt-of-le (digits-lt a b) (pow-mono g)
+halves-lt : (n h l : ℕ) → 128 ≤ n → h < 2 ^ 64 → l < 2 ^ 64 → ofHalves h l < 2 ^ n
+halves-lt n h l g a b = lt-of-lt-of-le (digits-lt a b) (pow-mono g)
 
-pub fits-past : (n h l : ℕ) → 128 ≤ n → h < 2 ^ 64 → l < 2 ^ 64 → true ≡ ltb (whole h l) (2 ^ n)
-fits-past n h l g a b = sym (lt-ltb (whole h l) (2 ^ n) (whole-lt n h l g a b))
+pub fits-past : (n h l : ℕ) → 128 ≤ n → h < 2 ^ 64 → l < 2 ^ 64 → true ≡ ltb (ofHalves h l) (2 ^ n)
+fits-past n h l g a b = sym (lt-ltb (ofHalves h l) (2 ^ n) (halves-lt n h l g a b))
 
 -- ---- remainders
 
-pub wrap-low : (n h l p : ℕ) → n < 64 → p ≡ 2 ^ n → whole 0 (l % p) ≡ whole h l % 2 ^ n
+pub wrap-low : (n h l p : ℕ) → n < 64 → p ≡ 2 ^ n → ofHalves 0 (l % p) ≡ ofHalves h l % 2 ^ n
 wrap-low n h l p b e =
     let s : h * 2 ^ 64 ≡ h * 2 ^ (64 - n) * 2 ^ n = ap (λ (m : ℕ). h * m) (pow-split n 64 (omega arith)) ∙ sym (mul-assoc h (2 ^ (64 - n)) (2 ^ n)) in
-    let z : whole 0 (l % p) ≡ l % p = omega arith in
+    let z : ofHalves 0 (l % p) ≡ l % p = omega arith in
     z ∙ ap (λ (m : ℕ). l % m) e ∙ sym (ap (λ (m : ℕ). (m + l) % 2 ^ n) s ∙ mul-add-mod-self-right (h * 2 ^ (64 - n)) (2 ^ n) l)
 
-pub wrap-high : (n h l p : ℕ) → 64 ≤ n → l < 2 ^ 64 → p ≡ 2 ^ (n - 64) → whole (h % p) l ≡ whole h l % 2 ^ n
+pub wrap-high : (n h l p : ℕ) → 64 ≤ n → l < 2 ^ 64 → p ≡ 2 ^ (n - 64) → ofHalves (h % p) l ≡ ofHalves h l % 2 ^ n
 wrap-high n h l p g b e =
     let s : n ≡ n - 64 + 64 = omega arith in
-    ap (λ (m : ℕ). whole (h % m) l) e
-    ∙ sym (ap (λ (m : ℕ). whole h l % 2 ^ m) s ∙ mod-pow-add (whole h l) (n - 64) 64
-    ∙ ap (λ (m : ℕ). m % 2 ^ (n - 64) * 2 ^ 64 + whole h l % 2 ^ 64) (high h 64 b)
+    ap (λ (m : ℕ). ofHalves (h % m) l) e
+    ∙ sym (ap (λ (m : ℕ). ofHalves h l % 2 ^ m) s ∙ mod-pow-add (ofHalves h l) (n - 64) 64
+    ∙ ap (λ (m : ℕ). m % 2 ^ (n - 64) * 2 ^ 64 + ofHalves h l % 2 ^ 64) (high h 64 b)
     ∙ ap (λ (m : ℕ). h % 2 ^ (n - 64) * 2 ^ 64 + m) (low h 64 b))
 
-pub wrap-past : (n h l : ℕ) → 128 ≤ n → h < 2 ^ 64 → l < 2 ^ 64 → whole h l ≡ whole h l % 2 ^ n
-wrap-past n h l g a b = sym (mod-eq-of-lt (whole-lt n h l g a b))
+pub wrap-past : (n h l : ℕ) → 128 ≤ n → h < 2 ^ 64 → l < 2 ^ 64 → ofHalves h l ≡ ofHalves h l % 2 ^ n
+wrap-past n h l g a b = sym (mod-eq-of-lt (halves-lt n h l g a b))

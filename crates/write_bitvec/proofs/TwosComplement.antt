@@ -14,7 +14,7 @@ use borrow.Author.Tests.{ltb-true, le-ltb}
 use mir.Syntax.{w64}
 use mir.Val.{Fits, SFits, toZ, ofZ}
 use mir.Facts.{toZ-ofZ}
-use Rattle.write_bitvec.specs.Value.{whole, twosComplement}
+use Rattle.write_bitvec.specs.Value.{ofHalves, twosComplement}
 use Rattle.write_bitvec.proofs.Powers.{pow-split}
 
 -- what a signed operation reads of a signed number
@@ -26,9 +26,9 @@ pub record Negative (z : ℤ) : Type 0 where
   pub fits : SFits w64 (negsuc 0 -ℤ read z)
   pub is : read (negsuc 0 -ℤ read z) ≡ pos (mag z)
   pub small : mag z < 2 ^ 63
-  pub value : whole (2 ^ 64 - 1) (2 ^ 64 - 1 - mag z) ≡ twosComplement 128 z
+  pub value : ofHalves (2 ^ 64 - 1) (2 ^ 64 - 1 - mag z) ≡ twosComplement 128 z
 
-negative-value : (n : ℕ) → n < 2 ^ 63 → whole (2 ^ 64 - 1) (2 ^ 64 - 1 - n) ≡ twosComplement 128 (negsuc n)
+negative-value : (n : ℕ) → n < 2 ^ 63 → ofHalves (2 ^ 64 - 1) (2 ^ 64 - 1 - n) ≡ twosComplement 128 (negsuc n)
 unfolding twosComplement
 negative-value n h =
     let m : n % 2 ^ 128 ≡ n = mod-eq-of-lt (lt-of-lt-of-le h (lit≤ tt)) in
@@ -52,12 +52,12 @@ negative z f t = go z f (rw (toZ-ofZ f) at t)
 -- what is known of z where it is not negative
 pub record NonNegative (z : ℤ) : Type 0 where
   pub is : T (nonNeg (read z)) × Fits w64 (natAbs (read z))
-  pub value : whole 0 (natAbs (read z)) ≡ twosComplement 128 z
+  pub value : ofHalves 0 (natAbs (read z)) ≡ twosComplement 128 z
 
-nonnegative-value : (n : ℕ) → n < 2 ^ 63 → whole 0 n ≡ twosComplement 128 (pos n)
+nonnegative-value : (n : ℕ) → n < 2 ^ 63 → ofHalves 0 n ≡ twosComplement 128 (pos n)
 unfolding twosComplement
 nonnegative-value n h =
-    let z : whole 0 n ≡ n = omega arith in
+    let z : ofHalves 0 n ≡ n = omega arith in
     z ∙ sym (mod-eq-of-lt (lt-of-lt-of-le h (lit≤ tt)))
 
 pub nonnegative : (z : ℤ) → SFits w64 z → ltZ (read z) (pos 0) ≡ false → NonNegative z

@@ -3,8 +3,8 @@ use Prim.Native.Nat.{ℕ, _+_, _-_, _*_, _%_, _^_}
 use lib.IntN.{ℤ, pos, negsuc}
 
 -- the number of two halves of 64 bits
-abbrev pub whole : ℕ → ℕ → ℕ
-whole high low = high * 2 ^ 64 + low
+abbrev pub ofHalves : ℕ → ℕ → ℕ
+ofHalves high low = high * 2 ^ 64 + low
 
 -- a signed number in n bits, by two's complement: the number modulo 2 ^ n; `negsuc v` is −1 − v
 unfoldable pub twosComplement : ℕ → ℤ → ℕ

@@ -5,13 +5,13 @@ use mathlib.Core.Bool.{Bool, true, false, _&&_}
 use lib.Dec.{ltb}
 use lib.IntN.{ℤ}
 use Rattle.script_spec.specs.Base.{Answer, accepted, refused, between}
-use Rattle.write_bitvec.specs.Value.{whole, twosComplement}
+use Rattle.write_bitvec.specs.Value.{ofHalves, twosComplement}
 use Rattle.write_bitvec.specs.declared.Made.{Made}
 use Rattle.write_bitvec.specs.declared.Made.the-variants.{Vector, Refused}
 
 -- what a constructor's answer says: a width and a value, or refusal 7
 unfoldable pub said : Made → Answer (ℕ × ℕ)
-said (Vector b) = accepted (b .width, whole (b .high) (b .low))
+said (Vector b) = accepted (b .width, ofHalves (b .high) (b .low))
 said Refused = refused 7 0
 
 -- n bits with value v if a test passes, else refusal 7

@@ -4,7 +4,7 @@ ghost use mathlib.Core.Path.{_≡_};
 ghost use Prim.Native.Nat.{_+_, _*_, _/_, _%_, _<_};
 ghost use Rattle.script_spec.specs.Text.{decimal};
 ghost use Rattle.write_bytes.specs.Writing.{Appends};
-ghost use Rattle.write_bitvec.specs.Value.{whole};
+ghost use Rattle.write_bitvec.specs.Value.{ofHalves};
 
 // What a step of a division gives.
 struct Division {
@@ -32,7 +32,7 @@ fn divide(remainder: u64, next: u64) -> Division
 
 // The number by ten, and its last digit.
 fn by_ten(high: u64, low: u64) -> Tenth
-    ensures { λ t. ⌜ (whole (t .rest .high) (t .rest .low) ≡ whole high low / 10) × (t .last ≡ whole high low % 10) × (t .last < 10) ⌝ }
+    ensures { λ t. ⌜ (ofHalves (t .rest .high) (t .rest .low) ≡ ofHalves high low / 10) × (t .last ≡ ofHalves high low % 10) × (t .last < 10) ⌝ }
 {
     let d3 = divide(0, high / 4294967296);
     let d2 = divide(d3.remainder, high % 4294967296);
@@ -49,7 +49,7 @@ fn by_ten(high: u64, low: u64) -> Tenth
 
 // Writes the number without leading zeros.
 pub fn put_decimal128(out: &mut [u8], at: usize, limit: usize, high: u64, low: u64) -> usize
-    ensures { λ r. ⌜ Appends limit (now (out .entry)) at (now (out .exit)) r (decimal (whole high low)) ⌝ }
+    ensures { λ r. ⌜ Appends limit (now (out .entry)) at (now (out .exit)) r (decimal (ofHalves high low)) ⌝ }
 {
     if high == 0 {
         return write_numeral::put_decimal(out, at, limit, low);

@@ -2,7 +2,7 @@
 ghost use mathlib.Core.Path.{_≡_};
 ghost use Prim.Native.Nat.{_<_, _%_, _^_};
 ghost use lib.Dec.{ltb};
-ghost use Rattle.write_bitvec.specs.Value.{whole};
+ghost use Rattle.write_bitvec.specs.Value.{ofHalves};
 
 // A number by its two halves.
 pub struct Halves {
@@ -20,7 +20,7 @@ fn power64(k: u32) -> u64
 
 // 2^k, or 0 where that is not below 2^128.
 pub fn power(k: u32) -> Halves
-    ensures { λ r. ⌜ whole (r .high) (r .low) ≡ 2 ^ k % 2 ^ 128 ⌝ }
+    ensures { λ r. ⌜ ofHalves (r .high) (r .low) ≡ 2 ^ k % 2 ^ 128 ⌝ }
 {
     if k < 64 {
         return Halves {
@@ -39,7 +39,7 @@ pub fn power(k: u32) -> Halves
 
 // Whether the number fits into `width` bits.
 pub fn fits(width: u32, high: u64, low: u64) -> bool
-    ensures { λ r. ⌜ r ≡ ltb (whole high low) (2 ^ width) ⌝ }
+    ensures { λ r. ⌜ r ≡ ltb (ofHalves high low) (2 ^ width) ⌝ }
 {
     if width < 64 {
         return high == 0 && low < power64(width);
@@ -52,7 +52,7 @@ pub fn fits(width: u32, high: u64, low: u64) -> bool
 
 // The number's last `width` bits.
 pub fn wrap(width: u32, high: u64, low: u64) -> Halves
-    ensures { λ r. ⌜ whole (r .high) (r .low) ≡ whole high low % 2 ^ width ⌝ }
+    ensures { λ r. ⌜ ofHalves (r .high) (r .low) ≡ ofHalves high low % 2 ^ width ⌝ }
 {
     if width < 64 {
         return Halves {

@@ -6,7 +6,7 @@ pub mod spelling;
 
 use halves::Halves;
 ghost use mathlib.Core.Path.{_≡_};
-ghost use Rattle.write_bitvec.specs.Value.{whole, twosComplement};
+ghost use Rattle.write_bitvec.specs.Value.{ofHalves, twosComplement};
 ghost use Rattle.write_bitvec.specs.Vector.{said, newVector, ofInt, intMin};
 
 // A bit vector by its width and the halves of its value.
@@ -24,7 +24,7 @@ pub enum Made {
 
 // The bit vector of a value that fits its width.
 pub fn new(width: u32, high: u64, low: u64) -> Made
-    ensures { λ r. ⌜ said r ≡ newVector width (whole high low) ⌝ }
+    ensures { λ r. ⌜ said r ≡ newVector width (ofHalves high low) ⌝ }
 {
     if !read_field::is_width(width) {
         return Made::Refused;
@@ -37,7 +37,7 @@ pub fn new(width: u32, high: u64, low: u64) -> Made
 
 // A signed number in 128 bits. Of a negative one, -1 - v is never too large.
 fn signed(v: i64) -> Halves
-    ensures { λ r. ⌜ whole (r .high) (r .low) ≡ twosComplement 128 v ⌝ }
+    ensures { λ r. ⌜ ofHalves (r .high) (r .low) ≡ twosComplement 128 v ⌝ }
 {
     if v < 0 {
         return Halves {

@@ -4,12 +4,12 @@ ghost use mathlib.Core.Path.{_≡_};
 ghost use Prim.Native.Nat.{_+_, _*_, _^_, _<_};
 ghost use lib.ListN.{take};
 ghost use Rattle.script_spec.specs.Fields.{low, high};
-ghost use Rattle.write_bitvec.specs.Value.{whole};
+ghost use Rattle.write_bitvec.specs.Value.{ofHalves};
 
 // The number with one byte more at its low end.
 fn pushed(v: Halves, byte: u8) -> Halves
     requires { ⌜ v .high < 2 ^ 56 ⌝ }
-    ensures { λ r. ⌜ whole (r .high) (r .low) ≡ whole (v .high) (v .low) * 256 + byte ⌝ }
+    ensures { λ r. ⌜ ofHalves (r .high) (r .low) ≡ ofHalves (v .high) (v .low) * 256 + byte ⌝ }
 {
     Halves {
         high: v.high * 256 + v.low / 0x100_0000_0000_0000,
@@ -19,7 +19,7 @@ fn pushed(v: Halves, byte: u8) -> Halves
 
 // The number of the first 16 bytes, or of all where there are fewer, low byte first.
 pub fn low_first(s: &[u8]) -> Halves
-    ensures { λ r. ⌜ whole (r .high) (r .low) ≡ low (take 16 (now (s .entry))) ⌝ }
+    ensures { λ r. ⌜ ofHalves (r .high) (r .low) ≡ low (take 16 (now (s .entry))) ⌝ }
 {
     let mut v = Halves { high: 0, low: 0 };
     let mut i = write_bytes::smaller(16, s.len());
@@ -32,7 +32,7 @@ pub fn low_first(s: &[u8]) -> Halves
 
 // The number of the first 16 bytes, or of all where there are fewer, high byte first.
 pub fn high_first(s: &[u8]) -> Halves
-    ensures { λ r. ⌜ whole (r .high) (r .low) ≡ high 0 (take 16 (now (s .entry))) ⌝ }
+    ensures { λ r. ⌜ ofHalves (r .high) (r .low) ≡ high 0 (take 16 (now (s .entry))) ⌝ }
 {
     let mut v = Halves { high: 0, low: 0 };
     let mut i = 0;

@@ -5,11 +5,11 @@ ghost use mathlib.Core.Path.{_≡_};
 ghost use Prim.Native.Nat.{_-_, _%_, _^_};
 ghost use Rattle.script_spec.specs.Spelling.{bitVec, bitVecSort};
 ghost use Rattle.write_bytes.specs.Writing.{Appends};
-ghost use Rattle.write_bitvec.specs.Value.{whole};
+ghost use Rattle.write_bitvec.specs.Value.{ofHalves};
 
 // Writes a bit vector by its width and value.
 pub fn put_bitvec(out: &mut [u8], at: usize, limit: usize, width: u32, high: u64, low: u64) -> usize
-    ensures { λ r. ⌜ Appends limit (now (out .entry)) at (now (out .exit)) r (bitVec width (whole high low)) ⌝ }
+    ensures { λ r. ⌜ Appends limit (now (out .entry)) at (now (out .exit)) r (bitVec width (ofHalves high low)) ⌝ }
 {
     let a = write_bytes::put_at(out, at, limit, b"(_ bv");
     let b = put_decimal128(out, a, limit, high, low);

@@ -22,7 +22,7 @@ use Rattle.index.specs.Cells.{cell, termType, funFirst}
 use Rattle.index.specs.First.{All, Below, OpInRange}
 use Rattle.index.specs.Meaning.{Index, counted}
 use Rattle.index.specs.declared.Sizes.{Sizes}
-use Rattle.walk_names.specs.Naming.{funName, nameAt, placeOf}
+use Rattle.walk_names.specs.Naming.{funNames, nameAt, placeOf}
 use Rattle.walk_names.proofs.Names.{name-fun}
 use Rattle.read_field.specs.Answers.{spanned}
 use Rattle.read_field.specs.declared.Span.{Span}
@@ -156,7 +156,7 @@ module _ {file : Bytes} {work : List ℕ} {sizes : Sizes} {body : Bytes} {o : Op
   unfolding opOf namedOp headOf
   head-selector e P = record { go = λ f S I N n i b. says (rw e) (P .go f S I N b) }
 
-  pub head-function : {g name : ℕ} → o ≡ op.Uuf g → name ≡ nameAt work (sizes .rows) funFirst funName g → Appends limit x at y q (numbered (bytes "f") (placeOf name)) → SpellsOperatorHead file work sizes body o c limit x at y q
+  pub head-function : {g name : ℕ} → o ≡ op.Uuf g → name ≡ nameAt work (sizes .rows) funFirst funNames g → Appends limit x at y q (numbered (bytes "f") (placeOf name)) → SpellsOperatorHead file work sizes body o c limit x at y q
   unfolding opOf namedOp headOf OpInRange counted
   head-function {g} e h A = record { go = λ f S I N n i b. says ((rw h) ∙ sym (name-fun (I .rows) g N (rw e at i)) ∙ (rw e)) A }
 

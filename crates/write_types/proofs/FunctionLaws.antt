@@ -17,14 +17,14 @@ use Rattle.index.specs.Standing.{bodyAt}
 use Rattle.index.specs.Lists.{firstText}
 use Rattle.index.specs.Meaning.{Index, counted}
 use Rattle.index.specs.declared.Sizes.{Sizes}
-use Rattle.walk_names.specs.Naming.{funName, nameAt, placeOf}
+use Rattle.walk_names.specs.Naming.{funNames, nameAt, placeOf}
 use Rattle.walk_names.proofs.Names.{name-fun}
 use Rattle.index_entry.specs.Symbols.{FunAt}
 use Rattle.index_entry.specs.declared.symbols.Fun as entry
 use Rattle.index_entry.proofs.Rows.{fun-stands}
 use Rattle.index_entry.proofs.SymbolEntries.{fun-id}
 use Rattle.write_types.specs.Sorts.{SpellsSort}
-use Rattle.write_types.specs.Functions.{idOf, SpellsId, SpellsFun}
+use Rattle.write_types.specs.Functions.{idOf, SpellsFunId, SpellsFun}
 
 -- the line of a declaration, piece by piece
 fun-line : (n a b : Bytes) → bytes "(declare-fun " ++ (n ++ (bytes " (" ++ (a ++ (bytes ") " ++ (b ++ bytes ")\n"))))) ≡ line (declareFun n (a ∷ []) b)
@@ -33,7 +33,7 @@ fun-line n a b = simp append-assoc
 
 -- the comment of a function: its id is the text that its body begins with
 pub spells-id : {file : Bytes} {work : List ℕ} {sizes : Sizes} {g : ℕ} {s body : Bytes} {o room r : ℕ} {x y : Bytes} → s ≡ firstText body → body ≡ bodyAt file o → o ≡ cell work (sizes .rows) funOffset g
-    → Wrote room x y r (line (comment s)) → SpellsId file work sizes g room x y r
+    → Wrote room x y r (line (comment s)) → SpellsFunId file work sizes g room x y r
 unfolding idOf
 spells-id {file} {g = g} {s} h b o A = record {
   go = λ f I l.
@@ -52,7 +52,7 @@ module _ {file : Bytes} {work : List ℕ} {sizes : Sizes} {g : ℕ} {e : entry.F
       let said = F .go id a b reads in
       next id (rw (said .argument-is, said .result-is) names) (rw (said .argument-is) in-a) (rw (said .result-is) in-b))
 
-  pub spells-fun : {name limit p₁ p₂ p₃ p₄ p₅ p₆ r : ℕ} {x x₁ x₂ x₃ x₄ x₅ x₆ y : Bytes} → name ≡ nameAt work (sizes .rows) funFirst funName g
+  pub spells-fun : {name limit p₁ p₂ p₃ p₄ p₅ p₆ r : ℕ} {x x₁ x₂ x₃ x₄ x₅ x₆ y : Bytes} → name ≡ nameAt work (sizes .rows) funFirst funNames g
       → Appends limit x 0 x₁ p₁ (bytes "(declare-fun ") → Appends limit x₁ p₁ x₂ p₂ (numbered (bytes "f") (placeOf name)) → Appends limit x₂ p₂ x₃ p₃ (bytes " (")
       → SpellsSort file work sizes (e .argument) limit x₃ p₃ x₄ p₄ → Appends limit x₄ p₄ x₅ p₅ (bytes ") ") → SpellsSort file work sizes (e .result) limit x₅ p₅ x₆ p₆
       → Appends limit x₆ p₆ y r (bytes ")\n") → SpellsFun file work sizes g limit x y r
@@ -68,7 +68,7 @@ module _ {file : Bytes} {work : List ℕ} {sizes : Sizes} {g : ℕ} {e : entry.F
   }
 
 -- with no room nothing is written
-pub id-past : {file : Bytes} {work : List ℕ} {sizes : Sizes} {g room : ℕ} {x : Bytes} → room ≡ 0 → SpellsId file work sizes g room x x 1
+pub id-past : {file : Bytes} {work : List ℕ} {sizes : Sizes} {g room : ℕ} {x : Bytes} → room ≡ 0 → SpellsFunId file work sizes g room x x 1
 id-past e = record { go = λ f I l. rw e (line-past (line-some _)) }
 
 pub fun-past : {file : Bytes} {work : List ℕ} {sizes : Sizes} {g room : ℕ} {x : Bytes} → room ≡ 0 → SpellsFun file work sizes g room x x 1

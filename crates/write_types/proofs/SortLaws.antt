@@ -24,7 +24,7 @@ use Rattle.index.specs.First.{All, Below}
 use Rattle.index.specs.Standing.{markAt, bodyAt, entryAt}
 use Rattle.index.specs.Meaning.{Index, counted}
 use Rattle.index.specs.declared.Sizes.{Sizes}
-use Rattle.walk_names.specs.Naming.{typeName, nameAt, placeOf}
+use Rattle.walk_names.specs.Naming.{typeNames, nameAt, placeOf}
 use Rattle.walk_names.proofs.Names.{place-type}
 use Rattle.check_rules.specs.Marks.{typeBytes, markOf}
 use Rattle.check_rules.proofs.Marks.{entry-mark}
@@ -126,7 +126,7 @@ module _ {file : Bytes} {work : List ℕ} {sizes : Sizes} {t : ℕ} {x : Over} (
         says (truth-sort f S rs ∙ ap (sort (names S)) (rw b at tree)) A);
   }
 
-  pub spells-plain : {r : TypeEntry} {name limit at q : ℕ} {y z : Bytes} → x ≡ over.Nothing → TypeAt file (cell work (sizes .rows) typeOffset t) r → name ≡ nameAt work (sizes .rows) typeFirst typeName t
+  pub spells-plain : {r : TypeEntry} {name limit at q : ℕ} {y z : Bytes} → x ≡ over.Nothing → TypeAt file (cell work (sizes .rows) typeOffset t) r → name ≡ nameAt work (sizes .rows) typeFirst typeNames t
       → Appends limit y at z q (plainSort r name) → SpellsSort file work sizes t limit y at z q
   unfolding treeOf overSaid
   spells-plain {r} {name} told T e A = record {

@@ -25,7 +25,7 @@ use Rattle.index.specs.Standing.{bodyAt}
 use Rattle.index.specs.Meaning.{Index, counted}
 use Rattle.index.specs.declared.Sizes.{Sizes}
 use Rattle.index.proofs.Later.{below-more}
-use Rattle.walk_names.specs.Naming.{typeName, nameAt, placeOf}
+use Rattle.walk_names.specs.Naming.{typeNames, nameAt, placeOf}
 use Rattle.walk_names.proofs.Names.{place-type}
 use Rattle.read_field.specs.Answers.{spanned}
 use Rattle.read_field.specs.declared.Span.{Span}
@@ -61,7 +61,7 @@ module _ {file : Bytes} {work : List ℕ} {sizes : Sizes} {t : ℕ} {r : TypeEnt
   module _ {name room q : ℕ} {x y : Bytes} where
     -- an entity type
     pub spells-entity : {p : Span} {text body : Bytes} {o : ℕ} → r ≡ entry.Entity p → body ≡ bodyAt file o → o ≡ cell work (sizes .rows) typeOffset t → text ≡ take (p .len) (drop (p .start) body)
-        → name ≡ nameAt work (sizes .rows) typeFirst typeName t → SpellsEntityLines file work sizes text name room x y q → SpellsType file work sizes t room x y q
+        → name ≡ nameAt work (sizes .rows) typeFirst typeNames t → SpellsEntityLines file work sizes text name room x y q → SpellsType file work sizes t room x y q
     unfolding typeSaid spanned declaring forest datatype
     spells-entity {p} {text} {body} {o} e b there h n L = record {
       go = λ f S I N l d is.
@@ -73,7 +73,7 @@ module _ {file : Bytes} {work : List ℕ} {sizes : Sizes} {t : ℕ} {r : TypeEnt
     }
 
     -- a record type
-    pub spells-record-type : {n o : ℕ} {body : Bytes} → r ≡ entry.Record n → body ≡ bodyAt file o → o ≡ cell work (sizes .rows) typeOffset t → name ≡ nameAt work (sizes .rows) typeFirst typeName t
+    pub spells-record-type : {n o : ℕ} {body : Bytes} → r ≡ entry.Record n → body ≡ bodyAt file o → o ≡ cell work (sizes .rows) typeOffset t → name ≡ nameAt work (sizes .rows) typeFirst typeNames t
         → SpellsRecordLines file work sizes body name n room x y q → SpellsType file work sizes t room x y q
     unfolding typeSaid declaring partsOf datatype
     spells-record-type {n} {o} {body} e b there h L = record {

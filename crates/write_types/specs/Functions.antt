@@ -20,7 +20,7 @@ idOf (uuf id a r) = id
 
 module _ (file : Bytes) (work : List ℕ) (sizes : Sizes) (g room : ℕ) (x y : Bytes) (r : ℕ) where
   -- the comment of the function with number g is written as a line, whatever file was accepted
-  pub record SpellsId : Type 0 where
+  pub record SpellsFunId : Type 0 where
     pub go : (f : TermFile) → Index file f work sizes → g < length (funs f) → Wrote room x y r (line (comment (idOf (funAt f g))))
 
   -- so is its declaration, whatever names were given

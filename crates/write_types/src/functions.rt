@@ -4,12 +4,12 @@ use index::Sizes;
 use smtlib_script::line::Word;
 ghost use mathlib.Core.Path.{_≡_};
 ghost use Rattle.index.specs.Cells.{funFirst};
-ghost use Rattle.walk_names.specs.Naming.{nameAt, funName};
-ghost use Rattle.write_types.specs.Functions.{SpellsId, SpellsFun};
+ghost use Rattle.walk_names.specs.Naming.{nameAt, funNames};
+ghost use Rattle.write_types.specs.Functions.{SpellsFunId, SpellsFun};
 
 // What stands for the name of the function with number g.
 pub fn fun_name(work: &[u32], rows: usize, g: u32) -> u32
-    ensures { λ r. ⌜ r ≡ nameAt (now (work .entry)) rows funFirst funName g ⌝ }
+    ensures { λ r. ⌜ r ≡ nameAt (now (work .entry)) rows funFirst funNames g ⌝ }
 {
     walk_names::naming::get(
         work,
@@ -30,7 +30,7 @@ pub fn put_fun_comment(
     g: u32,
 ) -> usize
     ensures { λ r.
-        ⌜ SpellsId (now (file .entry)) (now (work .entry)) sizes g room (now (rest .entry)) (now (rest .exit)) r ⌝ }
+        ⌜ SpellsFunId (now (file .entry)) (now (work .entry)) sizes g room (now (rest .entry)) (now (rest .exit)) r ⌝ }
 {
     if room == 0 {
         return 1;

@@ -7,7 +7,7 @@ ghost use Rattle.script_spec.specs.Base.{bytes};
 ghost use Rattle.script_spec.specs.Spelling.{extName};
 ghost use Rattle.write_bytes.specs.Writing.{Appends};
 ghost use Rattle.index.specs.Cells.{cell, typeOffset, typeFirst};
-ghost use Rattle.walk_names.specs.Naming.{nameAt, typeName};
+ghost use Rattle.walk_names.specs.Naming.{nameAt, typeNames};
 ghost use Rattle.index_entry.specs.Types.{extTypeSaid};
 ghost use Rattle.write_types.specs.Sorts.{OverAt, openedPart, plainSort, SpellsSort};
 
@@ -74,7 +74,7 @@ fn put_plain_sort(out: &mut [u8], at: usize, limit: usize, ty: TypeEntry, name: 
 
 // What stands for the name of the type with number t.
 pub fn type_name(work: &[u32], rows: usize, t: u32) -> u32
-    ensures { λ r. ⌜ r ≡ nameAt (now (work .entry)) rows typeFirst typeName t ⌝ }
+    ensures { λ r. ⌜ r ≡ nameAt (now (work .entry)) rows typeFirst typeNames t ⌝ }
 {
     walk_names::naming::get(
         work,

@@ -1,7 +1,7 @@
 -- `write_bitvec::decimal::put_decimal128` meets its contract: the last digit follows the numeral of a tenth. The measure is the number.
 -- Assumes nothing.
 use borrow.Author.Needs.{needs}
-use Rattle.write_bitvec.specs.Value.{whole}
+use Rattle.write_bitvec.specs.Value.{ofHalves}
 use Rattle.write_bytes.proofs.Laws.{_then_, says}
 use Rattle.write_bitvec.proofs.Division.{decimal-low, decimal-next, tenth-lt}
 use Prim.Native.Nat.{ℕ, _<_}
@@ -16,7 +16,7 @@ use Rattle.write_bitvec.proofs.decimal.+put_decimal128.{statement}
 use Rattle.write_bitvec.proofs.decimal.+put_decimal128.Tie.{close}
 
 abbrev μ-put-decimal128 : Measures 1 put-decimal128-kinds.ps ℕ
-μ-put-decimal128 κs a = whole (a .1 .1 .1 .0) (a .1 .1 .1 .1 .0)
+μ-put-decimal128 κs a = ofHalves (a .1 .1 .1 .0) (a .1 .1 .1 .1 .0)
 
 abbrev put-decimal128-at : ℕ → In 1 put-decimal128-kinds.ps
 put-decimal128-at t =

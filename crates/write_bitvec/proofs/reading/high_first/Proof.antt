@@ -5,13 +5,13 @@ use Prim.Native.Nat.{_-_, _≤_, min}
 use lib.ListN.{length}
 use native.Mathlib.Omega.{arith}
 use borrow.Author.Needs.{needs}
-use Rattle.write_bitvec.specs.Value.{whole}
+use Rattle.write_bitvec.specs.Value.{ofHalves}
 use Rattle.write_bitvec.proofs.Bytes.{High, high-lt, high-start, high-next, high-end}
 use Rattle.write_bitvec.proofs.reading.high_first.Statement.{statement}
 use Rattle.write_bitvec.proofs.reading.high_first.Tie as tie
 
 abbrev Inv-loop : tie.InvT-loop
-Inv-loop s v₀ i₀ n v i = High s (whole (v .high) (v .low)) i × ((n ≤ length s) × (n ≤ 16) × (n ≡ min 16 (length s)))
+Inv-loop s v₀ i₀ n v i = High s (ofHalves (v .high) (v .low)) i × ((n ≤ length s) × (n ≤ 16) × (n ≡ min 16 (length s)))
 
 abbrev μ-loop : tie.MeasureT-loop
 μ-loop s v₀ i₀ n v i = n - i

@@ -3,13 +3,13 @@
 use Prim.Native.Nat.{_-_}
 use native.Mathlib.Omega.{arith}
 use borrow.Author.Needs.{needs}
-use Rattle.write_bitvec.specs.Value.{whole}
+use Rattle.write_bitvec.specs.Value.{ofHalves}
 use Rattle.write_bitvec.proofs.Bytes.{Low, high-lt, low-start, low-next, low-end}
 use Rattle.write_bitvec.proofs.reading.low_first.Statement.{statement}
 use Rattle.write_bitvec.proofs.reading.low_first.Tie as tie
 
 abbrev Inv-loop : tie.InvT-loop
-Inv-loop s v₀ i₀ v i = Low s (whole (v .high) (v .low)) i
+Inv-loop s v₀ i₀ v i = Low s (ofHalves (v .high) (v .low)) i
 
 abbrev μ-loop : tie.MeasureT-loop
 μ-loop s v₀ i₀ v i = i
