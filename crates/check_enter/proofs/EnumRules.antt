@@ -44,7 +44,7 @@ module _ (file : Bytes) (work : List ℕ) (sizes : Sizes) (o place : ℕ) {a : B
     pub enum-empty : a ≡ true → b ≡ false → Enters enumNamed file work work sizes o place (Broken 10)
     enum-empty h g = record { go = λ f I c room here p s. record { rule = enum-rules p s (A .go (p .0) (p .1) (enum-reads p s)) (B .go (p .0) (p .1) (enum-reads p s)) refl ∙ broken-later 9 _ h ∙ broken-here 10 _ g; memory = refl } }
 
-    module _ {work′ : List ℕ} {name : Bytes} {r : ℕ} (N : NameAt file o name) (E : EnrolsNamed file work work′ (sizes .rows) (sizes .enums) name r) where
+    module _ {work′ : List ℕ} {name : Bytes} {r : ℕ} (N : NameAt file o name) (E : EnrolsNamed file work work′ sizes name r) where
       -- the name that is read is the enum's
       name-is : {f : TermFile} (p : Bytes × List Bytes) → Stands file f (earlier f) o (enumNamed p) → name ≡ p .0
       name-is p s = N .go (p .0) (p .1) (enum-reads p s)
@@ -58,7 +58,7 @@ module _ (file : Bytes) (work : List ℕ) (sizes : Sizes) (o place : ℕ) {a : B
 
       -- an enum has the name
       name-known : r < sizes .enums → {f : TermFile} → Indexed file f work (sizes .rows) → SizesOf f sizes → suc (length f) ≤ sizes .rows → KnownName work work′ f (sizes .enums) name r
-      name-known l {f} I c room = ⊎-elim (λ K. K) (λ M. absurd (omega (arith, M .miss .is))) (E .go f I (c .enums-are) room)
+      name-known l {f} I c room = ⊎-elim (λ K. K) (λ M. absurd (omega (arith, M .miss .is))) (E .go f I c room)
 
       pub enum-taken : a ≡ true → b ≡ true → r < sizes .enums → Enters enumNamed file work work′ sizes o place (Broken 11)
       unfolding isSome
@@ -74,7 +74,7 @@ module _ (file : Bytes) (work : List ℕ) (sizes : Sizes) (o place : ℕ) {a : B
 
       -- no enum has the name
       name-new : sizes .enums ≤ r → {f : TermFile} → Indexed file f work (sizes .rows) → SizesOf f sizes → suc (length f) ≤ sizes .rows → NewName work work′ (sizes .rows) f (sizes .enums) name r
-      name-new l {f} I c room = ⊎-elim (λ K. absurd (omega (arith, K .hit .below))) (λ M. M) (E .go f I (c .enums-are) room)
+      name-new l {f} I c room = ⊎-elim (λ K. absurd (omega (arith, K .hit .below))) (λ M. M) (E .go f I c room)
 
       pub enum-entered : {work₁ work₂ work₃ : List ℕ} → a ≡ true → b ≡ true → sizes .enums ≤ r → work₁ ≡ store work′ (sizes .rows) enumOffset (sizes .enums) o → work₂ ≡ store work₁ (sizes .rows) enumPlace (sizes .enums) place → work₃ ≡ store work₂ (sizes .rows) enumList (sizes .enums) 0
           → Enters enumNamed file work work₃ sizes o place Done

@@ -7,8 +7,7 @@ use native.Mathlib.Omega.{arith}
 use native.Mathlib.Decide.{decLt}
 use mathlib.Core.List.{List, map}
 use borrow.Author.Tests.{lt-ltb, le-ltb}
-use lib.ListN.{length, take, getD, length-take, List·getD-eq-default}
-use lib.Seq.{getD-take}
+use lib.ListN.{length, List·getD-eq-default}
 use Rattle.script_spec.specs.Base.{Bytes, bytes, isSome, same}
 use Rattle.script_spec.specs.Tree.{Ty, TypeMark, Bool·, String·, Option·, Set·, BitVec·, Declared, entity, extension, recordOf, Forest, node, nil, entityName, forest}
 use Rattle.script_spec.specs.Fields.{Entry}
@@ -16,10 +15,10 @@ use Rattle.script_spec.specs.Fields as fields
 use Rattle.script_spec.specs.File.{TermFile, type, types, funs, terms, typeAt, named, earlier}
 use Rattle.script_spec.proofs.Computes
 use Rattle.script_spec.proofs.Laws.{never}
-use Rattle.index.specs.Cells.{cell, typeOffset}
+use Rattle.index.specs.Cells.{cell, typeOffset, typeOffsets}
 use Rattle.index.specs.Standing.{markAt, bodyAt, entryAt}
 use Rattle.index.specs.Meaning.{Rows}
-use Rattle.index.proofs.Cells.{offset-start}
+use Rattle.index.proofs.Cells.{length-offsets, offsets-at}
 use Rattle.index.proofs.Rows.{types-fit}
 use Rattle.read_record.specs.Bodies.{isEntityAt, earlierWith}
 use Rattle.check_rules.specs.Marks.{datatypeBytes, typeBytes, markOf}
@@ -47,24 +46,17 @@ entity-mark f (fields.term m rs) t e = never cc
 entity-mark f (fields.input n) t e = never cc
 
 module _ {file : Bytes} {f : TermFile} {work : List ℕ} {k : ℕ} (I : Rows file f work k) where
-  -- the first column starts the memory
-  offset-at : (n : ℕ) → n < length (types f) → getD (take (length (types f)) work) n 0 ≡ cell work k typeOffset n
-  unfolding cell
-  offset-at n h =
-      getD-take (length (types f)) work n 0 h
-      ∙ ap (λ (m : ℕ). getD work m 0) (let e = offset-start (length work) k typeOffset n (I .fits) (omega (arith, types-fit I)) (omega arith) .1 in omega arith)
-
-  entity-at : (n : ℕ) → Dec (n < length (types f)) → isEntityAt file (take (length (types f)) work) n ≡ isSome (entityName (typeAt f n))
+  entity-at : (n : ℕ) → Dec (n < length (types f)) → isEntityAt file (typeOffsets work (length (types f))) n ≡ isSome (entityName (typeAt f n))
   unfolding isEntityAt entryAt markAt typeAt Computes.base Computes.tree
   entity-at n (yes h) =
       let s = I .type-row n h .stands in
-      let size : length (take (length (types f)) work) ≡ length (types f) = simp length-take (omega (arith, types-fit I, I .fits)) in
-      rw (size, lt-ltb n (length (types f)) h, offset-at n h)
+      let size : length (typeOffsets work (length (types f))) ≡ length (types f) = length-offsets work k (length (types f)) (I .fits) (types-fit I) in
+      rw (size, lt-ltb n (length (types f)) h, offsets-at work k (length (types f)) (I .fits) (types-fit I) n h)
       (ap (λ (m : Bytes). same m (bytes "TE")) (entry-mark (markAt file (cell work k typeOffset n)) (bodyAt file (cell work k typeOffset n)) (s .reads)) ∙ entity-mark f (s .entry) (typeAt f n) (s .names))
   entity-at n (no h) =
-      let size : length (take (length (types f)) work) ≡ length (types f) = simp length-take (omega (arith, types-fit I, I .fits)) in
+      let size : length (typeOffsets work (length (types f))) ≡ length (types f) = length-offsets work k (length (types f)) (I .fits) (types-fit I) in
       rw (size, le-ltb n (length (types f)) (omega arith), List·getD-eq-default (types f) (node Bool· nil) {n = n} (omega arith))
 
-  pub after-earlier : earlierWith (length (types f)) (length (funs f)) (length (terms f)) file (take (length (types f)) work) ≡ earlier f
+  pub after-earlier : earlierWith (length (types f)) (length (funs f)) (length (terms f)) file (typeOffsets work (length (types f))) ≡ earlier f
   unfolding earlierWith earlier
   after-earlier = λ i. record { types = length (types f); funs = length (funs f); terms = length (terms f); isEntity = λ n. entity-at n (decLt n (length (types f))) i }

@@ -1,7 +1,7 @@
 -- A record that was read is entered by its kind: the step over it from what entering it promises.
 -- Assumes nothing.
 use mathlib.Core.Path.{_≡_, refl, ap, _∙_, subst}
-use Prim.Native.Nat.{ℕ, suc, _≤_, _<_}
+use Prim.Native.Nat.{ℕ, suc, _+_, _≤_, _<_, min}
 use native.Mathlib.Omega.{arith}
 use mathlib.Core.List.{List, [], _∷_, _++_, map}
 use lib.ListN.{length, drop}
@@ -105,10 +105,14 @@ placed-at f {sizes} S few place =
     let all : together sizes ≡ length f = (rw (S .types-are, S .funs-are, S .terms-are, S .enums-are, S .inputs-are)) ∙ counts-together f in
     place (omega arith) ∙ all
 
+-- a count below 2 ^ 32 - 1 with one more
+one-more : {m n : ℕ} → m ≡ min (n + 1) 4294967295 → n < 4294967295 → m ≡ suc n
+one-more {m} {n} e h = omega arith
+
 -- ---- each kind
 
 module _ (file : Bytes) {work work′ : List ℕ} {at : ℕ} (to : ℕ) (sizes : Sizes) {o m place : ℕ} {r : Entered} (low : at < 4294967296 → o ≡ at) (counted : together sizes < 4294967296 → place ≡ together sizes) where
-  pub type-row : (sizes .types < 4294967295 → m ≡ suc (sizes .types)) → Enters type file work work′ sizes o place r → Row TypeRecord file work work′ at to sizes r (record { rows = sizes .rows; types = m; funs = sizes .funs; terms = sizes .terms; enums = sizes .enums; inputs = sizes .inputs })
+  pub type-row : m ≡ min (sizes .types + 1) 4294967295 → Enters type file work work′ sizes o place r → Row TypeRecord file work work′ at to sizes r (record { rows = sizes .rows; types = m; funs = sizes .funs; terms = sizes .terms; enums = sizes .enums; inputs = sizes .inputs })
   unfolding named
   type-row more E =
       record {
@@ -120,11 +124,11 @@ module _ (file : Bytes) {work work′ : List ℕ} {at : ℕ} (to : ℕ) (sizes :
               is = e;
               outcome = E .go f (B .indexed) (B .sizes-are) (next-room B R) (placed-at f (B .sizes-are) (omega (arith, few B R)) counted) t (rw (low (at-low B R)) (stands-as B R e));
               same-rows = refl;
-              sizes-are = sizes-type (B .sizes-are) t (more (omega (arith, few B R, B .sizes-are .types-are, counts-fewer f .types-fewer)));
+              sizes-are = sizes-type (B .sizes-are) t (one-more more (omega (arith, few B R, B .sizes-are .types-are, counts-fewer f .types-fewer)));
             };
       }
 
-  pub enum-row : (sizes .enums < 4294967295 → m ≡ suc (sizes .enums)) → Enters enumNamed file work work′ sizes o place r → Row EnumRecord file work work′ at to sizes r (record { rows = sizes .rows; types = sizes .types; funs = sizes .funs; terms = sizes .terms; enums = m; inputs = sizes .inputs })
+  pub enum-row : m ≡ min (sizes .enums + 1) 4294967295 → Enters enumNamed file work work′ sizes o place r → Row EnumRecord file work work′ at to sizes r (record { rows = sizes .rows; types = sizes .types; funs = sizes .funs; terms = sizes .terms; enums = m; inputs = sizes .inputs })
   unfolding named enumNamed
   enum-row more E =
       record {
@@ -135,11 +139,11 @@ module _ (file : Bytes) {work work′ : List ℕ} {at : ℕ} (to : ℕ) (sizes :
               is = e;
               outcome = E .go f (B .indexed) (B .sizes-are) (next-room B R) (placed-at f (B .sizes-are) (omega (arith, few B R)) counted) (K .0, K .1) (rw (low (at-low B R)) (stands-as B R e));
               same-rows = refl;
-              sizes-are = sizes-enum (B .sizes-are) (K .0) (K .1) (more (omega (arith, few B R, B .sizes-are .enums-are, counts-fewer f .enums-fewer)));
+              sizes-are = sizes-enum (B .sizes-are) (K .0) (K .1) (one-more more (omega (arith, few B R, B .sizes-are .enums-are, counts-fewer f .enums-fewer)));
             };
       }
 
-  pub fun-row : (sizes .funs < 4294967295 → m ≡ suc (sizes .funs)) → Enters func file work work′ sizes o place r → Row FunRecord file work work′ at to sizes r (record { rows = sizes .rows; types = sizes .types; funs = m; terms = sizes .terms; enums = sizes .enums; inputs = sizes .inputs })
+  pub fun-row : m ≡ min (sizes .funs + 1) 4294967295 → Enters func file work work′ sizes o place r → Row FunRecord file work work′ at to sizes r (record { rows = sizes .rows; types = sizes .types; funs = m; terms = sizes .terms; enums = sizes .enums; inputs = sizes .inputs })
   unfolding named
   fun-row more E =
       record {
@@ -151,11 +155,11 @@ module _ (file : Bytes) {work work′ : List ℕ} {at : ℕ} (to : ℕ) (sizes :
               is = e;
               outcome = E .go f (B .indexed) (B .sizes-are) (next-room B R) (placed-at f (B .sizes-are) (omega (arith, few B R)) counted) g (rw (low (at-low B R)) (stands-as B R e));
               same-rows = refl;
-              sizes-are = sizes-func (B .sizes-are) g (more (omega (arith, few B R, B .sizes-are .funs-are, counts-fewer f .funs-fewer)));
+              sizes-are = sizes-func (B .sizes-are) g (one-more more (omega (arith, few B R, B .sizes-are .funs-are, counts-fewer f .funs-fewer)));
             };
       }
 
-  pub term-row : (kind : Kind) → (sizes .terms < 4294967295 → m ≡ suc (sizes .terms)) → (Marked (markAt file o) kind → Enters term file work work′ sizes o place r) → Row (TermOf kind) file work work′ at to sizes r (record { rows = sizes .rows; types = sizes .types; funs = sizes .funs; terms = m; enums = sizes .enums; inputs = sizes .inputs })
+  pub term-row : (kind : Kind) → m ≡ min (sizes .terms + 1) 4294967295 → (Marked (markAt file o) kind → Enters term file work work′ sizes o place r) → Row (TermOf kind) file work work′ at to sizes r (record { rows = sizes .rows; types = sizes .types; funs = sizes .funs; terms = m; enums = sizes .enums; inputs = sizes .inputs })
   unfolding named MarkedAs
   term-row kind more E =
       record {
@@ -168,11 +172,11 @@ module _ (file : Bytes) {work work′ : List ℕ} {at : ℕ} (to : ℕ) (sizes :
               is = e;
               outcome = E M .go f (B .indexed) (B .sizes-are) (next-room B R) (placed-at f (B .sizes-are) (omega (arith, few B R)) counted) t (rw (low (at-low B R)) (stands-as B R e));
               same-rows = refl;
-              sizes-are = sizes-term (B .sizes-are) t (more (omega (arith, few B R, B .sizes-are .terms-are, counts-fewer f .terms-fewer)));
+              sizes-are = sizes-term (B .sizes-are) t (one-more more (omega (arith, few B R, B .sizes-are .terms-are, counts-fewer f .terms-fewer)));
             };
       }
 
-  pub input-row : (sizes .inputs < 4294967295 → m ≡ suc (sizes .inputs)) → Enters input file work work′ sizes o place r → Row InputRecord file work work′ at to sizes r (record { rows = sizes .rows; types = sizes .types; funs = sizes .funs; terms = sizes .terms; enums = sizes .enums; inputs = m })
+  pub input-row : m ≡ min (sizes .inputs + 1) 4294967295 → Enters input file work work′ sizes o place r → Row InputRecord file work work′ at to sizes r (record { rows = sizes .rows; types = sizes .types; funs = sizes .funs; terms = sizes .terms; enums = sizes .enums; inputs = m })
   unfolding named
   input-row more E =
       record {
@@ -184,6 +188,6 @@ module _ (file : Bytes) {work work′ : List ℕ} {at : ℕ} (to : ℕ) (sizes :
               is = e;
               outcome = E .go f (B .indexed) (B .sizes-are) (next-room B R) (placed-at f (B .sizes-are) (omega (arith, few B R)) counted) t (rw (low (at-low B R)) (stands-as B R e));
               same-rows = refl;
-              sizes-are = sizes-input (B .sizes-are) t (more (omega (arith, few B R, B .sizes-are .inputs-are, counts-together f)));
+              sizes-are = sizes-input (B .sizes-are) t (one-more more (omega (arith, few B R, B .sizes-are .inputs-are, counts-together f)));
             };
       }

@@ -3,7 +3,7 @@ use check_enter::Entered;
 use index::Sizes;
 use read_record::mark::Kind;
 ghost use mathlib.Core.Path.{_≡_};
-ghost use Prim.Native.Nat.{suc, _<_};
+ghost use Prim.Native.Nat.{_<_};
 ghost use Rattle.check_file.specs.Promise.{together};
 ghost use Rattle.check_file.specs.Stepping.{TypeRecord, EnumRecord, FunRecord, TermOf, InputRecord, StepsOver};
 
@@ -19,16 +19,6 @@ fn narrow(at: usize) -> u32
 {
     if at < 4294967296 {
         return at as u32;
-    }
-    0
-}
-
-// A count with one more, 0 where it does not fit.
-fn more(n: u32) -> u32
-    ensures { λ r. ⌜ (n < 4294967295 → r ≡ suc n) ⌝ }
-{
-    if n < 4294967295 {
-        return n + 1;
     }
     0
 }
@@ -49,7 +39,7 @@ pub fn next_place(sizes: Sizes) -> u32
 pub fn next_type(file: &[u8], work: &mut [u32], at: usize, to: usize, sizes: Sizes) -> Step
     ensures { λ r. ⌜ StepsOver TypeRecord (now (file .entry)) (now (work .entry)) (now (work .exit)) at to sizes r ⌝ }
 {
-    let types = more(sizes.types);
+    let types = index::more(sizes.types);
     let place = next_place(sizes);
     match check_enter::enter_type(file, work, sizes, narrow(at), place) {
         Entered::Broken(n) => Step::Bad(n),
@@ -71,7 +61,7 @@ pub fn next_type(file: &[u8], work: &mut [u32], at: usize, to: usize, sizes: Siz
 pub fn next_enum(file: &[u8], work: &mut [u32], at: usize, to: usize, sizes: Sizes) -> Step
     ensures { λ r. ⌜ StepsOver EnumRecord (now (file .entry)) (now (work .entry)) (now (work .exit)) at to sizes r ⌝ }
 {
-    let enums = more(sizes.enums);
+    let enums = index::more(sizes.enums);
     let place = next_place(sizes);
     match check_enter::enums::enter_enum(file, work, sizes, narrow(at), place) {
         Entered::Broken(n) => Step::Bad(n),
@@ -93,7 +83,7 @@ pub fn next_enum(file: &[u8], work: &mut [u32], at: usize, to: usize, sizes: Siz
 pub fn next_fun(file: &[u8], work: &mut [u32], at: usize, to: usize, sizes: Sizes) -> Step
     ensures { λ r. ⌜ StepsOver FunRecord (now (file .entry)) (now (work .entry)) (now (work .exit)) at to sizes r ⌝ }
 {
-    let funs = more(sizes.funs);
+    let funs = index::more(sizes.funs);
     let place = next_place(sizes);
     match check_enter::enter_fun(file, work, sizes, narrow(at), place) {
         Entered::Broken(n) => Step::Bad(n),
@@ -122,7 +112,7 @@ pub fn next_term(
 ) -> Step
     ensures { λ r. ⌜ StepsOver (TermOf kind) (now (file .entry)) (now (work .entry)) (now (work .exit)) at to sizes r ⌝ }
 {
-    let terms = more(sizes.terms);
+    let terms = index::more(sizes.terms);
     let place = next_place(sizes);
     match check_enter::terms::enter_term(file, work, sizes, narrow(at), kind, place) {
         Entered::Broken(n) => Step::Bad(n),
@@ -144,7 +134,7 @@ pub fn next_term(
 pub fn next_input(file: &[u8], work: &mut [u32], at: usize, to: usize, sizes: Sizes) -> Step
     ensures { λ r. ⌜ StepsOver InputRecord (now (file .entry)) (now (work .entry)) (now (work .exit)) at to sizes r ⌝ }
 {
-    let inputs = more(sizes.inputs);
+    let inputs = index::more(sizes.inputs);
     let place = next_place(sizes);
     match check_enter::inputs::enter_input(file, work, sizes, narrow(at), place) {
         Entered::Broken(n) => Step::Bad(n),

@@ -7,10 +7,6 @@ ghost use Rattle.check_file.specs.Reading.{ReadsNext};
 pub fn read_next(file: &[u8], at: usize, work: &[u32], sizes: Sizes) -> Next
     ensures { λ r. ⌜ ReadsNext (now (file .entry)) (now (work .entry)) at sizes r ⌝ }
 {
-    let types = sizes.types;
-    let n = types as usize;
-    if work.len() < n {
-        return Next::Bad(3);
-    }
-    read_record::next_record(file, at, types, sizes.funs, sizes.terms, &work[..n])
+    let offsets = index::type_offsets(work, sizes.types as usize);
+    read_record::next_record(file, at, sizes.types, sizes.funs, sizes.terms, offsets)
 }

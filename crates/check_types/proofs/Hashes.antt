@@ -36,7 +36,8 @@ use Rattle.read_record.specs.declared.mark.Kind.the-variants as kind
 use Rattle.read_record.proofs.mark.Kind.{the-type}
 use Rattle.check_types.specs.Sought.{typeLetter, widthAt, valueCode, partAt, Wanted, Seeks}
 use Rattle.check_types.specs.Probed.{TypeHash, TypeHome}
-use Rattle.check_types.proofs.Letters.{over, letterOf, mark-bytes, otherTags, Sized}
+use Rattle.index_entry.proofs.Letters.{type-bytes}
+use Rattle.check_types.proofs.Letters.{over, letterOf, otherTags, Sized}
 use Rattle.check_types.proofs.Numbers.{typeNumber, no-number, none, one}
 use Rattle.check_types.proofs.Read.{term-width, term-code, term-part}
 use Rattle.check_types.proofs.Same.{seeks-below, seeks-no-entity, sought-letter, sought-other, seeks-sized, seeks-settled, RecordTerm, record-term}
@@ -68,7 +69,7 @@ one-segment (Declared (recordOf names)) ns h r e = absurd (r refl)
 -- by the letter of the mark
 hashed-letter : (t : TypeMark) (l : List Segment) → hashed (typeBytes t) l ≡ typeHash (letterOf t) l
 unfolding typeHash
-hashed-letter t l = ap (λ (m : Bytes). hashed m l) (mark-bytes t)
+hashed-letter t l = ap (λ (m : Bytes). hashed m l) (sym (type-bytes t))
 
 -- a record term has the segments of its type, with types listed
 listed-segments : (file : Bytes) (work : List ℕ) (k o : ℕ) (octets : Octets file) {names : List Bytes} {rs : List ℕ} → entryAt file o ≡ some (term (Record names) rs)

@@ -26,6 +26,7 @@ use Rattle.read_record.proofs.mark.Kind.{the-type}
 use Rattle.check_rules.specs.Marks.{datatypeBytes, typeBytes}
 use Rattle.check_rules.proofs.Marks.{Yields, yields-pure, yields-after}
 use Rattle.check_rules.proofs.EntryKinds.{typeKind, kindOf, entry-kind}
+use Rattle.index_entry.proofs.Letters.{type-bytes}
 use Rattle.check_types.specs.Sought.{typeLetter, KindSought}
 
 -- P holds of the mark and the parts of a type, unless it is referred to
@@ -43,23 +44,12 @@ over P e h = subst (Over P) e h
 abbrev pub letterOf : TypeMark → ℕ
 letterOf t = getD (typeBytes t) 1 0
 
-pub mark-bytes : (t : TypeMark) → typeBytes t ≡ 84 ∷ letterOf t ∷ []
-unfolding typeBytes datatypeBytes Computes.base
-mark-bytes Bool· = refl
-mark-bytes String· = refl
-mark-bytes Option· = refl
-mark-bytes Set· = refl
-mark-bytes (BitVec· n) = refl
-mark-bytes (Declared (entity a)) = refl
-mark-bytes (Declared (extension x)) = refl
-mark-bytes (Declared (recordOf names)) = refl
-
 -- the bytes of a mark
 letter-from : {s r : Bytes} → some s ≡ some r → getD s 1 0 ≡ getD r 1 0
 letter-from {s} {r} e = let q : s ≡ r = cc in ap (λ (m : Bytes). getD m 1 0) q
 
 not-type : {s : Bytes} (t : TypeMark) → some s ≡ some (typeBytes t) → (getD s 0 0 ≡ 84 → ⊥) → ⊥
-not-type {s} t e h = let q : s ≡ typeBytes t = cc in h (ap (λ (m : Bytes). getD m 0 0) (q ∙ mark-bytes t))
+not-type {s} t e h = let q : s ≡ typeBytes t = cc in h (ap (λ (m : Bytes). getD m 0 0) (q ∙ sym (type-bytes t)))
 
 -- the letter of a type's kind
 kind-letter : (k : Kind) (t : TypeMark) → mark k ≡ some (typeBytes t) → typeLetter k ≡ letterOf t

@@ -20,7 +20,7 @@ typeMarked l = 84 ∷ l ∷ []
 abbrev pub termMarked : ℕ → Bytes
 termMarked l = 88 ∷ l ∷ []
 
-type-bytes : (t : TypeMark) → typeMarked (getD (typeBytes t) 1 0) ≡ typeBytes t
+pub type-bytes : (t : TypeMark) → typeMarked (getD (typeBytes t) 1 0) ≡ typeBytes t
 unfolding typeBytes datatypeBytes bytes
 type-bytes Bool· = refl
 type-bytes String· = refl

@@ -74,7 +74,7 @@ pub finds-members : {file : Bytes} {work : List ℕ} {sizes : Sizes} {name : Byt
     → members f name ≡ membersAt f r
 finds-members {name = name} F f I = number-members f name ∙ ap (membersAt f) (sym (F .go f I))
 
-pub finds-named : {file : Bytes} {work : List ℕ} {sizes : Sizes} {r : ℕ} {name : Bytes} → FindsNamed file work (sizes .rows) (sizes .enums) name r → FindsEnum file work sizes name r
+pub finds-named : {file : Bytes} {work : List ℕ} {sizes : Sizes} {r : ℕ} {name : Bytes} → FindsNamed file work sizes name r → FindsEnum file work sizes name r
 unfolding enumNumber enumName orElse
 finds-named {r = r} {name = name} F =
     record {
@@ -87,5 +87,5 @@ finds-named {r = r} {name = name} F =
           (λ j m. other-texts name _ (λ q. let z = I .rows .names .only j r (omega arith) inside (q ∙ sym (h .equal)) in omega arith))
           (equal-texts name _ (h .equal))))
           (λ m. rw (place-nowhere name (enums f) (λ j l. other-texts name _ (λ q. m .none j (omega arith) q))) (m .is ∙ e))
-          (F .go f (record { index = I .rows; count-is = e }));
+          (F .go f (I .rows) (I .sizes-are));
     }

@@ -16,6 +16,7 @@ use Rattle.index.proofs.Growth.{counts-fewer}
 use Rattle.check_rules.specs.Enums.{NameAt}
 use Rattle.index_search.specs.Storing.{NameHome, Stores}
 use Rattle.index_search.proofs.Probing.{held-past, held-other, held-same, Passed, passed-none, passed-more, none-at-all, none-beyond}
+use Rattle.index.specs.declared.Sizes.{Sizes}
 use Rattle.index_search.specs.Named.{Among, HoldsNamed, ProbesNamed, FindsNamed, EnrolsNamed}
 
 -- ---- one slot
@@ -70,23 +71,23 @@ module _ {file : Bytes} {work : List ℕ} {k count : ℕ} {name : Bytes} {b : �
 
 -- ---- the search
 
-module _ {file : Bytes} {work : List ℕ} {k count : ℕ} {name : Bytes} {b r : ℕ} (H : NameHome k name b) (P : ProbesNamed file work k count name b r) where
-  pub named-found : FindsNamed file work k count name r
-  named-found = record { go = λ f A. P .go f A (H .is) }
+module _ {file : Bytes} {work : List ℕ} {sizes : Sizes} {name : Bytes} {b r : ℕ} (H : NameHome (sizes .rows) name b) (P : ProbesNamed file work (sizes .rows) (sizes .enums) name b r) where
+  pub named-found : FindsNamed file work sizes name r
+  named-found = record { go = λ f I c. P .go f (record { index = I; count-is = c .enums-are }) (H .is) }
 
   -- what was found
-  pub name-known : (r ≡ count → ⊥) → EnrolsNamed file work work k count name r
-  name-known h = record { go = λ f I c room. inl (record { hit = ⊎-elim (λ K. K) (λ M. absurd (h (M .is))) (P .go f (record { index = I .index; count-is = c }) (H .is)); unchanged = refl }) }
+  pub name-known : (r ≡ sizes .enums → ⊥) → EnrolsNamed file work work sizes name r
+  name-known h = record { go = λ f I c room. inl (record { hit = ⊎-elim (λ K. K) (λ M. absurd (h (M .is))) (P .go f (record { index = I .index; count-is = c .enums-are }) (H .is)); unchanged = refl }) }
 
   -- nothing was found
-  pub name-new : {work′ : List ℕ} {v : ℕ} → r ≡ count → (count < 1048576 → 3 < 4 → v ≡ codeOf count 3) → Stores work work′ k b v → EnrolsNamed file work work′ k count name r
+  pub name-new : {work′ : List ℕ} {v : ℕ} → r ≡ sizes .enums → (sizes .enums < 1048576 → 3 < 4 → v ≡ codeOf (sizes .enums) 3) → Stores work work′ (sizes .rows) b v → EnrolsNamed file work work′ sizes name r
   name-new e code S =
       record {
         go = λ f I c room.
-            let small : count < 1048576 = omega (arith, I .searchable .small, counts-fewer f .enums-fewer) in
+            let small : sizes .enums < 1048576 = omega (arith, I .searchable .small, counts-fewer f .enums-fewer, c .enums-are) in
             inr
             (record {
-              miss = ⊎-elim (λ K. absurd (omega (arith, K .below))) (λ M. M) (P .go f (record { index = I .index; count-is = c }) (H .is));
+              miss = ⊎-elim (λ K. absurd (omega (arith, K .below))) (λ M. M) (P .go f (record { index = I .index; count-is = c .enums-are }) (H .is));
               stored = rw (H .is (omega arith), code small (omega arith)) at (S .go (H .inside) (omega (arith, I .searchable .taken)));
             });
       }

@@ -9,7 +9,8 @@ use lib.ListN.{length}
 use Rattle.script_spec.specs.Base.{Bytes}
 use Rattle.script_spec.specs.File.{TermFile, enums}
 use Rattle.index.specs.Names.{codeOf, nameHome, enumName}
-use Rattle.index.specs.Meaning.{Rows}
+use Rattle.index.specs.Meaning.{Rows, SizesOf}
+use Rattle.index.specs.declared.Sizes.{Sizes}
 use Rattle.index_compare.specs.View.{Decides}
 use Rattle.index_search.specs.Slots.{Held}
 use Rattle.index_search.specs.Storing.{Stored}
@@ -44,8 +45,8 @@ pub record ProbesNamed (file : Bytes) (work : List ℕ) (rows count : ℕ) (name
   pub go : (f : TermFile) → Among file work rows count f → (0 < rows → b ≡ nameHome rows name) → HitNamed f count name r ⊎ MissNamed f count name r
 
 -- what the search answers
-pub record FindsNamed (file : Bytes) (work : List ℕ) (rows count : ℕ) (name : Bytes) (r : ℕ) : Type 0 where
-  pub go : (f : TermFile) → Among file work rows count f → HitNamed f count name r ⊎ MissNamed f count name r
+pub record FindsNamed (file : Bytes) (work : List ℕ) (sizes : Sizes) (name : Bytes) (r : ℕ) : Type 0 where
+  pub go : (f : TermFile) → Rows file f work (sizes .rows) → SizesOf f sizes → HitNamed f (sizes .enums) name r ⊎ MissNamed f (sizes .enums) name r
 
 -- an enum has the name, and the memory is as it was
 pub record KnownName (work work′ : List ℕ) (f : TermFile) (count : ℕ) (name : Bytes) (r : ℕ) : Type 0 where
@@ -58,5 +59,5 @@ pub record NewName (work work′ : List ℕ) (rows : ℕ) (f : TermFile) (count 
   pub stored : Stored work work′ rows (nameHome rows name) (codeOf count 3)
 
 -- what the search answers that enters the name, where there is room for one record more
-pub record EnrolsNamed (file : Bytes) (work work′ : List ℕ) (rows count : ℕ) (name : Bytes) (r : ℕ) : Type 0 where
-  pub go : (f : TermFile) → Indexed file f work rows → count ≡ length (enums f) → suc (length f) ≤ rows → KnownName work work′ f count name r ⊎ NewName work work′ rows f count name r
+pub record EnrolsNamed (file : Bytes) (work work′ : List ℕ) (sizes : Sizes) (name : Bytes) (r : ℕ) : Type 0 where
+  pub go : (f : TermFile) → Indexed file f work (sizes .rows) → SizesOf f sizes → suc (length f) ≤ sizes .rows → KnownName work work′ f (sizes .enums) name r ⊎ NewName work work′ (sizes .rows) f (sizes .enums) name r

@@ -6,5 +6,5 @@ ghost use Rattle.index_search.specs.Enums.{FindsEnum};
 pub fn find(file: &[u8], work: &[u32], sizes: Sizes, name: &[u8]) -> u32
     ensures { λ r. ⌜ FindsEnum (now (file .entry)) (now (work .entry)) sizes (now (name .entry)) r ⌝ }
 {
-    crate::names::find(file, work, sizes.rows, sizes.enums, name)
+    crate::names::find(file, work, sizes, name)
 }

@@ -36,17 +36,17 @@ fn probe(file: &[u8], work: &[u32], rows: usize, count: u32, name: &[u8], b: usi
     count
 }
 
-// The number of the enum of the name, of `count` enums, or `count`.
-pub fn find(file: &[u8], work: &[u32], rows: usize, count: u32, name: &[u8]) -> u32
-    ensures { λ r. ⌜ FindsNamed (now (file .entry)) (now (work .entry)) rows count (now (name .entry)) r ⌝ }
+// The number of the enum of the name, or how many enums there are.
+pub fn find(file: &[u8], work: &[u32], sizes: Sizes, name: &[u8]) -> u32
+    ensures { λ r. ⌜ FindsNamed (now (file .entry)) (now (work .entry)) sizes (now (name .entry)) r ⌝ }
 {
-    let b = crate::slots::name_home(name, rows);
-    probe(file, work, rows, count, name, b)
+    let b = crate::slots::name_home(name, sizes.rows);
+    probe(file, work, sizes.rows, sizes.enums, name, b)
 }
 
 // The same number among the enums; where there is none, the name is entered with how many there are for its number.
 pub fn enrol(file: &[u8], work: &mut [u32], sizes: Sizes, name: &[u8]) -> u32
-    ensures { λ r. ⌜ EnrolsNamed (now (file .entry)) (now (work .entry)) (now (work .exit)) (sizes .rows) (sizes .enums) (now (name .entry)) r ⌝ }
+    ensures { λ r. ⌜ EnrolsNamed (now (file .entry)) (now (work .entry)) (now (work .exit)) sizes (now (name .entry)) r ⌝ }
 {
     let rows = sizes.rows;
     let count = sizes.enums;

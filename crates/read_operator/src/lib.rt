@@ -13,7 +13,7 @@ ghost use Rattle.read_field.specs.Reads.{Reads, chosen};
 ghost use Rattle.read_operator.specs.Codes.{extCount, bvsmodCode, extCode, recordGetCode};
 ghost use Rattle.read_operator.specs.Operators.{IsExt, Operand, patternBytes, opTold, extOperator, recordGetOperand, stringLike, uninterpreted, zeroExtend};
 
-// The codes of the operators; others ask for those with an operand and for that of `Bvnego`.
+// The codes of the operators, all of them; others ask for those with an operand and for that of `Bvnego`.
 const AND: u8 = 0;
 
 const BVADD: u8 = 1;

@@ -11,15 +11,14 @@ use lib.ListN.{length, take, drop, getD, length-drop}
 use lib.Seq.{drop-drop, getD-drop}
 use borrow.Author.Tests.{le-leb, lt-leb}
 use Rattle.script_spec.specs.Base.{Bytes, isSome, lookup}
-use Rattle.script_spec.specs.Fields.{Read, got, bad, Reader, Entry, Earlier, _>>=_, pure, part, number, low, u32, marks, whole}
+use Rattle.script_spec.specs.Fields.{Read, got, bad, Reader, Entry, Earlier, low, marks, whole}
 use Rattle.script_spec.specs.File.{TermFile, Named, named, earlier, kept, judged, nextRecord}
 use Rattle.script_spec.proofs.Laws.{never}
 use Rattle.script_spec.proofs.Lists.{take-two}
-use Rattle.script_spec.proofs.Readers.{bind-got}
-use Rattle.read_field.specs.Reads.{value, refusal, asRead, Reads}
 use Rattle.read_record.specs.Marks.{readerOf, Marked}
 use Rattle.read_record.specs.Bodies.{verdictAs, valueless, bodyRead}
-use Rattle.read_record.specs.Records.{followed, readRecord, numberRead, Said, NextRecord}
+use Rattle.read_field.proofs.Laws.{four-at}
+use Rattle.read_record.specs.Records.{followed, readRecord, Said, NextRecord}
 use Rattle.read_record.specs.declared.mark.Kind.{Kind}
 use Rattle.read_record.specs.declared.Next.the-variants as next
 use Rattle.read_record.specs.declared.body.Verdict.the-variants as verdict
@@ -68,22 +67,6 @@ unfolding valueless verdictAs followed
 valueless-fine (got e left) h = (e, λ rest. refl)
 valueless-fine (bad m) h = never cc
 
-number-four : (s : Bytes) → 4 ≤ length s → numberRead (u32 s) ≡ low (take 4 s)
-unfolding numberRead u32 number part pure
-number-four s h =
-    let p : part 4 s ≡ got (take 4 s) (drop 4 s) = rw (part, le-leb 4 (length s) h) in
-    ap numberRead (bind-got (part 4) (λ bs. pure (low bs)) p)
-
--- the number that is read
-module _ (body : Bytes) (from : ℕ) where
-  pub number-got : {n to : ℕ} → Reads u32 body from (value n to) → n ≡ numberRead (u32 (drop from body))
-  unfolding asRead numberRead
-  number-got h = sym (ap numberRead (h .is))
-
-  pub number-none : {m : ℕ} → Reads u32 body from (refusal m) → 0 ≡ numberRead (u32 (drop from body))
-  unfolding asRead numberRead
-  number-none h = sym (ap numberRead (h .is))
-
 -- the record at a place of a file
 module _ (e : Earlier) (file : Bytes) (at : ℕ) where
   pub next-short : length file - at < 6 → NextRecord e file at (next.Bad 3)
@@ -104,9 +87,9 @@ module _ (e : Earlier) (file : Bytes) (at : ℕ) where
     unfolding Said
     next-unknown h = record { is = record-unknown e (drop at file) six-bytes (lookup-mark ∙ is-none (readerOf e k) h) }
 
-    module _ (known : isSome (readerOf e k) ≡ true) (size : ℕ) (sized : size ≡ numberRead (u32 (drop (at + 2) file))) where
+    module _ (known : isSome (readerOf e k) ≡ true) (size : ℕ) (sized : size ≡ low (getD file (at + 2) 0 ∷ getD file (at + 2 + 1) 0 ∷ getD file (at + 2 + 2) 0 ∷ getD file (at + 2 + 3) 0 ∷ [])) where
       size-is : low (take 4 (drop 2 (drop at file))) ≡ size
-      size-is = rw (drop-drop 2 at file) (sym (sized ∙ number-four (drop (at + 2) file) (rw length-drop (omega arith))))
+      size-is = rw (drop-drop 2 at file) (sym (sized ∙ ap low (four-at file (at + 2) (omega arith))))
 
       pub next-past : length file - (at + 6) < size → NextRecord e file at (next.Bad 3)
       unfolding Said

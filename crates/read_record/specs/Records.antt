@@ -34,11 +34,6 @@ readRecord e s =
       ]
     ]
 
--- a number that was read, and else 0
-unfoldable pub numberRead : Read ℕ → ℕ
-numberRead (got n rest) = n
-numberRead (bad n) = 0
-
 -- a record of this kind stands at a place of the file, its body from `start` to `end`
 pub record IsRecord (e : Earlier) (file : Bytes) (at : ℕ) (kind : Kind) (start end : ℕ) : Type 0 where
   pub marked : Marked (take 2 (drop at file)) kind

@@ -6,12 +6,8 @@ pub mod mark;
 use body::Verdict;
 use mark::Kind;
 use read_field::Cursor;
-use read_field::ReadNumber;
-ghost use mathlib.Core.Path.{_≡_};
-ghost use lib.ListN.{drop};
-ghost use Rattle.script_spec.specs.Fields.{u32};
 ghost use Rattle.read_record.specs.Bodies.{earlierWith};
-ghost use Rattle.read_record.specs.Records.{NextRecord, numberRead};
+ghost use Rattle.read_record.specs.Records.{NextRecord};
 
 // The next record: its kind and where its body starts and ends in the file; or the number of its refusal.
 pub enum Next {
@@ -21,16 +17,6 @@ pub enum Next {
         end: usize,
     },
     Bad(u32),
-}
-
-// A number of four bytes, 0 where they are not there.
-fn number_at(file: &[u8], at: usize) -> usize
-    ensures { λ r. ⌜ r ≡ numberRead (u32 (drop at (now (file .entry)))) ⌝ }
-{
-    match (Cursor { at }).u32_le(file) {
-        ReadNumber::Value(n, _) => n as usize,
-        ReadNumber::Bad(_) => 0,
-    }
 }
 
 // The record at a place of the file, after so many types, functions and terms; `offsets` has the places of the types.
@@ -51,7 +37,13 @@ pub fn next_record(
     if !mark::is_known(kind) {
         return Next::Bad(4);
     }
-    let size = number_at(file, at + 2);
+    let from = at + 2;
+    let size = read_field::word(
+        file[from],
+        file[from + 1],
+        file[from + 2],
+        file[from + 3],
+    ) as usize;
     let start = at + 6;
     if file.len() - start < size {
         return Next::Bad(3);

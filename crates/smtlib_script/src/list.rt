@@ -32,13 +32,7 @@ pub fn put_two(out: &mut [u8], at: usize, limit: usize, x: &[u8], y: &[u8]) -> u
 }
 
 // The texts with a separator between them. Past the limit none is looked at.
-pub fn put_joined(
-    out: &mut [u8],
-    at: usize,
-    limit: usize,
-    separator: &[u8],
-    texts: &[&[u8]],
-) -> usize
+fn put_joined(out: &mut [u8], at: usize, limit: usize, separator: &[u8], texts: &[&[u8]]) -> usize
     ensures { λ r. ⌜ Appends limit (now (out .entry)) at (now (out .exit)) r (joined (now (separator .entry)) (map now (now (texts .entry)))) ⌝ }
 {
     if texts.len() == 0 {

@@ -16,7 +16,8 @@ use Rattle.script_spec.specs.File.{TermFile, types, funs, terms, typeAt, funAt,
 use Rattle.script_spec.specs.Text.{decimal}
 use Rattle.script_spec.specs.Command.{Command}
 use Rattle.script_spec.specs.Walk.{State, start, enterType, enterFun, enterTerm, write, numbered, names}
-use Rattle.index.specs.Cells.{placed, cell, store, typeFirst, funFirst, termFirst}
+use Rattle.index.specs.Cells.{placed, cell, store, typeOffset, typeFirst, funOffset, funFirst, funPlace, termOffset, termFirst, termType, enumOffset, hash}
+use Rattle.index.specs.Cells.{termPlace, enumList, typePlace, typeList, enumPlace, inputPlace, listRow, inputOffset, inputTerm}
 use Rattle.index.specs.First.{firstType, firstFun, firstTerm}
 use Rattle.index.specs.Standing.{bodyAt}
 use Rattle.index.specs.Meaning.{Rows, Index, Unnamed}
@@ -66,28 +67,28 @@ module _ {file : Bytes} {f : TermFile} {work work′ : List ℕ} {k : ℕ} (K : 
   rows-kept I =
       record {
         fits = rw (K .size) (I .fits);
-        type-row = λ n l. let r = I .type-row n l in record { stands = rw (K .others 0 n refl) (r .stands); first = K .others 1 n refl ∙ r .first; place-is = K .others 15 n refl ∙ r .place-is };
-        fun-row = λ n l. let r = I .fun-row n l in record { stands = rw (K .others 3 n refl) (r .stands); first = K .others 4 n refl ∙ r .first; place-is = K .others 5 n refl ∙ r .place-is };
+        type-row = λ n l. let r = I .type-row n l in record { stands = rw (K .others typeOffset n refl) (r .stands); first = K .others typeFirst n refl ∙ r .first; place-is = K .others typePlace n refl ∙ r .place-is };
+        fun-row = λ n l. let r = I .fun-row n l in record { stands = rw (K .others funOffset n refl) (r .stands); first = K .others funFirst n refl ∙ r .first; place-is = K .others funPlace n refl ∙ r .place-is };
         term-row = λ n l. let r = I .term-row n l in
             record {
-              stands = rw (K .others 6 n refl) (r .stands);
-              first = K .others 7 n refl ∙ r .first;
-              type-below = rw (K .others 8 n refl) (r .type-below);
-              type-is = rw (K .others 8 n refl) (r .type-is);
-              type-first = rw (K .others 8 n refl) (r .type-first);
-              place-is = K .others 12 n refl ∙ r .place-is;
+              stands = rw (K .others termOffset n refl) (r .stands);
+              first = K .others termFirst n refl ∙ r .first;
+              type-below = rw (K .others termType n refl) (r .type-below);
+              type-is = rw (K .others termType n refl) (r .type-is);
+              type-first = rw (K .others termType n refl) (r .type-first);
+              place-is = K .others termPlace n refl ∙ r .place-is;
             };
-        enum-row = λ n l. let r = I .enum-row n l in record { stands = rw (K .others 10 n refl) (r .stands); place-is = K .others 17 n refl ∙ r .place-is };
-        input-row = λ n l. let r = I .input-row n l in record { stands = rw (K .others 20 n refl, K .others 22 n refl) (r .stands); below = rw (K .others 22 n refl) (r .below); is = rw (K .others 22 n refl) (r .is); place-is = K .others 18 n refl ∙ r .place-is };
+        enum-row = λ n l. let r = I .enum-row n l in record { stands = rw (K .others enumOffset n refl) (r .stands); place-is = K .others enumPlace n refl ∙ r .place-is };
+        input-row = λ n l. let r = I .input-row n l in record { stands = rw (K .others inputOffset n refl, K .others inputTerm n refl) (r .stands); below = rw (K .others inputTerm n refl) (r .below); is = rw (K .others inputTerm n refl) (r .is); place-is = K .others inputPlace n refl ∙ r .place-is };
         fit = I .fit;
-        names = names-same (record { same = λ i h. K .others 11 i refl }) (I .names) refl;
+        names = names-same (record { same = λ i h. K .others hash i refl }) (I .names) refl;
         listed =
             record {
               of-types = record {
-                list = λ t base l e names a. listed-same (ap (bodyAt file) (K .others 0 t refl)) (λ j l. K .others 19 (base + j) refl) (I .listed .of-types .list t base l (sym (K .others 16 t refl) ∙ e) names a);
+                list = λ t base l e names a. listed-same (ap (bodyAt file) (K .others typeOffset t refl)) (λ j l. K .others listRow (base + j) refl) (I .listed .of-types .list t base l (sym (K .others typeList t refl) ∙ e) names a);
               };
               of-enums = record {
-                list = λ t base l e names a. listed-same (ap (bodyAt file) (K .others 10 t refl)) (λ j l. K .others 19 (base + j) refl) (I .listed .of-enums .list t base l (sym (K .others 13 t refl) ∙ e) names a);
+                list = λ t base l e names a. listed-same (ap (bodyAt file) (K .others enumOffset t refl)) (λ j l. K .others listRow (base + j) refl) (I .listed .of-enums .list t base l (sym (K .others enumList t refl) ∙ e) names a);
               };
             };
       }

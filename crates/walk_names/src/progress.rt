@@ -1,6 +1,5 @@
 // How far the encoder's walk has come.
 ghost use mathlib.Core.Path.{_≡_};
-ghost use Prim.Native.Nat.{_+_, min};
 ghost use Rattle.write_bytes.specs.Writing.{ceiling, moved};
 
 // The place in the script and how many of its bytes count; how many types, functions and terms have a name; the number of the refused
@@ -13,16 +12,6 @@ pub struct Progress {
     pub terms: u32,
     pub term: u32,
     pub refused: u32,
-}
-
-// One more, or the greatest number of 32 bits again.
-pub fn more(n: u32) -> u32
-    ensures { λ r. ⌜ r ≡ min (n + 1) 4294967295 ⌝ }
-{
-    if n < 4294967295 {
-        return n + 1;
-    }
-    n
 }
 
 // The progress at another place of the script.

@@ -27,7 +27,7 @@ pub fn enter(work: &mut [u32], sizes: Sizes, p: Progress, n: u32) -> Progress
     if p.refused != 0 {
         return p;
     }
-    let name = walk_names::progress::more(p.terms);
+    let name = index::more(p.terms);
     walk_names::naming::set(
         work,
         sizes.rows,

@@ -56,7 +56,7 @@ pub fn declare_type(
     if !is_datatype(file, work, sizes, t) {
         return p;
     }
-    let name = walk_names::progress::more(p.types);
+    let name = index::more(p.types);
     walk_names::naming::set(
         work,
         sizes.rows,
@@ -108,7 +108,7 @@ pub fn declare_fun(
     if p.refused != 0 {
         return p;
     }
-    let name = walk_names::progress::more(p.funs);
+    let name = index::more(p.funs);
     walk_names::naming::set(
         work,
         sizes.rows,

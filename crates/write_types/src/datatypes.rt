@@ -1,4 +1,4 @@
-// The declarations of entity types, enums and extension types, and the comments of enums.
+// The declarations of entity types, enums and extension types.
 
 use index_entry::types::ExtType;
 use smtlib_script::line::Word;

@@ -96,7 +96,7 @@ fn declare_entity_type(
     declare_plain_type(rest, room, text, name)
 }
 
-// Writes what declares the type with number t, and answers the length; 0 for a type that is no datatype.
+// Writes what declares the type with number t, and answers the length; what it answers for a type that is no datatype says nothing.
 pub fn put_type_lines(
     file: &[u8],
     work: &[u32],
