@@ -6,7 +6,7 @@ use mathlib.Core.List.{List}
 use lib.ListN.{length, replicate}
 use Rattle.script_spec.specs.Base.{Bytes, Answer, accepted, refused}
 use Rattle.script_spec.specs.File.{TermFile, checked}
-use Rattle.index.specs.Meaning.{Unnamed, Index}
+use Rattle.index.specs.Meaning.{Unnamed, CheckedIndex}
 use Rattle.index.specs.declared.Sizes.{Sizes}
 use Rattle.check_file.specs.declared.Checked.{Checked}
 use Rattle.check_file.specs.declared.Checked.the-variants as check
@@ -41,7 +41,7 @@ pub record Accepts (file : Bytes) (work work′ : List ℕ) (sizes : Sizes) : Ty
   pub records : TermFile
   pub accepts : checked file (length work) ≡ accepted records
   pub rows-are : sizes .rows ≡ length file / 6
-  pub index : Index file records work′ sizes
+  pub index : CheckedIndex file records work′ sizes
   pub unnamed : Unnamed file records work′ (sizes .rows)
 
 -- the file is refused by this number at this place, and the memory at exit is all zero

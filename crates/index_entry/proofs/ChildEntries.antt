@@ -6,27 +6,32 @@ use mathlib.Core.List.{List, []}
 use mathlib.Core.Option.{Option, some, Option·none-ne-some}
 use Prim.Native.Nat.{ℕ, _^_}
 use lib.Dec.{ltb}
-use lib.ListN.{getD}
+use lib.ListN.{getD, drop}
+use lib.Seq.{getD-drop, drop-drop}
 use Rattle.script_spec.specs.Base.{Bytes, bytes, same, lookup, andThen}
 use Rattle.script_spec.specs.Tree as tree
 use Rattle.script_spec.specs.Fields as fields
 use Rattle.script_spec.specs.Fields.{Entry, term, Reader, _>>=_, pure, ensure, text, ref, width, number, entityRef, marks, leaf, operator}
+use Rattle.index_compare.specs.Machine.{operandOf}
+use Rattle.index_compare.specs.declared.segments.Coded.the-variants.{Absent}
 use Rattle.index_compare.proofs.Standing.{entry-whole}
 use Rattle.index.specs.Standing.{markAt, bodyAt, entryOf, entryAt, loose}
 use Rattle.index.proofs.Readers.{Gives, gives-after, gives-pure}
-use Rattle.read_field.specs.Reads.{value, refusal, Reads}
+use Rattle.read_field.specs.Reads.{value, refusal}
 use Rattle.read_operator.specs.Operators.{opOf}
 use Rattle.read_operator.specs.declared.Op.{Op}
 use Rattle.check_rules.specs.Marks.{termBytes}
 use Rattle.index.specs.Lists.{numberAt}
 use Rattle.index_entry.proofs.Letters.{termMarked, term-marked, term-letter}
+use Rattle.read_operator.specs.Again.{ReadsAgain}
 use Rattle.index_entry.specs.Terms.{references, childrenIn, termSaid, IsTerm}
 use Rattle.index_entry.specs.Children.{ListedAt, IsChildren, ChildrenAt}
 use Rattle.index_entry.specs.declared.terms.Children.{Children}
 use Rattle.index_entry.specs.declared.terms.TermEntry.{TermEntry}
 use Rattle.index_entry.specs.declared.terms.TermEntry.the-variants as entry
 use Rattle.index_entry.proofs.ChildLaws.{no-children}
-use Rattle.index_entry.proofs.ParentEntries.{term-some, term-set, term-record, term-app, no-app}
+use Rattle.index_entry.proofs.ParentEntries.{appReader, app-parts, listed-children, term-some, term-set, term-record, term-app, no-app}
+use Rattle.index_entry.proofs.BareOperators.{bare-rest}
 
 -- ---- marks that have no children
 
@@ -98,13 +103,26 @@ module _ {body : Bytes} where
   unfolding termSaid
   children-record L = children-said _ (λ t rs h. cc) (term-record L)
 
-  pub children-app : {to : ℕ} {c : Children} (o : Op) → Reads (operator (2 ^ 32)) body 4 (value (opOf body o) to) → ListedAt body to false c → IsChildren (some (bytes "XA")) body c
+  pub children-app : {to : ℕ} {c : Children} (o : Op) → ReadsAgain (operator (2 ^ 32)) body 4 (value (opOf body o) to) → ListedAt body to false c → IsChildren (some (bytes "XA")) body c
   unfolding termSaid
   children-app {c = c} o r L = children-said {r = entry.App (numberAt body 0) o c} _ (λ t rs h. cc) (term-app refl r L)
 
-  pub no-arguments : {n : ℕ} {c : Children} → Reads (operator (2 ^ 32)) body 4 (refusal n) → IsChildren (some (bytes "XA")) body c
+  pub no-arguments : {n : ℕ} {c : Children} → ReadsAgain (operator (2 ^ 32)) body 4 (refusal n) → IsChildren (some (bytes "XA")) body c
   unfolding termSaid
   no-arguments r = children-said _ (λ t rs h. absurd (Option·none-ne-some (term t rs) h)) (no-app r)
+
+  -- an operator without an operand ends after its code
+  pub children-bare : {code : ℕ} {c : Children} → code ≡ getD body 4 0 → operandOf code ≡ Absent → ListedAt body 5 false c → IsChildren (some (bytes "XA")) body c
+  unfolding marks lookup same bytes entryOf andThen loose
+  children-bare {c = c} is bare L = record {
+    go = λ m t rs e g.
+        let mark-is : m ≡ bytes "XA" = cc in
+        app-parts body (entry-whole (appReader body) (term t rs) (rw mark-is at g)) (λ x y end qs v op listed whole.
+        let first : operandOf (getD (drop 4 body) 0 0) ≡ Absent = ap operandOf (getD-drop 4 body 0 0 ∙ sym is) ∙ bare in
+        let here : drop 5 body ≡ end = sym (drop-drop 1 4 body) ∙ bare-rest (2 ^ 32) (drop 4 body) first op in
+        let all : qs ≡ rs = cc in
+        listed-children L here listed ∙ all);
+  }
 
 -- the same mark
 pub under : {body : Bytes} {l l′ : ℕ} {r : Children} → l ≡ l′ → IsChildren (some (termMarked l′)) body r → IsChildren (some (termMarked l)) body r

@@ -10,6 +10,7 @@ pub mod SymbolEntries
 pub mod ChildLaws
 pub mod LeafEntries
 pub mod ValueEntries
+pub mod BareOperators
 pub mod ParentEntries
 pub mod TermEntries
 pub mod ChildEntries

@@ -2,17 +2,16 @@
 use crate::lists;
 use crate::terms::Children;
 use crate::terms::TermEntry;
+use index_compare::segments::Coded;
 use read_field::Cursor;
-use read_field::ReadNumber;
-use read_operator::Op;
 use read_operator::ReadOp;
 ghost use Prim.Native.Nat.{_^_};
 ghost use mathlib.Core.Bool.{true, false};
 ghost use mathlib.Core.Option.{some};
 ghost use Rattle.script_spec.specs.Base.{bytes};
 ghost use Rattle.script_spec.specs.Fields.{operator};
-ghost use Rattle.read_field.specs.Reads.{Reads};
-ghost use Rattle.read_operator.specs.Operators.{opTold, uninterpreted};
+ghost use Rattle.read_operator.specs.Operators.{opTold};
+ghost use Rattle.read_operator.specs.Again.{ReadsAgain};
 ghost use Rattle.index_entry.specs.Terms.{IsTerm};
 ghost use Rattle.index_entry.specs.Children.{ListedAt, IsChildren};
 
@@ -61,37 +60,11 @@ pub fn record_of(body: &[u8]) -> TermEntry
     TermEntry::Record(record_children(body))
 }
 
-// A function by its number.
-fn any_function(c: Cursor, body: &[u8]) -> ReadOp
-    ensures { λ r. ⌜ Reads (uninterpreted (2 ^ 32)) (now (body .entry)) (c .at) (opTold (now (body .entry)) r) ⌝ }
-{
-    match c.u32_le(body) {
-        ReadNumber::Bad(n) => ReadOp::Bad(n),
-        ReadNumber::Value(n, d) => ReadOp::Is(Op::Uuf(n), d),
-    }
-}
-
-// An operator with its operand, whatever number names a function.
-fn any_operator(c: Cursor, body: &[u8]) -> ReadOp
-    ensures { λ r. ⌜ Reads (operator (2 ^ 32)) (now (body .entry)) (c .at) (opTold (now (body .entry)) r) ⌝ }
-{
-    match c.byte(body) {
-        ReadNumber::Bad(n) => ReadOp::Bad(n),
-        ReadNumber::Value(code, d) => {
-            if code == read_operator::UUF as u32 {
-                return any_function(d, body);
-            }
-            read_operator::operator(c, body, 0xffff_ffff)
-        }
-    }
-}
-
 // The operator of an application, after its type.
 fn operator_of(body: &[u8]) -> ReadOp
-    ensures { λ r. ⌜ Reads (operator (2 ^ 32)) (now (body .entry)) 4 (opTold (now (body .entry)) r) ⌝ }
+    ensures { λ r. ⌜ ReadsAgain (operator (2 ^ 32)) (now (body .entry)) 4 (opTold (now (body .entry)) r) ⌝ }
 {
-    let c = Cursor { at: 4 };
-    any_operator(c, body)
+    read_operator::operator_again(Cursor { at: 4 }, body)
 }
 
 // An application: its type, the operator and the arguments.
@@ -105,8 +78,8 @@ pub fn app_of(body: &[u8]) -> TermEntry
     }
 }
 
-// The arguments of an application.
-pub fn arguments(body: &[u8]) -> Children
+// The arguments of an application, after an operator that is read.
+fn arguments_after(body: &[u8]) -> Children
     ensures { λ r. ⌜ IsChildren (some (bytes "XA")) (now (body .entry)) r ⌝ }
 {
     match operator_of(body) {
@@ -116,5 +89,15 @@ pub fn arguments(body: &[u8]) -> Children
             named: false,
         },
         ReadOp::Is(_, d) => listed_at(body, d.at, false),
+    }
+}
+
+// The arguments of an application: they begin after the operator's code where it has no operand.
+pub fn arguments(body: &[u8]) -> Children
+    ensures { λ r. ⌜ IsChildren (some (bytes "XA")) (now (body .entry)) r ⌝ }
+{
+    match index_compare::segments::operand_of(index_compare::compare::byte_at(body, 4)) {
+        Coded::With(_) => arguments_after(body),
+        Coded::Absent => listed_at(body, 5, false),
     }
 }

@@ -14,12 +14,12 @@ use lib.ListN.{length, getD}
 use Rattle.script_spec.specs.Base.{Bytes, same, place, placeFrom, firsts, lookup}
 use Rattle.script_spec.specs.File.{TermFile, enums, members}
 use Rattle.index.specs.First.{orElse}
-use Rattle.index.specs.Names.{enumName}
-use Rattle.index.specs.Meaning.{Index}
+use Rattle.index.specs.Names.{enumName, enumNumber}
+use Rattle.index.specs.Meaning.{CheckedIndex}
 use Rattle.index.specs.declared.Sizes.{Sizes}
 use Rattle.index_search.specs.Named.{FindsNamed}
 use Rattle.index_search.proofs.Lookup.{equal-texts, other-texts}
-use Rattle.index_search.specs.Enums.{enumAt, membersAt, enumNumber, FindsEnum}
+use Rattle.index_search.specs.Enums.{enumAt, membersAt, FindsEnum}
 
 -- ---- a table of texts
 
@@ -70,7 +70,7 @@ pub number-members : (f : TermFile) (name : Bytes) → members f name ≡ member
 unfolding members membersAt enumAt enumNumber orElse chosen
 number-members f name = lookup-place name (enums f)
 
-pub finds-members : {file : Bytes} {work : List ℕ} {sizes : Sizes} {name : Bytes} {r : ℕ} → FindsEnum file work sizes name r → (f : TermFile) → Index file f work sizes
+pub finds-members : {file : Bytes} {work : List ℕ} {sizes : Sizes} {name : Bytes} {r : ℕ} → FindsEnum file work sizes name r → (f : TermFile) → CheckedIndex file f work sizes
     → members f name ≡ membersAt f r
 finds-members {name = name} F f I = number-members f name ∙ ap (membersAt f) (sym (F .go f I))
 

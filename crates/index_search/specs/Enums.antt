@@ -7,10 +7,10 @@ use mathlib.Core.List.{List, []}
 use mathlib.Core.Option.{Option, none, some}
 use lib.Dec.{ltb}
 use lib.ListN.{length, getD}
-use Rattle.script_spec.specs.Base.{Bytes, same, place, firsts}
+use Rattle.script_spec.specs.Base.{Bytes}
 use Rattle.script_spec.specs.File.{TermFile, enums}
-use Rattle.index.specs.First.{orElse}
-use Rattle.index.specs.Meaning.{Index}
+use Rattle.index.specs.Names.{enumNumber}
+use Rattle.index.specs.Meaning.{CheckedIndex}
 use Rattle.index.specs.declared.Sizes.{Sizes}
 
 -- the enum with a number: its name and its members
@@ -21,10 +21,6 @@ enumAt f n = getD (enums f) n ([], [])
 unfoldable pub membersAt : TermFile → ℕ → Option (List Bytes)
 membersAt f n = elim (ltb n (length (enums f))) [ true ↦ some (enumAt f n .1) | false ↦ none ]
 
--- the number of the enum with a name, or how many enums there are where none has it
-unfoldable pub enumNumber : TermFile → Bytes → ℕ
-enumNumber f name = orElse (length (enums f)) (place (same name) (firsts (enums f)))
-
 -- the number that was found is that of the enum with the name
 pub record FindsEnum (file : Bytes) (work : List ℕ) (sizes : Sizes) (name : Bytes) (r : ℕ) : Type 0 where
-  pub go : (f : TermFile) → Index file f work sizes → r ≡ enumNumber f name
+  pub go : (f : TermFile) → CheckedIndex file f work sizes → r ≡ enumNumber f name

@@ -14,7 +14,6 @@ use Rattle.script_spec.proofs.Readers.{bind-inverse, pure-inverse, tested-inver
 use Rattle.read_field.specs.Words.{words}
 
 -- an element
--- an element
 element-inverse : (s : Bytes) {n : ℕ} {rest : Bytes} → element s ≡ got n rest → Numbered 4 s n rest
 unfolding element
 element-inverse s e = u32-inverse s (tested-inverse u32 7 _ s e)

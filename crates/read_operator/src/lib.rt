@@ -7,9 +7,10 @@ use read_field::Span;
 use read_field::list;
 use read_field::list::Item;
 ghost use mathlib.Core.Path.{_≡_};
-ghost use Prim.Native.Nat.{_<_, _≤_};
+ghost use Prim.Native.Nat.{_<_, _≤_, _^_};
 ghost use Rattle.script_spec.specs.Fields.{operators, operator};
 ghost use Rattle.read_field.specs.Reads.{Reads, chosen};
+ghost use Rattle.read_operator.specs.Again.{ReadsAgain};
 ghost use Rattle.read_operator.specs.Codes.{extCount, bvsmodCode, extCode, recordGetCode};
 ghost use Rattle.read_operator.specs.Operators.{IsExt, Operand, patternBytes, opTold, extOperator, recordGetOperand, stringLike, uninterpreted, zeroExtend};
 
@@ -349,4 +350,83 @@ pub fn operator(c: Cursor, body: &[u8], funs: u32) -> ReadOp
         return ReadOp::Bad(5);
     }
     operand(Cursor { at: at + 1 }, body[at], body, funs)
+}
+
+// The attribute of a `RecordGet` in an accepted body: as many bytes as their count says.
+fn record_get_again(c: Cursor, body: &[u8]) -> ReadOp
+    ensures { λ r. ⌜ ReadsAgain recordGetOperand (now (body .entry)) (c .at) (opTold (now (body .entry)) r) ⌝ }
+{
+    match c.u32_le(body) {
+        ReadNumber::Bad(n) => ReadOp::Bad(n),
+        ReadNumber::Value(count, d) => match d.part(body, count as usize) {
+            ReadText::Bad(n) => ReadOp::Bad(n),
+            ReadText::Bytes(span, e) => ReadOp::Is(Op::RecordGet(span), e),
+        },
+    }
+}
+
+// The pattern of a `StringLike` in an accepted body: as many elements as their count says.
+fn string_like_again(c: Cursor, body: &[u8]) -> ReadOp
+    ensures { λ r. ⌜ ReadsAgain stringLike (now (body .entry)) (c .at) (opTold (now (body .entry)) r) ⌝ }
+{
+    match c.u32_le(body) {
+        ReadNumber::Bad(n) => ReadOp::Bad(n),
+        ReadNumber::Value(count, d) => match d.part(body, 4 * (count as usize)) {
+            ReadText::Bad(n) => ReadOp::Bad(n),
+            ReadText::Bytes(_, e) => {
+                let start = d.at;
+                ReadOp::Is(Op::StringLike(Pattern { start, count }), e)
+            }
+        },
+    }
+}
+
+// The function of a `Uuf` in an accepted body, whatever its number.
+fn uuf_again(c: Cursor, body: &[u8]) -> ReadOp
+    ensures { λ r. ⌜ ReadsAgain (uninterpreted (2 ^ 32)) (now (body .entry)) (c .at) (opTold (now (body .entry)) r) ⌝ }
+{
+    match c.u32_le(body) {
+        ReadNumber::Bad(n) => ReadOp::Bad(n),
+        ReadNumber::Value(n, d) => ReadOp::Is(Op::Uuf(n), d),
+    }
+}
+
+// `RecordGet` to `ZeroExtend` in an accepted body.
+fn record_get_to_zero_extend_again(c: Cursor, code: u8, body: &[u8]) -> ReadOp
+    requires { ⌜ recordGetCode ≤ code ⌝ }
+    ensures { λ r. ⌜ ReadsAgain (chosen (operators (2 ^ 32)) code) (now (body .entry)) (c .at) (opTold (now (body .entry)) r) ⌝ }
+{
+    match code {
+        RECORD_GET => record_get_again(c, body),
+        STRING_LIKE => string_like_again(c, body),
+        UUF => uuf_again(c, body),
+        _ => record_get_to_zero_extend(c, code, body, 0),
+    }
+}
+
+// The operator of a code, with its operand, in an accepted body.
+fn operand_again(c: Cursor, code: u8, body: &[u8]) -> ReadOp
+    ensures { λ r. ⌜ ReadsAgain (chosen (operators (2 ^ 32)) code) (now (body .entry)) (c .at) (opTold (now (body .entry)) r) ⌝ }
+{
+    if code < BVSMOD {
+        return and_to_bvslt(c, code);
+    }
+    if code < EXT {
+        return bvsmod_to_eq(c, code);
+    }
+    if code < RECORD_GET {
+        return ext_to_or(c, code, body, 0);
+    }
+    record_get_to_zero_extend_again(c, code, body)
+}
+
+// An operator's code and its operand in an accepted body: a text, a pattern and a function's number are not tested again.
+pub fn operator_again(c: Cursor, body: &[u8]) -> ReadOp
+    ensures { λ r. ⌜ ReadsAgain (operator (2 ^ 32)) (now (body .entry)) (c .at) (opTold (now (body .entry)) r) ⌝ }
+{
+    let at = c.at;
+    if c.left(body) < 1 {
+        return ReadOp::Bad(5);
+    }
+    operand_again(Cursor { at: at + 1 }, body[at], body)
 }

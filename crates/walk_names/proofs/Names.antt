@@ -1,7 +1,7 @@
--- The tables of a state in memory: at the start, after a record is named, and a name from its entry. A store of a name keeps the
--- other tables and the index.
+-- The tables of a state in memory: at the start, after a record is named or noted, and a name from its entry. A store of a name keeps the
+-- other tables, the notes and the index.
 -- Assumes nothing.
-use mathlib.Core.Path.{_≡_, refl, sym, ap, _∙_}
+use mathlib.Core.Path.{_≡_, refl, sym, ap, _∙_, subst}
 use mathlib.Core.Bool.{Bool, true, true≢false}
 use mathlib.Core.List.{List, [], _∷_, _++_}
 use Prim.Native.Nat.{ℕ, zero, suc, _+_, _-_, _*_, _≤_, _<_}
@@ -12,12 +12,12 @@ use borrow.Author.Tests.{ne-eqb, lt-ltb, le-ltb}
 use lib.ListN.{length}
 use Rattle.script_spec.specs.Base.{Bytes, bytes, place}
 use Rattle.script_spec.specs.Tree.{eqTy}
-use Rattle.script_spec.specs.File.{TermFile, types, funs, terms, typeAt, funAt, termAt}
+use Rattle.script_spec.specs.File.{TermFile, types, funs, terms, members, typeAt, funAt, termAt}
 use Rattle.script_spec.specs.Text.{decimal}
 use Rattle.script_spec.specs.Command.{Command}
-use Rattle.script_spec.specs.Walk.{State, start, enterType, enterFun, enterTerm, write, numbered, names}
+use Rattle.script_spec.specs.Walk.{State, went, start, enterType, enterFun, enterTerm, write, numbered, names, encodeNew}
 use Rattle.index.specs.Cells.{placed, cell, store, typeOffset, typeFirst, funOffset, funFirst, funPlace, termOffset, termFirst, termType, enumOffset, hash}
-use Rattle.index.specs.Cells.{termPlace, enumList, typePlace, typeList, enumPlace, inputPlace, listRow, inputOffset, inputTerm}
+use Rattle.index.specs.Cells.{note, termPlace, enumList, typePlace, typeList, enumPlace, inputPlace, listRow, inputOffset, inputTerm}
 use Rattle.index.specs.First.{firstType, firstFun, firstTerm}
 use Rattle.index.specs.Standing.{bodyAt}
 use Rattle.index.specs.Meaning.{Rows, Index, Unnamed}
@@ -27,10 +27,10 @@ use Rattle.index.proofs.Cells.{shared, Apart, length-store, cell-store-same, ce
 use Rattle.index.proofs.Growth.{counts-together}
 use Rattle.index.proofs.Rows.{listed-same, types-fit, funs-fit, terms-fit}
 use Rattle.index.proofs.Firsts.{FirstEqual, Equality, first-below, first-types, first-funs, first-terms, equal-types, equal-funs, equal-terms}
-use Rattle.walk_names.specs.Naming.{typeNames, funNames, termNames, isName, hasNames, nameIn, raised, nameStored, nameAt, placeOf, Table, Numbers, Kept}
+use Rattle.walk_names.specs.Naming.{typeNames, funNames, termNames, isName, hasNames, nameIn, raised, nameStored, nameAt, placeOf, Table, TermsPassed, Numbers, Kept}
 use Rattle.walk_names.proofs.Tables.{table-start, table-same, table-place, table-enter}
 
--- ---- memories that differ in names alone
+-- ---- memories that differ in names and notes alone
 
 pub kept-refl : (work : List ℕ) (k : ℕ) → Kept work work k
 kept-refl work k = record { size = refl; others = λ column i h. refl }
@@ -49,16 +49,22 @@ names-both column h = go (ℕ-discrete column typeNames) (ℕ-discrete column fu
     go (no a) (no b) (yes e) = rw e (refl, refl)
     go (no a) (no b) (no c) = absurd (true≢false (sym h ∙ rw (ne-eqb column typeNames a, ne-eqb column funNames b, ne-eqb column termNames c)))
 
-pub kept-store : (work : List ℕ) (k column i v : ℕ) → isName column ≡ true → Kept work (nameStored work k column i v) k
-unfolding nameStored
-kept-store work k column i v h =
-    let both = names-both column h in
+kept-cell : (work : List ℕ) (k column i v : ℕ) → (hasNames column ≡ true) × (hasNames (shared column) ≡ true) → Kept work (store work k column i v) k
+kept-cell work k column i v both =
     record {
-      size = length-store work k column i (raised v);
+      size = length-store work k column i v;
       others = λ column′ i′ n.
-          cell-store-apart work k column i (raised v) column′ i′
+          cell-store-apart work k column i v column′ i′
           (record { other = λ e _. true≢false (sym (ap hasNames (sym e) ∙ both .0) ∙ n); facing = λ e _. true≢false (sym (ap hasNames (sym e) ∙ both .1) ∙ n) });
     }
+
+pub kept-store : (work : List ℕ) (k column i v : ℕ) → isName column ≡ true → Kept work (nameStored work k column i v) k
+unfolding nameStored
+kept-store work k column i v h = kept-cell work k column i (raised v) (names-both column h)
+
+pub kept-note : (work : List ℕ) (k i v : ℕ) → Kept work (store work k note i v) k
+unfolding isName hasNames shared placed
+kept-note work k i v = kept-cell work k note i v (refl, refl)
 
 module _ {file : Bytes} {f : TermFile} {work work′ : List ℕ} {k : ℕ} (K : Kept work work′ k) where
   -- the rows speak of no name
@@ -95,7 +101,8 @@ module _ {file : Bytes} {f : TermFile} {work work′ : List ℕ} {k : ℕ} (K : 
 
 -- so does the index
 pub index-kept : {file : Bytes} {f : TermFile} {work work′ : List ℕ} {sizes : Sizes} → Kept work work′ (sizes .rows) → Index file f work sizes → Index file f work′ sizes
-index-kept K I = record { rows = rows-kept K (I .rows); sizes-are = I .sizes-are; small = I .small }
+unfolding isName hasNames
+index-kept K I = record { rows = rows-kept K (I .rows); sizes-are = I .sizes-are; small = I .small; enum-noted = λ t name l h. K .others typeList t refl ∙ I .enum-noted t name l h }
 
 -- ---- a store
 
@@ -127,6 +134,11 @@ module _ {A : Type 0} {eq : A → A → Bool} {count : ℕ} {name : ℕ → A} {
       → Table eq count name first (nameIn work k column) table → Table eq count name first (nameIn (nameStored work k column′ i v) k column) table
   table-beside work k column column′ i v apart t = table-same F (nameIn (nameStored work k column′ i v) k column) (λ j l. name-apart work k column′ i v column j (apart j l)) t
 
+-- a store of what is no note
+notes-beside : {f : TermFile} (work : List ℕ) (k column i v : ℕ) → ((n : ℕ) → n < length (terms f) → Apart k column i note n) → TermsPassed f work k → TermsPassed f (nameStored work k column i v) k
+unfolding nameStored
+notes-beside work k column i v apart P = record { again = λ n l h. P .again n l (λ z. h (cell-store-apart work k column i (raised v) note n (apart n l) ∙ z)) }
+
 -- ---- the tables of a state
 
 -- the start of the walk, where no record has a name
@@ -137,12 +149,13 @@ numbers-start f work k N =
       type-table = table-start (first-types f) _ (λ i l. omega (arith, N .types-free i l));
       fun-table = table-start (first-funs f) _ (λ i l. omega (arith, N .funs-free i l));
       term-table = table-start (first-terms f) _ (λ i l. omega (arith, N .terms-free i l));
+      notes = record { again = λ n l h. absurd (h (N .no-note n l)) };
     }
 
 -- commands are in no table
 pub numbers-write : {f : TermFile} {work : List ℕ} {k : ℕ} {S : State} (cs : List Command) → Numbers f work k S → Numbers f work k (write cs S)
 unfolding write
-numbers-write cs N = record { type-table = N .type-table; fun-table = N .fun-table; term-table = N .term-table }
+numbers-write cs N = record { type-table = N .type-table; fun-table = N .fun-table; term-table = N .term-table; notes = N .notes }
 
 module _ {file : Bytes} {f : TermFile} {work : List ℕ} {k : ℕ} {S : State} (I : Rows file f work k) (N : Numbers f work k S) (n v : ℕ) where
   pub numbers-type : n < length (types f) → nameIn work k typeNames (firstType f n) ≡ 0 → v ≡ length (S .types) + 1 → v < 4294967040
@@ -156,6 +169,7 @@ module _ {file : Bytes} {f : TermFile} {work : List ℕ} {k : ℕ} {S : State} (
         type-table = table-stored (first-types f) equal-types work k typeNames (I .fits) (omega arith) (λ q. omega arith) (types-fit I) n v l (N .type-table) z e small;
         fun-table = table-beside (first-funs f) work k funNames typeNames (firstType f n) v (λ j h. record { other = λ e q. omega arith; facing = λ e q. omega arith }) (N .fun-table);
         term-table = table-beside (first-terms f) work k termNames typeNames (firstType f n) v (λ j h. record { other = λ e q. omega arith; facing = λ e q. omega arith }) (N .term-table);
+        notes = notes-beside work k typeNames (firstType f n) v (λ j h. record { other = λ e q. omega arith; facing = λ e q. omega arith }) (N .notes);
       }
 
   pub numbers-fun : n < length (funs f) → nameIn work k funNames (firstFun f n) ≡ 0 → v ≡ length (S .funs) + 1 → v < 4294967040
@@ -169,6 +183,7 @@ module _ {file : Bytes} {f : TermFile} {work : List ℕ} {k : ℕ} {S : State} (
         type-table = table-beside (first-types f) work k typeNames funNames (firstFun f n) v (λ j h. record { other = λ e q. omega arith; facing = λ e q. omega arith }) (N .type-table);
         fun-table = table-stored (first-funs f) equal-funs work k funNames (I .fits) (omega arith) (λ q. omega arith) (funs-fit I) n v l (N .fun-table) z e small;
         term-table = table-beside (first-terms f) work k termNames funNames (firstFun f n) v (λ j h. record { other = λ e q. omega arith; facing = λ e q. omega arith }) (N .term-table);
+        notes = notes-beside work k funNames (firstFun f n) v (λ j h. record { other = λ e q. omega arith; facing = λ e q. omega arith }) (N .notes);
       }
 
   pub numbers-term : n < length (terms f) → nameIn work k termNames (firstTerm f n) ≡ 0 → v ≡ length (S .terms) + 1 → v < 4294967040
@@ -182,7 +197,26 @@ module _ {file : Bytes} {f : TermFile} {work : List ℕ} {k : ℕ} {S : State} (
         type-table = table-beside (first-types f) work k typeNames termNames (firstTerm f n) v (λ j h. record { other = λ e q. omega arith; facing = λ e q. omega arith }) (N .type-table);
         fun-table = table-beside (first-funs f) work k funNames termNames (firstTerm f n) v (λ j h. record { other = λ e q. omega arith; facing = λ e q. omega arith }) (N .fun-table);
         term-table = table-stored (first-terms f) equal-terms work k termNames (I .fits) (omega arith) (λ q. omega arith) (terms-fit I) n v l (N .term-table) z e small;
+        notes = notes-beside work k termNames (firstTerm f n) v (λ j h. record { other = λ e q. omega arith; facing = λ e q. omega arith }) (N .notes);
       }
+
+  -- a note of a term that has passed
+  pub numbers-note : n < length (terms f) → ((T : State) → encodeNew (members f) (termAt f n) T ≡ went T) → Numbers f (store work k note n v) k S
+  unfolding nameIn shared placed
+  numbers-note l done =
+      let few = counts-together f in
+      let fit = I .fit in
+      let beside : (column j : ℕ) → Apart k note n column j → nameIn (store work k note n v) k column j ≡ nameIn work k column j = λ column j A. ap (λ (m : ℕ). m - 256) (cell-store-apart work k note n v column j A) in
+      record {
+        type-table = table-same (first-types f) _ (λ j h. beside typeNames j (record { other = λ e q. omega arith; facing = λ e q. omega arith })) (N .type-table);
+        fun-table = table-same (first-funs f) _ (λ j h. beside funNames j (record { other = λ e q. omega arith; facing = λ e q. omega arith })) (N .fun-table);
+        term-table = table-same (first-terms f) _ (λ j h. beside termNames j (record { other = λ e q. omega arith; facing = λ e q. omega arith })) (N .term-table);
+        notes = record { again = λ m h c. noted m h c (ℕ-discrete n m) };
+      }
+    where
+      noted : (m : ℕ) → m < length (terms f) → (cell (store work k note n v) k note m ≡ 0 → ⊥) → Dec (n ≡ m) → (T : State) → encodeNew (members f) (termAt f m) T ≡ went T
+      noted m h c (yes e) T = subst (λ (i : ℕ). encodeNew (members f) (termAt f i) T ≡ went T) e (done T)
+      noted m h c (no q) T = N .notes .again m h (λ z. c (cell-store-apart work k note n v note m (record { other = λ a b. q b; facing = λ a b. omega arith }) ∙ z)) T
 
 -- ---- names by numbers of records
 

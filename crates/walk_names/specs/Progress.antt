@@ -47,7 +47,7 @@ pub record Unmoved (work : List ℕ) (out : Bytes) (p : Progress) (work′ : Lis
   pub progress : p′ ≡ p
 
 -- Memory, script and progress go on by a step of the walk, whatever file was accepted and whatever came before, as long as what
--- came before is ready for it. Only names change in memory; after a refusal all three are as they were.
+-- came before is ready for it. Only names and notes change in memory; after a refusal all three are as they were.
 pub record Advances (file : Bytes) (sizes : Sizes) (ready : TermFile → Step → Type 0) (walk : TermFile → Walk)
     (work : List ℕ) (out : Bytes) (p : Progress) (work′ : List ℕ) (out′ : Bytes) (p′ : Progress) : Type 0 where
   pub kept : Kept work work′ (sizes .rows)

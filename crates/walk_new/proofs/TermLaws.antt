@@ -9,12 +9,11 @@ use lib.ListN.{length, take, drop}
 use package.types.Run.{OneOf, miss}
 use denote.Enum.Declared.{tagOf}
 use Rattle.script_spec.specs.Base.{Bytes}
-use Rattle.script_spec.specs.Utf8.{codePoints}
 use Rattle.script_spec.specs.Tree as tree
 use Rattle.script_spec.specs.Tree.{Tm, Ty, Forest, Mark, TermMark, node, Enums, enumOf, isVariable, negation}
 use Rattle.script_spec.specs.Fields.{term}
 use Rattle.script_spec.specs.File.{TermFile, types, funs, terms, members, typeAt, termAt, namedMark}
-use Rattle.script_spec.specs.Walk.{State, Step, went, refuseUnless, lowEnough, defineTerm, defineEntity, defineApp, encodeNew}
+use Rattle.script_spec.specs.Walk.{State, Step, went, defineTerm, defineEntity, defineApp, encodeNew}
 use Rattle.walk_names.proofs.Sticky.{sticky-nothing}
 use Rattle.index.specs.Cells.{cell, termOffset}
 use Rattle.index.specs.First.{MarkInRange}
@@ -41,7 +40,7 @@ use Rattle.write_atoms.proofs.Rows.{entry-is}
 use Rattle.write_atoms.proofs.Sound.{Sound, sound-at}
 use Rattle.write_terms.specs.Lines.{isCompound}
 use Rattle.write_terms.specs.Definitions.{PlainIs, SomeIs, SetIs, RecordIs}
-use Rattle.walk_new.specs.Steps.{NewAt, textWalk, newWalk, TestsText}
+use Rattle.walk_new.specs.Steps.{NewAt, newWalk, TestsLiteral}
 use Rattle.walk_new.specs.News.{VariableAt, KnownAt, EntityAt, AppAt, defineWalk, entityWalk, appWalk}
 
 -- ---- the term of an entry
@@ -79,10 +78,6 @@ module _ (e : Enums) (u : Tm) (ts : Forest Mark) (S : State) where
   step-entity : (ty : Ty) (id : Bytes) → u ≡ node (tree.Entity ty id) ts → encodeNew e u S ≡ defineEntity e u id (enumOf e ty) S
   unfolding encodeNew
   step-entity ty id h = rw h
-
-  step-string : (id : Bytes) → u ≡ node (tree.StringLit id) ts → encodeNew e u S ≡ refuseUnless 15 u (lowEnough (codePoints id)) S
-  unfolding encodeNew
-  step-string id h = rw h
 
   step-some : u ≡ node tree.Some ts → encodeNew e u S ≡ defineTerm e u S
   unfolding encodeNew
@@ -162,14 +157,14 @@ module _ {file : Bytes} {sizes : Sizes} {n o : ℕ} {work : List ℕ} {out : Byt
   unfolding termSaid namedMark encodeNew
   new-bits e = new-nothing _ _ (ap (termSaid (bodyAt file o)) e) (λ f ts S. refl)
 
-  pub new-string : {s : Span} {body text : Bytes} {q : Progress} → r ≡ entry.StringLit s → body ≡ bodyAt file o → text ≡ take (s .len) (drop (s .start) body) → TestsText n text p q
-      → Advances file sizes (NewAt n) (newWalk n) work out p work out q
-  unfolding termSaid namedMark encodeNew newWalk textWalk TermSound spanned
+  pub new-string : {s : Span} {body text : Bytes} {work′ : List ℕ} {q : Progress} → r ≡ entry.StringLit s → body ≡ bodyAt file o → text ≡ take (s .len) (drop (s .start) body) → TestsLiteral sizes n text work p work′ q
+      → Advances file sizes (NewAt n) (newWalk n) work out p work′ out q
+  unfolding termSaid namedMark TermSound spanned
   new-string {s} {text = text} e b h A =
       let is-text : text ≡ spanned (bodyAt file o) s = h ∙ ap (λ (y : Bytes). spanned y s) b in
       advances-by (λ f x I y.
       let K = marked i same-number at T _ _ (ap (termSaid (bodyAt file o)) e) f I (y .below) in
-      (record { below = y .below; utf8 = rw is-text (K .utf8) }, λ S. rw (is-text) (step-string (members f) (termAt f n) (K .rest) S _ (K .is)))) (A .go file sizes work .go out)
+      (record { below = y .below; utf8 = rw is-text (K .utf8); rest = K .rest; is = rw is-text (K .is) }, λ S. refl)) (A .go file out)
 
   pub new-entity : {s : Span} {t : ℕ} {body id : Bytes} {work′ : List ℕ} {out′ : Bytes} {q : Progress} → r ≡ entry.Entity t s → body ≡ bodyAt file o → id ≡ take (s .len) (drop (s .start) body)
       → Advances file sizes (EntityAt n t id) (entityWalk n t id) work out p work′ out′ q → Advances file sizes (NewAt n) (newWalk n) work out p work′ out′ q

@@ -1,7 +1,8 @@
--- Tests of one term: of its text, of its pattern, of its first child's type. A test that passes does nothing, another refuses.
+-- Tests of one term: of its text, of its pattern, of its first child's type. A test that passes does nothing but note a string literal,
+-- another refuses.
 -- Assumes nothing.
 use Prim.Native.Nat.{ℕ, _<_}
-use mathlib.Core.Path.{_≡_, sym, ap, _∙_}
+use mathlib.Core.Path.{_≡_, refl, sym, ap, _∙_, subst}
 use mathlib.Core.Bool.{Bool, true, false}
 use mathlib.Core.List.{List}
 use native.Mathlib.Omega.{arith}
@@ -10,15 +11,17 @@ use Rattle.script_spec.specs.Base.{Bytes}
 use Rattle.script_spec.specs.Utf8.{codePoints}
 use Rattle.script_spec.specs.Tree.{Tm}
 use Rattle.script_spec.specs.File.{TermFile, terms, termAt}
-use Rattle.script_spec.specs.Walk.{State, Step, went, stopped, Walk, refuseUnless, lowEnough}
+use Rattle.script_spec.specs.Walk.{State, Step, went, stopped, Walk, refuseUnless, lowEnough, encodeNew}
+use Rattle.index.specs.Cells.{cell, store, note}
 use Rattle.index.specs.Meaning.{Index}
 use Rattle.index.specs.declared.Sizes.{Sizes}
-use Rattle.walk_names.specs.Naming.{Numbers}
+use Rattle.walk_names.specs.Naming.{Numbers, Kept}
+use Rattle.walk_names.proofs.Names.{kept-note, numbers-note}
 use Rattle.read_utf8.specs.Decoding.{points}
 use Rattle.read_utf8.proofs.Laws.{utf8-points}
 use Rattle.walk_names.specs.declared.progress.Progress.{Progress}
-use Rattle.walk_names.proofs.Running.{refusedAt, advances-refused, advances-passed, advances-stopped}
-use Rattle.walk_new.specs.Steps.{termReady, textWalk, patternWalk, Tests, TestsText, TestsPattern}
+use Rattle.walk_names.proofs.Running.{refusedAt, advances-refused, advances-went, advances-passed, advances-stopped}
+use Rattle.walk_new.specs.Steps.{termReady, LiteralAt, textWalk, patternWalk, newWalk, Tests, TestsText, TestsLiteral, TestsPattern}
 
 -- ---- tests
 
@@ -65,6 +68,40 @@ module _ {n : ℕ} {s : Bytes} {p : Progress} where
             tests-stopped 15 n z (omega arith) q (λ f S I r N.
             (r .below, refuses 15 (termAt f n) (lowEnough (codePoints s)) S (ap lowEnough (sym (utf8-points s (r .utf8))) ∙ sym e ∙ h)));
       }
+
+-- the step of a string literal is the test of its text
+literal-test : (n : ℕ) (s : Bytes) (f : TermFile) (x : Step) (S : State) → LiteralAt n s f x → newWalk n f S ≡ refuseUnless 15 (termAt f n) (lowEnough (points s)) S
+unfolding newWalk encodeNew
+literal-test n s f x S r = (rw (r .is) refl) ∙ ap (λ (l : List ℕ). refuseUnless 15 (termAt f n) (lowEnough l) S) (sym (utf8-points s (r .utf8)))
+
+module _ {sizes : Sizes} {n : ℕ} {s : Bytes} {work : List ℕ} {p : Progress} where
+  pub literal-refused : (p .refused ≡ 0 → ⊥) → TestsLiteral sizes n s work p work p
+  literal-refused h = record { go = λ file out. advances-refused h }
+
+  -- one that has passed before
+  pub literal-again : {at v : ℕ} → p .refused ≡ 0 → at ≡ n → v ≡ cell work (sizes .rows) note at → (v ≡ 0 → ⊥) → TestsLiteral sizes n s work p work p
+  unfolding newWalk
+  literal-again z same e h = record {
+    go = λ file out. advances-passed z (λ f limit o S I r W. W .numbers .notes .again n (r .below) (λ q. h (e ∙ ap (cell work (sizes .rows) note) same ∙ q)) S);
+  }
+
+  pub literal-passed : (v : ℕ) {low : Bool} {at : ℕ} {work′ : List ℕ} → p .refused ≡ 0 → at ≡ n → low ≡ lowEnough (points s) → low ≡ true → work′ ≡ store work (sizes .rows) note at v → TestsLiteral sizes n s work p work′ p
+  unfolding newWalk
+  literal-passed v {at = at} {work′} z same e h stored =
+      let kept : Kept work work′ (sizes .rows) = subst (λ (w : List ℕ). Kept work w (sizes .rows)) (sym stored) (kept-note work (sizes .rows) at v) in
+      let here : work′ ≡ store work (sizes .rows) note n v = stored ∙ ap (λ (i : ℕ). store work (sizes .rows) note i v) same in
+      record {
+        go = λ file out. advances-went kept z (λ f limit o S I r W.
+            let done : (T : State) → newWalk n f T ≡ went T = λ T. literal-test n s f (went S) T r ∙ passes 15 (termAt f n) (lowEnough (points s)) T (sym e ∙ h) in
+            rw (done S, here)
+            (record { numbers = numbers-note (I .rows) (W .numbers) n v (r .below) done; types-are = W .types-are; funs-are = W .funs-are; terms-are = W .terms-are; not-refused = W .not-refused; limit-is = W .limit-is; wrote = W .wrote }));
+      }
+
+  pub literal-stopped : {low : Bool} {p′ : Progress} → p .refused ≡ 0 → low ≡ lowEnough (points s) → low ≡ false → p′ ≡ refusedAt p 15 n → TestsLiteral sizes n s work p work p′
+  literal-stopped z e h q = record {
+    go = λ file out.
+        advances-stopped 15 n z (omega arith) q (λ f limit o S I r W. (r .below, literal-test n s f (went S) S r ∙ refuses 15 (termAt f n) (lowEnough (points s)) S (sym e ∙ h)));
+  }
 
 module _ {n : ℕ} {pattern : List ℕ} {p : Progress} where
   pub pattern-refused : (p .refused ≡ 0 → ⊥) → TestsPattern n pattern p p

@@ -7,7 +7,7 @@ use mathlib.Core.List.{List, [], _∷_, map}
 use lib.ListN.{length}
 use Rattle.script_spec.specs.Base.{Bytes, any}
 use Rattle.script_spec.specs.Utf8.{isUtf8, codePoints}
-use Rattle.script_spec.specs.Tree.{typeOf, children, eqTm}
+use Rattle.script_spec.specs.Tree.{Forest, Mark, node, StringLit, typeOf, children, eqTm}
 use Rattle.script_spec.specs.File.{TermFile, types, terms, members, typeAt, termAt}
 use Rattle.script_spec.specs.Walk as walk
 use Rattle.script_spec.specs.Walk.{State, Step, went, Walk, refuseUnless, lowEnough, recordGet, encodeNew}
@@ -31,6 +31,13 @@ pub record NewAt (n : ℕ) (f : TermFile) (x : Step) : Type 0 where
 pub record TextAt (n : ℕ) (s : Bytes) (f : TermFile) (x : Step) : Type 0 where
   pub below : n < length (terms f)
   pub utf8 : isUtf8 s ≡ true
+
+-- it is one of them and a string literal, and its text is UTF-8
+pub record LiteralAt (n : ℕ) (s : Bytes) (f : TermFile) (x : Step) : Type 0 where
+  pub below : n < length (terms f)
+  pub utf8 : isUtf8 s ≡ true
+  pub rest : Forest Mark
+  pub is : termAt f n ≡ node (StringLit s) rest
 
 -- it is one of them, and t is the number of a type
 pub record TypedAt (n t : ℕ) (f : TermFile) (x : Step) : Type 0 where
@@ -74,6 +81,10 @@ newWalk n f = encodeNew (members f) (termAt f n)
 -- memory and progress go on by entering the term with number n; file and script are as they were
 pub record EntersTerm (sizes : Sizes) (n : ℕ) (work : List ℕ) (p : Progress) (work′ : List ℕ) (p′ : Progress) : Type 0 where
   pub go : (file out : Bytes) → Advances file sizes (NewAt n) (enterWalk n) work out p work′ out p′
+
+-- memory and progress go on by a test of the string literal with number n; file and script are as they were
+pub record TestsLiteral (sizes : Sizes) (n : ℕ) (s : Bytes) (work : List ℕ) (p : Progress) (work′ : List ℕ) (p′ : Progress) : Type 0 where
+  pub go : (file out : Bytes) → Advances file sizes (LiteralAt n s) (newWalk n) work out p work′ out p′
 
 -- progress goes on by a test of the term with number n; memory and script are as they were
 pub record Tests (file : Bytes) (sizes : Sizes) (ready : TermFile → Step → Type 0) (test : TermFile → Walk) (work : List ℕ) (p p′ : Progress) : Type 0 where

@@ -32,7 +32,7 @@ pub fn encode_new(
         TermEntry::BitVecLit(_, _) => p,
         TermEntry::StringLit(s) => {
             let text = read_field::part_of(body, s.start, s.len);
-            crate::texts::check_text(p, n, text)
+            crate::texts::check_literal(work, sizes, p, n, text)
         }
         TermEntry::Entity(t, s) => {
             let id = read_field::part_of(body, s.start, s.len);

@@ -4,6 +4,8 @@ pub mod SearchLaws
 pub mod RowLaws
 pub mod FillLaws
 pub mod Attributes
+pub mod EntityLaws
+pub mod NoteLaws
 pub mod ListLaws
 pub mod LoopLaws
 pub mod Ascending

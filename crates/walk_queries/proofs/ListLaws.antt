@@ -15,8 +15,7 @@ use Rattle.index.specs.Lists.{texts, Listed}
 use Rattle.index.specs.Meaning.{usedEntries, HasAttributes, HasMembers}
 use Rattle.index.proofs.Cells.{length-store, cell-store-same, cell-store-apart}
 use Rattle.index.proofs.Growth.{counts-together}
-use Rattle.index.proofs.Rows.{listed-same}
-use Rattle.index.proofs.Names.{names-same}
+use Rattle.index.proofs.Rows.{listed-same, rows-same, unnamed-same}
 use Rattle.index_entry.proofs.Places.{length-texts}
 use Rattle.walk_queries.specs.Made.{RowsOf, RowsStored, RowsFilled, ListAt, left-out, made, Side, Listing, KnownRecords, Relisted}
 use Rattle.walk_queries.proofs.FillLaws.{rows-list}
@@ -231,34 +230,8 @@ module _ {file : Bytes} {f : TermFile} {k terms : ℕ} {work₀ : List ℕ} (K :
       }
 
   pub listing-end : {next : ℕ} {work : List ℕ} → Listing file f k work₀ (length (types f)) (length (enums f)) next work → Relisted file f k work₀ work
-  unfolding usedEntries
-  listing-end {next} {work} L =
-      let I = K .index in
+  listing-end L =
       record {
-        index =
-            record {
-              fits = rw (L .same-size) (I .fits);
-              type-row = λ n l. let r = I .type-row n l in record { stands = rw (L .same 0 n l) (r .stands); first = L .same 1 n l ∙ r .first; place-is = L .same 15 n l ∙ r .place-is };
-              fun-row = λ n l. let r = I .fun-row n l in record { stands = rw (L .same 3 n l) (r .stands); first = L .same 4 n l ∙ r .first; place-is = L .same 5 n l ∙ r .place-is };
-              term-row = λ n l. let r = I .term-row n l in
-                  record {
-                    stands = rw (L .same 6 n l) (r .stands);
-                    first = L .same 7 n l ∙ r .first;
-                    type-below = rw (L .same 8 n l) (r .type-below);
-                    type-is = rw (L .same 8 n l) (r .type-is);
-                    type-first = rw (L .same 8 n l) (r .type-first);
-                    place-is = L .same 12 n l ∙ r .place-is;
-                  };
-              enum-row = λ n l. let r = I .enum-row n l in record { stands = rw (L .same 10 n l) (r .stands); place-is = L .same 17 n l ∙ r .place-is };
-              input-row = λ n l. let r = I .input-row n l in record { stands = rw (L .same 20 n l, L .same 22 n l) (r .stands); below = rw (L .same 22 n l) (r .below); is = rw (L .same 22 n l) (r .is); place-is = L .same 18 n l ∙ r .place-is };
-              fit = I .fit;
-              names = names-same (record { same = λ i h. L .slots i }) (I .names) refl;
-              listed = record { of-types = L .of-types .lists; of-enums = L .of-enums .lists };
-            };
-        unnamed = λ N.
-            record {
-              types-free = λ n l. rw (L .same 2 n l) (N .types-free n l);
-              funs-free = λ n l. rw (L .same 21 n l) (N .funs-free n l);
-              terms-free = λ n l. rw (L .same 9 n l) (N .terms-free n l);
-            };
+        index = rows-same (L .same-size) (L .same) (L .slots) (record { of-types = L .of-types .lists; of-enums = L .of-enums .lists }) (K .index);
+        unnamed = unnamed-same (L .same-size) (L .same);
       }

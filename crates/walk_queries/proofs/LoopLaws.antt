@@ -7,8 +7,9 @@ use mathlib.Core.List.{List}
 use lib.ListN.{length}
 use Rattle.script_spec.specs.Base.{Bytes}
 use Rattle.script_spec.specs.File.{TermFile, types, enums}
+use Rattle.index.specs.Meaning.{CheckedIndex}
 use Rattle.index.specs.declared.Sizes.{Sizes}
-use Rattle.walk_queries.specs.Made.{Listing, KnownRecords, ListsType, ListsTypes, ListsEnum, ListsEnums, MakesLists}
+use Rattle.walk_queries.specs.Made.{Listing, KnownRecords, ListsType, ListsTypes, ListsEnum, ListsEnums, NotesEnums, MakesLists}
 use Rattle.walk_queries.proofs.ListLaws.{listing-start, listing-end}
 
 module _ (file : Bytes) (k terms count : ℕ) where
@@ -49,12 +50,17 @@ module _ {file : Bytes} {k terms count : ℕ} where
         listing-end K (subst (λ (n : ℕ). Listing file f k work₀ (length (types f)) n next work) all (S .go f work₀ K c start));
   }
 
-pub lists-made : {file : Bytes} {sizes : Sizes} {next : ℕ} {work work₁ work′ : List ℕ} → ListsTypes file (sizes .rows) (sizes .terms) (sizes .types) work next work₁
-    → ListsEnums file (sizes .rows) (sizes .terms) (sizes .enums) next work₁ work′ → MakesLists file sizes work work′
-lists-made {file} {sizes} {next} {work} {work₁} T E = record {
+pub lists-made : {file : Bytes} {sizes : Sizes} {next : ℕ} {work work₁ work₂ work′ : List ℕ} → ListsTypes file (sizes .rows) (sizes .terms) (sizes .types) work next work₁
+    → ListsEnums file (sizes .rows) (sizes .terms) (sizes .enums) next work₁ work₂ → NotesEnums file sizes work₂ work′ → MakesLists file sizes work work′
+lists-made {file} {sizes} {next} {work} {work₁} {work₂} T E N = record {
   go = λ f I A.
       let K : KnownRecords file f (sizes .rows) (sizes .terms) work = record { index = I .rows; ascends = A; terms-are = I .sizes-are .terms-are } in
       let a = I .sizes-are .types-are in
       let R = E .go f work K (I .sizes-are .enums-are) (subst (λ (n : ℕ). Listing file f (sizes .rows) work n 0 next work₁) a (T .go f K a)) in
-      record { index = record { rows = R .index; sizes-are = I .sizes-are; small = I .small }; unnamed = R .unnamed };
+      let J : CheckedIndex file f work₂ sizes = record { rows = R .index; sizes-are = I .sizes-are; small = I .small } in
+      let W = N .go f J in
+      record {
+        index = record { rows = W .index .rows; sizes-are = W .index .sizes-are; small = W .index .small; enum-noted = λ t name l. W .noted t name l };
+        unnamed = λ U. W .unnamed (R .unnamed U);
+      };
 }

@@ -6,12 +6,12 @@ use mathlib.Core.Path.{_≡_, refl, sym, ap, _∙_, subst}
 use mathlib.Core.Bool.{true}
 use mathlib.Core.List.{List, [], _∷_}
 use mathlib.Core.Option.{Option, none, some}
-use lib.ListN.{length, take, drop}
+use lib.ListN.{length, drop}
 use package.types.Run.{OneOf, miss}
 use denote.Enum.Declared.{tagOf}
 use borrow.Author.Tests.{lt-ltb, le-ltb}
 use Rattle.script_spec.specs.Base.{Bytes, isSome, andThen, same, place}
-use Rattle.script_spec.specs.Tree.{Datatype, nameOfEntity, entityName, attributesOf, attributes, attribute, enumOf}
+use Rattle.script_spec.specs.Tree.{Datatype, entityName, attributesOf, attributes, attribute, enumOf}
 use Rattle.script_spec.specs.File.{TermFile, types, enums, members, typeAt}
 use Rattle.index.specs.Cells.{cell, typeOffset, enumOffset, enumList, typeList}
 use Rattle.index.specs.Standing.{bodyAt}
@@ -26,23 +26,21 @@ use Rattle.index_entry.specs.declared.symbols.Enum.{Enum}
 use Rattle.index_entry.specs.declared.types.TypeEntry.{TypeEntry}
 use Rattle.index_entry.specs.declared.types.TypeEntry.the-variants as entry
 use Rattle.index_entry.proofs.types.TypeEntry.{the-type}
-use Rattle.index_search.specs.Enums.{enumAt, membersAt, FindsEnum}
-use Rattle.index_search.proofs.EnumLaws.{finds-members}
+use Rattle.index_search.specs.Enums.{enumAt, membersAt}
+use Rattle.index_search.proofs.EnumLaws.{number-members}
 use Rattle.walk_queries.specs.Searches.{FindsAttribute, IsEnumType, FindsIn, FindsMember}
 use Rattle.walk_queries.proofs.AnswerLaws.{AttributeSaid, attribute-answer, MemberSaid, member-answer}
 use Rattle.walk_queries.specs.Found.{placeSaid, FindsText, Finds}
 use Rattle.walk_queries.specs.declared.positions.Found.{Found}
 use Rattle.walk_queries.specs.declared.positions.Found.the-variants as found
 use Rattle.walk_queries.proofs.Attributes.{datatypeSaid, datatype-here, attributes-here, members-here}
+use Rattle.walk_queries.proofs.EntityLaws.{not-entities, entity-named, entity-unnamed}
 use Rattle.walk_queries.specs.declared.queries.Attribute.the-variants as answer
 use Rattle.walk_queries.specs.declared.queries.Member.the-variants as member
 
--- the places of the types that are no record types, and of those that are no entity types
+-- the places of the types that are no record types
 abbrev not-records : List ℕ
 not-records = 0 ∷ 1 ∷ 2 ∷ 3 ∷ 4 ∷ 5 ∷ 6 ∷ 8 ∷ []
-
-abbrev not-entities : List ℕ
-not-entities = 0 ∷ 1 ∷ 2 ∷ 3 ∷ 4 ∷ 6 ∷ 7 ∷ 8 ∷ []
 
 no-record : (body : Bytes) (r : TypeEntry) → OneOf not-records (tagOf the-type r) → andThen (datatypeSaid body r) attributesOf ≡ none
 unfolding datatypeSaid andThen attributesOf
@@ -55,18 +53,6 @@ no-record body (entry.Entity p) h = refl
 no-record body (entry.Ext x) h = refl
 no-record body (entry.Record n) h = absurd (miss not-records 7 tt h)
 no-record body entry.Unreadable h = refl
-
-no-entity : (body : Bytes) (r : TypeEntry) → OneOf not-entities (tagOf the-type r) → andThen (datatypeSaid body r) nameOfEntity ≡ none
-unfolding datatypeSaid andThen nameOfEntity
-no-entity body entry.Bool h = refl
-no-entity body entry.String h = refl
-no-entity body (entry.BitVec n) h = refl
-no-entity body (entry.Option n) h = refl
-no-entity body (entry.Set n) h = refl
-no-entity body (entry.Entity p) h = absurd (miss not-entities 5 tt h)
-no-entity body (entry.Ext x) h = refl
-no-entity body (entry.Record n) h = refl
-no-entity body entry.Unreadable h = refl
 
 module _ {file : Bytes} {work : List ℕ} {sizes : Sizes} {t o : ℕ} {r : TypeEntry} (place-is : o ≡ cell work (sizes .rows) typeOffset t) (T : TypeAt file o r) where
   -- ---- attributes
@@ -102,22 +88,20 @@ module _ {file : Bytes} {work : List ℕ} {sizes : Sizes} {t o : ℕ} {r : TypeE
   -- ---- enums
 
   pub not-entity : OneOf not-entities (tagOf the-type r) → IsEnumType file work sizes t (sizes .enums)
-  unfolding enumOf entityName andThen membersAt
+  unfolding enumOf andThen membersAt
   not-entity h = record {
     go = λ f I l.
-        let unnamed : entityName (typeAt f t) ≡ none = ap (λ (d : Option Datatype). andThen d nameOfEntity) (datatype-here place-is T f (I .rows) l) ∙ no-entity (bodyAt file o) r h in
-        ap (λ (x : Option Bytes). andThen x (members f)) unnamed ∙ sym (rw (membersAt, le-ltb (sizes .enums) (length (enums f)) (omega (arith, I .sizes-are .enums-are))));
+        ap (λ (x : Option Bytes). andThen x (members f)) (entity-unnamed place-is T h f (I .rows) l)
+        ∙ sym (rw (membersAt, le-ltb (sizes .enums) (length (enums f)) (omega (arith, I .sizes-are .enums-are))));
   }
 
-  pub entity-enum : {q : ℕ} {p : Span} {body name : Bytes} → r ≡ entry.Entity p → body ≡ bodyAt file o → name ≡ take (p .len) (drop (p .start) body) → FindsEnum file work sizes name q
-      → IsEnumType file work sizes t q
-  unfolding enumOf entityName andThen datatypeSaid nameOfEntity spanned
-  entity-enum {p = p} {body} {name} e b h F = record {
+  pub entity-enum : {q w : ℕ} {p : Span} → r ≡ entry.Entity p → w ≡ t → q ≡ cell work (sizes .rows) typeList w → IsEnumType file work sizes t q
+  unfolding enumOf andThen
+  entity-enum {p = p} e v noted = record {
     go = λ f I l.
-        let named : entityName (typeAt f t) ≡ some (spanned (bodyAt file o) p) =
-        ap (λ (d : Option Datatype). andThen d nameOfEntity) (datatype-here place-is T f (I .rows) l ∙ ap (datatypeSaid (bodyAt file o)) e) in
-        let same-name : spanned (bodyAt file o) p ≡ name = ap (λ (s : Bytes). spanned s p) (sym b) ∙ sym h in
-        ap (λ (x : Option Bytes). andThen x (members f)) named ∙ ap (members f) same-name ∙ finds-members F f I;
+        let named : entityName (typeAt f t) ≡ some (spanned (bodyAt file o) p) = entity-named place-is T e f (I .rows) l in
+        ap (λ (x : Option Bytes). andThen x (members f)) named ∙ number-members f (spanned (bodyAt file o) p)
+        ∙ ap (membersAt f) (sym (noted ∙ ap (cell work (sizes .rows) typeList) v ∙ I .enum-noted t _ l named));
   }
 
 -- ---- members

@@ -1,16 +1,20 @@
--- The lists of the attributes of types and the members of enums, as they are made: each in rows of its own, and nothing else changed.
+-- The lists of the attributes of types and the members of enums, as they are made: each in rows of its own, and nothing else changed. Then
+-- the enums of entity types, as they are noted.
 -- Assumes nothing.
 use Prim.Native.Nat.{ℕ, zero, suc, _+_, _*_, _<_, _≤_}
 use mathlib.Core.Path.{_≡_}
 use mathlib.Core.Bool.{Bool, true}
 use mathlib.Core.List.{List}
+use mathlib.Core.Option.{some}
 use lib.ListN.{length, drop}
 use Rattle.script_spec.specs.Base.{Bytes, ascending}
 use Rattle.script_spec.specs.File as records
-use Rattle.script_spec.specs.File.{TermFile, types, enums}
+use Rattle.script_spec.specs.Tree.{entityName}
+use Rattle.script_spec.specs.File.{TermFile, types, enums, typeAt}
 use Rattle.index.specs.Cells.{cell, store, Apart, typeOffset, enumOffset, hash, enumList, typeList, listRow}
 use Rattle.index.specs.Lists.{ListsOf}
-use Rattle.index.specs.Meaning.{usedEntries, HasAttributes, HasMembers, Rows, Index, Unnamed}
+use Rattle.index.specs.Names.{enumNumber}
+use Rattle.index.specs.Meaning.{usedEntries, HasAttributes, HasMembers, Rows, CheckedIndex, Index, Unnamed}
 use Rattle.index.specs.declared.Sizes.{Sizes}
 use Rattle.index_entry.specs.Places.{afterText}
 
@@ -101,11 +105,28 @@ module _ (file : Bytes) (rows terms : ℕ) where
     pub go : (f : TermFile) (work₀ : List ℕ) → KnownRecords file f rows terms work₀ → count ≡ length (enums f) → Listing file f rows work₀ (length (types f)) 0 next work
         → Relisted file f rows work₀ work′
 
--- the memory with all lists is still the index of the records, and has a name of none that had no name before
+-- ---- the enums of entity types
+
+-- the enums of the first n types are noted in the index of the records f, which was work₀, and no record has a name that had none before
+pub record EnumsNoted (file : Bytes) (f : TermFile) (sizes : Sizes) (work₀ : List ℕ) (n : ℕ) (work : List ℕ) : Type 0 where
+  pub index : CheckedIndex file f work sizes
+  pub unnamed : Unnamed file f work₀ (sizes .rows) → Unnamed file f work (sizes .rows)
+  pub noted : (t : ℕ) (name : Bytes) → t < n → entityName (typeAt f t) ≡ some name → cell work (sizes .rows) typeList t ≡ enumNumber f name
+
+-- the enum of the type t, after those of the types before it
+pub record NotesEnum (file : Bytes) (sizes : Sizes) (t : ℕ) (work work′ : List ℕ) : Type 0 where
+  pub go : (f : TermFile) (work₀ : List ℕ) → t < length (types f) → EnumsNoted file f sizes work₀ t work → EnumsNoted file f sizes work₀ (t + 1) work′
+
+pub record NotesEnums (file : Bytes) (sizes : Sizes) (work work′ : List ℕ) : Type 0 where
+  pub go : (f : TermFile) → CheckedIndex file f work sizes → EnumsNoted file f sizes work (length (types f)) work′
+
+-- ---- the whole
+
+-- the memory with all lists and enums is the index that the walk builds on, and has a name of no record that had none before
 pub record IndexWithLists (file : Bytes) (f : TermFile) (sizes : Sizes) (work₀ work : List ℕ) : Type 0 where
   pub index : Index file f work sizes
   pub unnamed : Unnamed file f work₀ (sizes .rows) → Unnamed file f work (sizes .rows)
 
 -- all lists, where attributes and members ascend
 pub record MakesLists (file : Bytes) (sizes : Sizes) (work work′ : List ℕ) : Type 0 where
-  pub go : (f : TermFile) → Index file f work sizes → Ascends f → IndexWithLists file f sizes work work′
+  pub go : (f : TermFile) → CheckedIndex file f work sizes → Ascends f → IndexWithLists file f sizes work work′

@@ -1,5 +1,6 @@
 // The lists of the attributes of record types and of the members of enums, made after an accepted file is read. A list is made where
-// it has enough texts, and only while its rows fit before those of the terms, with which they share a column.
+// it has enough texts, and only while its rows fit before those of the terms, with which they share a column. An entity type, which has no
+// list, gets the number of its enum where another type has its list.
 use crate::positions::Texts;
 use index::Sizes;
 use index_entry::types::TypeEntry;
@@ -7,7 +8,7 @@ ghost use mathlib.Core.Path.{_≡_};
 ghost use mathlib.Core.Bool.{true};
 ghost use Prim.Native.Nat.{_+_, _≤_};
 ghost use Rattle.index.specs.Cells.{store};
-ghost use Rattle.walk_queries.specs.Made.{RowsOf, Fits, RowsMade, ListAt, ListsType, ListsTypes, ListsEnum, ListsEnums, MakesLists};
+ghost use Rattle.walk_queries.specs.Made.{RowsOf, Fits, RowsMade, ListAt, ListsType, ListsTypes, ListsEnum, ListsEnums, NotesEnum, NotesEnums, MakesLists};
 
 // Fewer texts than this have no list.
 const ENOUGH: u32 = 4;
@@ -186,10 +187,40 @@ fn list_enums(file: &[u8], work: &mut [u32], sizes: Sizes, first: u32)
     }
 }
 
-// The lists of the types and the enums, in the index of an accepted file.
+// Notes the enum of the type with number t, if it is an entity type: how many enums there are where it is none.
+fn note_enum(file: &[u8], work: &mut [u32], sizes: Sizes, t: u32)
+    ensures { λ _. ⌜ NotesEnum (now (file .entry)) sizes t (now (work .entry)) (now (work .exit)) ⌝ }
+{
+    let at = index_entry::records::wide(t);
+    let offset = index::get(work, sizes.rows, index::TYPE_OFFSET, at);
+    match index_entry::types::type_at(file, offset) {
+        TypeEntry::Entity(name) => {
+            let body = index_entry::records::body_at(file, offset);
+            let text = read_field::part_of(body, name.start, name.len);
+            let e = index_search::enums::find(file, work, sizes, text);
+            index::set(work, sizes.rows, index::TYPE_LIST, at, e);
+        }
+        _ => {}
+    }
+}
+
+// The enums of the entity types, so that a type's name is gone through once.
+fn note_enums(file: &[u8], work: &mut [u32], sizes: Sizes)
+    ensures { λ _. ⌜ NotesEnums (now (file .entry)) sizes (now (work .entry)) (now (work .exit)) ⌝ }
+{
+    let types = sizes.types;
+    let mut t: u32 = 0;
+    while t < types {
+        note_enum(file, work, sizes, t);
+        t += 1;
+    }
+}
+
+// The lists of the types and the enums, and the enums of the entity types, in the index of an accepted file.
 pub fn make_lists(file: &[u8], work: &mut [u32], sizes: Sizes)
     ensures { λ _. ⌜ MakesLists (now (file .entry)) sizes (now (work .entry)) (now (work .exit)) ⌝ }
 {
     let next = list_types(file, work, sizes);
     list_enums(file, work, sizes, next);
+    note_enums(file, work, sizes);
 }

@@ -188,23 +188,10 @@ pub fn index_of_attr(file: &[u8], work: &[u32], sizes: Sizes, t: u32, name: &[u8
 fn enum_of(file: &[u8], work: &[u32], sizes: Sizes, t: u32) -> u32
     ensures { λ r. ⌜ IsEnumType (now (file .entry)) (now (work .entry)) sizes t r ⌝ }
 {
-    let offset = index::get(
-        work,
-        sizes.rows,
-        index::TYPE_OFFSET,
-        index_entry::records::wide(t),
-    );
+    let at = index_entry::records::wide(t);
+    let offset = index::get(work, sizes.rows, index::TYPE_OFFSET, at);
     match index_entry::types::type_at(file, offset) {
-        TypeEntry::Entity(name) => index_search::enums::find(
-            file,
-            work,
-            sizes,
-            read_field::part_of(
-                index_entry::records::body_at(file, offset),
-                name.start,
-                name.len,
-            ),
-        ),
+        TypeEntry::Entity(_) => index::get(work, sizes.rows, index::TYPE_LIST, at),
         _ => sizes.enums,
     }
 }

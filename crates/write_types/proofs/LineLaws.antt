@@ -13,6 +13,7 @@ use Rattle.script_spec.specs.Command.{_⊹_, line, comment, declareDatatype}
 use Rattle.script_spec.specs.Spelling.{entityComment, entityConstructors}
 use Rattle.write_bytes.specs.Writing.{ceiling, moved, Wrote}
 use Rattle.write_bytes.proofs.Laws.{rest-appends, line-says}
+use Rattle.index.proofs.Rows.{as-checked}
 use Rattle.index.specs.Cells.{cell, enumOffset}
 use Rattle.index.specs.Standing.{bodyAt}
 use Rattle.index.specs.Lists.{texts}
@@ -68,7 +69,7 @@ module _ {file : Bytes} {work : List ℕ} {sizes : Sizes} {name room i r : ℕ} 
     go = λ f I.
         let inside : i < length (enums f) = omega (arith, I .sizes-are .enums-are) in
         let is : membersAt f i ≡ some (enumAt f i .1) = rw (membersAt, lt-ltb i (length (enums f)) inside) in
-        rw (finds-members F f I ∙ is) (L .go f I inside);
+        rw (finds-members F f (as-checked I) ∙ is) (L .go f I inside);
   }
 
   -- one that is not
@@ -77,5 +78,5 @@ module _ {file : Bytes} {work : List ℕ} {sizes : Sizes} {name room i r : ℕ} 
   entity-plain l W = record {
     go = λ f I.
         let is : membersAt f i ≡ none = rw (membersAt, le-ltb i (length (enums f)) (omega (arith, I .sizes-are .enums-are))) in
-        rw (finds-members F f I ∙ is) W;
+        rw (finds-members F f (as-checked I) ∙ is) W;
   }

@@ -12,7 +12,7 @@ encode-new-spec =
     (λ c. new-var _ c.before.before.before.before.before.before.before.before.before.before.before.before.wide.ensures.0 c.before.before.before.before.before.before.before.before.before.before.before.get.ensures c.before.before.before.before.before.before.before.before.before.term-at.ensures c.before.before.before.before.before.before.before.enum-told.given.1 c.before.before.before.before.declare-var.ensures) (λ c. search needs)
     (λ c. new-bool _ c.before.before.before.before.before.wide.ensures.0 c.before.before.before.before.get.ensures c.before.before.term-at.ensures c.enum-told2.given.1) (λ c. search needs)
     (λ c. new-bits _ c.before.before.before.before.before.wide.ensures.0 c.before.before.before.before.get.ensures c.before.before.term-at.ensures c.enum-told3.given.1) (λ c. search needs)
-    (λ c. new-string _ c.before.before.before.before.before.before.before.before.wide.ensures.0 c.before.before.before.before.before.before.before.get.ensures c.before.before.before.before.before.term-at.ensures c.before.before.before.s.given.1 c.before.before.before.before.before.before.body-at.ensures c.before.part-of.ensures c.check-text.ensures) (λ c. search needs) (λ c. search needs)
+    (λ c. new-string _ c.before.before.before.before.before.before.before.before.before.before.before.wide.ensures.0 c.before.before.before.before.before.before.before.before.before.before.get.ensures c.before.before.before.before.before.before.before.before.term-at.ensures c.before.before.before.before.before.before.s.given.1 c.before.before.before.before.before.before.before.before.before.body-at.ensures c.before.before.before.before.part-of.ensures c.before.before.check-literal.ensures) (λ c. search needs) (λ c. search needs)
     (λ c. new-entity _ c.before.before.before.before.before.before.before.before.before.before.before.before.before.before.wide.ensures.0 c.before.before.before.before.before.before.before.before.before.before.before.before.before.get.ensures c.before.before.before.before.before.before.before.before.before.before.before.term-at.ensures c.before.before.before.before.before.before.before.before.before.t.given.1 c.before.before.before.before.before.before.before.before.before.before.before.before.body-at.ensures c.before.before.before.before.before.before.before.part-of2.ensures c.before.before.before.before.define-entity.ensures) (λ c. search needs) (λ c. search needs)
     (λ c. new-some _ c.before.before.before.before.before.before.before.before.before.before.before.before.before.wide.ensures.0 c.before.before.before.before.before.before.before.before.before.before.before.before.get.ensures c.before.before.before.before.before.before.before.before.before.before.term-at.ensures c.before.before.before.before.before.before.before.before.m.given.1 c.before.before.before.before.define-some.ensures) (λ c. search needs) (λ c. search needs)
     (λ c. new-set _ c.before.before.before.before.before.before.before.before.before.before.before.before.before.wide.ensures.0 c.before.before.before.before.before.before.before.before.before.before.before.before.get.ensures c.before.before.before.before.before.before.before.before.before.before.term-at.ensures c.before.before.before.before.before.before.before.before.c.given.1 c.before.before.before.before.before.before.before.before.before.before.before.body-at.ensures c.before.before.before.before.define-set.ensures) (λ c. search needs) (λ c. search needs)
