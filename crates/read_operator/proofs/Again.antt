@@ -3,12 +3,12 @@
 use mathlib.Core.Path.{_≡_, refl, sym, ap, _∙_, subst}
 use mathlib.Core.List.{List, [], _∷_, _++_}
 use mathlib.Core.Option.{some}
-use Prim.Native.Nat.{ℕ, zero, suc, _*_, _^_}
+use Prim.Native.Nat.{ℕ, zero, suc, _*_}
 use lib.ListN.{length, take, drop}
 use Rattle.script_spec.specs.Base.{Bytes, at}
 use Rattle.script_spec.specs.Tree as tree
-use Rattle.script_spec.specs.Fields.{Read, got, Reader, _>>=_, pure, present, part, u32, text, list, element, times, ref, operators}
-use Rattle.script_spec.proofs.Readers.{bind-inverse, pure-inverse, tested-inverse, part-inverse, bind-got}
+use Rattle.script_spec.specs.Fields.{got, Reader, _>>=_, pure, present, part, u32, text, list, element, times, ref, operators}
+use Rattle.script_spec.proofs.Readers.{bind-inverse, tested-inverse, part-inverse, bind-got}
 use Rattle.read_field.specs.Reads.{Told, value, asRead, Reads, chosen}
 use Rattle.read_field.proofs.Laws.{reads-next, reads-pure}
 use Rattle.read_field.proofs.Words.{elements-inverse}

@@ -11,7 +11,7 @@ use package.types.Run.{OneOf}
 use denote.Enum.Declared.{tagOf}
 use Rattle.script_spec.specs.Base.{Bytes, andThen}
 use Rattle.script_spec.specs.Tree.{Ty, Datatype, entity, extension, recordOf, datatype, nameOfEntity, entityName, attributesOf, attributes}
-use Rattle.script_spec.specs.File.{TermFile, types, enums, typeAt}
+use Rattle.script_spec.specs.File.{TermFile, types, typeAt}
 use Rattle.index.specs.Cells.{placed, cell, store, shared, Apart, typeOffset, enumOffset, hash, enumList, typeList, listRow}
 use Rattle.index.specs.Standing.{bodyAt}
 use Rattle.index.specs.Names.{enumNumber}
@@ -29,7 +29,6 @@ use Rattle.index_entry.specs.declared.types.TypeEntry.the-variants as entry
 use Rattle.index_entry.proofs.types.TypeEntry.{the-type}
 use Rattle.index_search.specs.Enums.{FindsEnum}
 use Rattle.walk_queries.specs.Made.{EnumsNoted, NotesEnum, NotesEnums}
-use Rattle.walk_queries.proofs.Attributes.{datatype-here}
 use Rattle.walk_queries.proofs.EntityLaws.{not-entities, entity-named, entity-unnamed}
 
 -- an entity type has no attributes
