@@ -20,7 +20,7 @@ pub fn check_text(p: Progress, n: u32, s: &[u8]) -> Progress
 }
 
 // Refuses the string literal with number n where SMT-LIB's strings do not have its text. A literal gets no name, so the walk comes to it
-// at each of its uses: that it has passed is noted, and its text is gone through once.
+// at each of its uses: that it has passed is noted, and its text is tested once.
 pub fn check_literal(work: &mut [u32], sizes: Sizes, p: Progress, n: u32, s: &[u8]) -> Progress
     ensures { λ r. ⌜ TestsLiteral sizes n (now (s .entry)) (now (work .entry)) p (now (work .exit)) r ⌝ }
 {

@@ -204,7 +204,7 @@ fn note_enum(file: &[u8], work: &mut [u32], sizes: Sizes, t: u32)
     }
 }
 
-// The enums of the entity types, so that a type's name is gone through once.
+// The enums of the entity types, so that no entity asks for its enum by a name.
 fn note_enums(file: &[u8], work: &mut [u32], sizes: Sizes)
     ensures { λ _. ⌜ NotesEnums (now (file .entry)) sizes (now (work .entry)) (now (work .exit)) ⌝ }
 {
