@@ -23,10 +23,11 @@ pub fn decimals() {
 }
 
 // Document 01: a code point in an escape is in lower-case hexadecimal without leading zeros, the backslash being 5c and 196607
-// being 2ffff.
+// being 2ffff. The last number has each of the sixteen digits, from the highest down.
 pub fn hexadecimals() {
     hex(0);
     hex(10);
     hex(92);
     hex(196607);
+    hex(18364758544493064720);
 }

@@ -8,7 +8,7 @@ use native.Mathlib.Numerals.{sub-one}
 use native.Mathlib.Omega.{arith}
 use lib.ListN.{length, drop, set, take, length-set, length-drop, drop-of-length-le}
 use lib.Seq.{take-all}
-use Rattle.script_spec.specs.Base.{Bytes, bytes}
+use Rattle.script_spec.specs.Base.{Bytes}
 use Rattle.script_spec.specs.Text.{digit, digits, decimal}
 use Rattle.script_spec.proofs.LastDigit.{digits-one, digits-more, decimal-one, decimal-more}
 use Rattle.write_numeral.specs.Base.{IsBase}
@@ -78,21 +78,6 @@ laid-end n base left i text h l =
     take-all (20 - i) (drop i text) k ∙ l .holds ∙ (rw (mod-eq-of-lt h) (sym (digits-one base left left (l .rest) h))) ∙ l .same
 
 -- ---- decimal numerals of up to five digits
-
--- a decimal digit's code
-pub digit-code : (n : ℕ) → n < 10 → 48 + n ≡ digit n
-unfolding digit bytes
-digit-code zero h = refl
-digit-code (suc zero) h = refl
-digit-code (suc (suc zero)) h = refl
-digit-code (suc (suc (suc zero))) h = refl
-digit-code (suc (suc (suc (suc zero)))) h = refl
-digit-code (suc (suc (suc (suc (suc zero))))) h = refl
-digit-code (suc (suc (suc (suc (suc (suc zero)))))) h = refl
-digit-code (suc (suc (suc (suc (suc (suc (suc zero))))))) h = refl
-digit-code (suc (suc (suc (suc (suc (suc (suc (suc zero)))))))) h = refl
-digit-code (suc (suc (suc (suc (suc (suc (suc (suc (suc zero))))))))) h = refl
-digit-code (suc (suc (suc (suc (suc (suc (suc (suc (suc (suc n)))))))))) h = absurd (omega arith)
 
 -- a last digit after the numeral of a tenth
 decimal-next : (n d : ℕ) (s : Bytes) → 10 ≤ n → s ≡ decimal (n / 10) → d ≡ digit (n % 10) → s ++ (d ∷ []) ≡ decimal n

@@ -6,13 +6,16 @@ ghost use Rattle.script_spec.specs.Text.{digit, digits, decimal, hex};
 ghost use Rattle.write_bytes.specs.Writing.{Appends};
 ghost use Rattle.write_numeral.specs.Base.{IsBase};
 
-// The last digit of n in a base of at most sixteen.
+// The character of n's last digit in a base of at most sixteen: 48 is that of 0, and 97, which is 87 + 10, that of a.
 fn last_digit(n: u64, base: u64) -> u8
     requires { ⌜ IsBase base ⌝ }
     ensures { λ r. ⌜ r ≡ digit (n % base) ⌝ }
 {
-    let table = b"0123456789abcdef";
-    table[(n % base) as usize]
+    let d = (n % base) as u8;
+    if d < 10 {
+        return 48 + d;
+    }
+    87 + d
 }
 
 // Writes n in a base from ten to sixteen: its digits are laid into twenty bytes from the end.
@@ -36,7 +39,7 @@ fn put_numeral(out: &mut [u8], at: usize, limit: usize, n: u64, base: u64) -> us
 fn ones(n: u64) -> u8
     ensures { λ r. ⌜ r ≡ digit (n % 10) ⌝ }
 {
-    48 + (n % 10) as u8
+    last_digit(n, 10)
 }
 
 // Writes the digits of n's tens and ones.

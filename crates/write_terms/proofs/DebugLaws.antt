@@ -11,9 +11,9 @@ use lib.ListN.{getD}
 use borrow.Author.Tests.{ne-eqb}
 use Rattle.script_spec.specs.Base.{Bytes, bytes, between, all, collect, endsLine, place}
 use Rattle.script_spec.specs.Utf8.{codePoints}
-use Rattle.script_spec.specs.Text.{hex, brace, oneLine, spaceIf, debugChar, debug}
+use Rattle.script_spec.specs.Text.{digit, hex, brace, oneLine, spaceIf, debugChar, debug}
 use Rattle.script_spec.proofs.Laws.{and-parts, and-both, is-false, all-append}
-use Rattle.script_spec.proofs.Numerals.{hex-all}
+use Rattle.script_spec.proofs.Numerals.{allBelow, hex-all}
 use Rattle.script_spec.proofs.Reading.{staysInLine}
 
 line-same : (s : Bytes) → T (all staysInLine s) → oneLine s ≡ s
@@ -32,7 +32,7 @@ table-stays (b ∷ l) (suc i) h = table-stays l i (and-parts (staysInLine b) (al
 
 -- a printable character
 shown-stays : (c : ℕ) (b : Bool) → between 32 126 c ≡ b → T (all staysInLine (elim b as (λ x. Bytes) [ true ↦ c ∷ [] | false ↦ brace c ]))
-unfolding all endsLine between brace bytes
+unfolding all endsLine between brace digit allBelow bytes
 shown-stays c true e =
     let low : 32 ≤ c = leb→le 32 c (and-parts (leb 32 c) (leb c 126) (subst T (sym e) tt) .0) in
     rw (ne-eqb c 10 (λ h. omega arith), ne-eqb c 13 (λ h. omega arith)) tt
