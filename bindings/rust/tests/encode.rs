@@ -1,7 +1,7 @@
-//! Encode: the vectors, damaged files, the room for a script, and lent memory that comes back zero.
+//! Encode: the vectors, the escapes of code points, damaged files, the room for a script, and lent memory that comes back zero.
 mod cases;
 
-use cases::{answer, cases, path, used_memory};
+use cases::{answer, cases, path, record, text, used_memory, word};
 use sakyelbo::{check, encode, encode_with, work_entries, Refusal};
 use std::fs;
 
@@ -88,6 +88,27 @@ fn the_large_vectors_are_accepted_and_the_plants_script_is_the_rusts() {
     let shared = fs::read(path("crates/check_cases/data/large/shared-1000.term")).unwrap();
     assert_eq!(check(&shared), Ok(()));
     assert!(encode(&shared).is_ok());
+}
+
+/// A code point inside a string literal, in the hexadecimal digits that Rust's `{:x}` writes, as in encoder.rs.
+fn escape(c: char) -> String {
+    match c {
+        '"' => "\"\"".to_string(),
+        '\\' => "\\u{5c}".to_string(),
+        ' '..='~' => c.to_string(),
+        _ => format!("\\u{{{:x}}}", u32::from(c)),
+    }
+}
+
+#[test]
+fn each_code_point_of_a_literal_has_its_escape() {
+    let all: String = ('\0'..='\u{2ffff}').collect();
+    let (types, string) = ([record("TS", &[]), record("TB", &[])].concat(), record("XS", &[&text(&all)]));
+    let equal = record("XA", &[&word(1), &[20], &word(2), &word(0), &word(0)]);
+    let script = encode(&[types, string, equal, record("IN", &[&word(1)])].concat()).unwrap();
+    let literal: String = all.chars().map(escape).collect();
+    let lines = format!("(define-fun t0 () Bool (= \"{literal}\" \"{literal}\"))\n(assert t0)\n");
+    assert!(script == [encode(&[]).unwrap(), lines.into_bytes()].concat());
 }
 
 #[test]
