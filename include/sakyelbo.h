@@ -42,7 +42,7 @@ uint64_t sakyelbo_encode(const uint8_t *file, size_t file_count, uint32_t *work,
 /* The commands of a script. Each is written with its final byte 10 to the start of `out`; *size is then its length, and 0 after a
  * refusal: 6 if a text is not UTF-8, 20 if the command is longer than `out`. */
 
-/* `; COMMENT`, on one line. */
+/* `; COMMENT`, on one line: 200 code points of it at most, and spaces for bytes below 32 and byte 127. */
 uint64_t sakyelbo_comment(const uint8_t *comment, size_t comment_count, uint8_t *out, size_t out_count, size_t *size);
 
 /* `(declare-datatype ID (CONSTRUCTORS))`, or `(declare-datatype ID (par (PARAMS) (CONSTRUCTORS)))`. */

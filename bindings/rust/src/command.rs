@@ -21,7 +21,7 @@ fn bytes<'a>(texts: &[&'a str]) -> Vec<&'a [u8]> {
     texts.iter().map(|t| t.as_bytes()).collect()
 }
 
-/// `; TEXT`, on one line.
+/// `; TEXT`, on one line: 200 code points of it at most, and spaces for bytes below 32 and byte 127.
 pub fn comment(text: &str) -> Vec<u8> {
     written(Command::Comment(text.as_bytes()))
 }

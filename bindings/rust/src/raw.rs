@@ -233,6 +233,34 @@ mod tests {
         }
     }
 
+    /// The bytes that hexadecimal digits stand for.
+    fn bytes(hex: &str) -> Vec<u8> {
+        (0..hex.len()).step_by(2).map(|i| u8::from_str_radix(&hex[i..i + 2], 16).unwrap()).collect()
+    }
+
+    #[test]
+    fn each_comment_has_its_line_or_its_refusal() {
+        // A text, the room or `any`, and the line or its refusal.
+        let cases = include_str!("../tests/comments.tsv");
+        for case in cases.lines() {
+            let fields: Vec<&str> = case.split('\t').collect();
+            let [text, room, answer] = fields[..] else { panic!("{case}") };
+            let text = bytes(text);
+            let room = if room == "any" { 3 * text.len() + 8 } else { room.parse().unwrap() };
+            let mut expected = vec![0; room];
+            let wanted = match answer.strip_prefix("refused ") {
+                Some(number) => Err(Refusal { number: number.parse().unwrap(), place: 0 }),
+                None => {
+                    let line = bytes(answer);
+                    expected[..line.len()].copy_from_slice(&line);
+                    Ok(line.len())
+                }
+            };
+            assert_eq!(write_lent(Command::Comment(&text), room), (wanted, expected), "{case}");
+        }
+        assert_eq!(cases.lines().count(), 20);
+    }
+
     #[test]
     fn names_past_the_shorter_list_are_left_out() {
         let (x, bad): (&[u8], &[u8]) = (b"x", b"\xff");

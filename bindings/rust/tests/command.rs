@@ -29,6 +29,25 @@ fn each_command_is_written_as_it_is() {
 fn a_long_command_gets_the_room_that_it_needs() {
     for n in [0, 100, 127, 128, 129, 100_000] {
         let text = "é".repeat(n);
-        assert_eq!(comment(&text), format!("; {text}\n").into_bytes());
+        assert_eq!(assert_that(&text), format!("(assert {text})\n").into_bytes());
+    }
+}
+
+#[test]
+fn a_comment_is_cut_after_200_code_points() {
+    for (n, kept) in [(0, 0), (199, 199), (200, 200), (201, 200), (100_000, 200)] {
+        for c in ["x", "é", "€", "😀"] {
+            assert_eq!(comment(&c.repeat(n)), format!("; {}\n", c.repeat(kept)).into_bytes());
+        }
+    }
+}
+
+#[test]
+fn a_control_character_is_a_space_in_a_comment() {
+    for code in 0..=0x10ffff {
+        if let Some(c) = char::from_u32(code) {
+            let kept = if code < 32 || code == 127 { ' ' } else { c };
+            assert_eq!(comment(&format!("a{c}b")), format!("; a{kept}b\n").into_bytes());
+        }
     }
 }

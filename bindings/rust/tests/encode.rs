@@ -1,4 +1,4 @@
-//! Encode: the vectors, the escapes of code points, damaged files, the room for a script, and lent memory that comes back zero.
+//! Encode: the vectors, comments, the escapes of code points, damaged files, the room for a script, and lent memory that comes back zero.
 mod cases;
 
 use cases::{answer, cases, path, record, text, used_memory, word};
@@ -19,6 +19,24 @@ fn vectors(folder: &str, ending: &str) -> Vec<(String, Vec<u8>, Vec<u8>)> {
     found
 }
 
+/// A script with its comments cut after 200 code points and with spaces for their control characters. Other lines stay as they are.
+fn tidied(script: &[u8]) -> Vec<u8> {
+    let text = std::str::from_utf8(script).unwrap();
+    let lines = text.split_inclusive('\n').map(|line| match line.strip_prefix("; ").and_then(|l| l.strip_suffix('\n')) {
+        Some(comment) => {
+            let kept = comment.chars().take(200).map(|c| if c < ' ' || c == '\x7f' { ' ' } else { c });
+            format!("; {}\n", kept.collect::<String>())
+        }
+        None => line.to_string(),
+    });
+    lines.collect::<String>().into_bytes()
+}
+
+/// The vectors of the Rust, their scripts with the comments that are written here.
+fn rust_vectors() -> Vec<(String, Vec<u8>, Vec<u8>)> {
+    vectors("rust", "smt2").into_iter().map(|(name, file, script)| (name, file, tidied(&script))).collect()
+}
+
 /// Encodes a file with memory that is used and stands between other memory: working memory comes back zero, as do the bytes behind the
 /// script, or all of them after a refusal; the other memory is as it was.
 fn encode_lent(file: &[u8], entries: usize, room: usize) -> Result<Vec<u8>, Refusal> {
@@ -36,9 +54,25 @@ fn encode_lent(file: &[u8], entries: usize, room: usize) -> Result<Vec<u8>, Refu
 
 #[test]
 fn each_vector_has_the_rusts_script() {
-    for (name, file, script) in vectors("rust", "smt2") {
+    for (name, file, script) in rust_vectors() {
         assert_eq!(encode(&file).as_ref(), Ok(&script), "{name}");
         assert_eq!(encode_lent(&file, work_entries(&file), 65_536).as_ref(), Ok(&script), "{name}");
+    }
+}
+
+#[test]
+fn two_scripts_of_the_rusts_have_comments_that_are_tidied() {
+    let changed: Vec<String> =
+        vectors("rust", "smt2").into_iter().filter(|(_, _, script)| tidied(script) != *script).map(|v| v.0).collect();
+    assert_eq!(changed.len(), 2, "{changed:?}");
+}
+
+#[test]
+fn each_comment_is_tidied() {
+    for (name, file, script) in vectors("comments", "txt") {
+        assert_eq!(encode(&file).as_ref(), Ok(&script), "{name}");
+        assert_eq!(encode_lent(&file, work_entries(&file), script.len()).as_ref(), Ok(&script), "{name}");
+        assert_eq!(tidied(&script), script, "{name}");
     }
 }
 
@@ -56,7 +90,7 @@ fn each_refused_vector_has_its_refusal() {
 
 #[test]
 fn a_script_needs_its_length_and_no_more() {
-    for (name, file, script) in vectors("rust", "smt2") {
+    for (name, file, script) in rust_vectors() {
         assert_eq!(encode_lent(&file, work_entries(&file), script.len()), Ok(script.clone()), "{name}");
         for room in [0, 1, script.len() / 2, script.len() - 1] {
             assert_eq!(encode_lent(&file, work_entries(&file), room), Err(Refusal { number: 20, place: 0 }), "{name}");

@@ -1,5 +1,6 @@
 // String literals, ids and texts in comments.
 use crate::lines::line;
+use write_text::Comment;
 
 fn literal(s: &[u8]) {
     let mut out = [0u8; 128];
@@ -50,9 +51,21 @@ pub fn ids() {
     id(b"\xc3\xa9'");
 }
 
-// Document 01, smtlib_script.rs: bytes 10 and 13 become spaces.
+// A comment's text in two pieces.
+fn comment(s: &[u8], t: &[u8]) {
+    let mut out = [0u8; 1024];
+    let start = Comment { at: 0, points: 0 };
+    let text = write_text::put_comment_text(&mut out, start, 1024, s);
+    let end = write_text::put_comment_text(&mut out, text, 1024, t);
+    line(&out, end.at);
+}
+
+// Document 02, W10: a byte below 32 and byte 127 become spaces, and after 200 code points the rest is dropped.
 pub fn comments() {
-    let mut out = [0u8; 128];
-    let n = write_text::put_comment_text(&mut out, 0, 128, b"one\ntwo\r\nthree\\\"");
-    line(&out, n);
+    let letters = [120u8; 199];
+    comment(b"one\ntwo\r\nthree\\\"", b"");
+    comment(b"\0\x1f ~\x7f", b"\xc2\x80");
+    comment(&letters, b"ab");
+    comment(&letters, b"\xf0\xaf\xbf\xbfb");
+    comment(&letters, b"\x7f\xc3\xa9");
 }

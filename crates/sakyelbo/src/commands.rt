@@ -3,7 +3,7 @@ ghost use mathlib.Core.List.{map, zip};
 ghost use Rattle.script_spec.specs.Command as command;
 ghost use Rattle.sakyelbo.specs.Promise.{WritesCommand};
 
-// `; COMMENT`, on one line.
+// `; COMMENT`, on one line: 200 code points of it at most, and spaces for control characters.
 #[no_mangle]
 pub extern "C" fn sakyelbo_comment(comment: &[u8], out: &mut [u8], size: &mut usize) -> u64
     ensures { λ r. ⌜ WritesCommand (command.comment (now (comment .entry)))

@@ -34,7 +34,7 @@ unfolding File.types File.funs File.terms File.inputs File.enums File.members Fi
 file = tt
 
 unfoldable pub text : Unit {0}
-unfolding Text.digit Text.digits Text.decimal Text.hex Text.brace Text.escapeBy Text.escape Text.escaped Text.literal Text.spaceIf Text.oneLine Text.debugChar Text.debug
+unfolding Text.digit Text.digits Text.decimal Text.hex Text.brace Text.escapeBy Text.escape Text.escaped Text.literal Text.isControl Text.spaceIf Text.blanked Text.begun Text.cutAfter Text.oneLine Text.debugChar Text.debug
 text = tt
 
 unfoldable pub command : Unit {0}

@@ -4,6 +4,7 @@ pub mod Laws
 pub mod Lists
 pub mod Readers
 pub mod Computes
+pub mod Cutting
 -- reading a script: its commands, and texts that may stand inside one
 pub mod Reading
 pub mod Pieces

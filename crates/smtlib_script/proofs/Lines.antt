@@ -1,6 +1,6 @@
 -- The line of each command as the pieces that it is written by.
 -- Assumes nothing.
-use Prim.Native.Nat.{_<_}
+use Prim.Native.Nat.{ℕ, _<_}
 use native.Mathlib.Nat.{not-suc-le-zero}
 use native.Mathlib.Omega.{arith}
 use mathlib.Core.Path.{_≡_, refl, ap, _∙_}
@@ -13,10 +13,20 @@ use denote.Ref.{RefT, now}
 use Rattle.script_spec.specs.Base.{Bytes, bytes, empty, joined}
 use Rattle.script_spec.specs.Text.{oneLine}
 use Rattle.script_spec.specs.Command.{line, spelled, headed, listed, spaced, constructorList, datatypeBody, comment, declareDatatype, declareConst, declareFun, defineFun, assertThat, setLogic, setOption}
+use Rattle.write_bytes.specs.Writing.{Appends, Wrote}
+use Rattle.write_bytes.proofs.Laws.{_then_, says, from-start}
+use Rattle.write_text.specs.Comments.{Comments}
+use Rattle.write_text.specs.declared.Comment.{Comment}
+use Rattle.write_text.proofs.CommentLaws.{text-written}
 
 pub line-comment : (s : Bytes) → bytes "; " ++ (oneLine s ++ bytes "\n") ≡ line (comment s)
 unfolding line spelled bytes
 line-comment s = refl
+
+-- a comment by the pieces of its text
+pub comment-written : {room r : ℕ} {x y z w s : Bytes} {c d : Comment} → c .points ≡ 0 → Appends room x 0 y (c .at) (bytes "; ") → Comments room y c z d s → Appends room z (d .at) w r (bytes "\n")
+    → Wrote room x w r (line (comment s))
+comment-written {s = s} e A C B = from-start (says (line-comment s) (A then text-written e C then B))
 
 pub line-declareConst : (n t : Bytes) → bytes "(declare-const " ++ (spaced (n ∷ t ∷ []) ++ bytes ")\n") ≡ line (declareConst n t)
 unfolding line spelled headed bytes

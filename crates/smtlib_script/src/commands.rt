@@ -33,7 +33,7 @@ fn finish(out: &mut [u8], length: usize) -> WrittenCommand
     }
 }
 
-// `; COMMENT`, on one line.
+// `; COMMENT`, on one line: 200 code points of it at most, and spaces for control characters.
 pub fn comment(comment: &[u8], out: &mut [u8]) -> WrittenCommand
     ensures { λ r. ⌜ Writes (command.comment (now (comment .entry))) (now (out .entry)) (now (out .exit)) r ⌝ }
 {

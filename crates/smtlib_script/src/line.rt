@@ -1,6 +1,7 @@
 // The line of each command, written with its final byte 10 into the rest of a lent buffer. Of the rest at most `room`
 // bytes count, and the answer is the length of the line, or above the room where the line is longer.
 
+use write_text::Comment;
 ghost use mathlib.Core.Path.{_≡_};
 ghost use mathlib.Core.Bool.{false};
 ghost use mathlib.Core.List.{[], map, zip};
@@ -45,7 +46,7 @@ pub fn put_word(out: &mut [u8], at: usize, limit: usize, word: Word) -> usize
     }
 }
 
-// `; COMMENT`, on one line.
+// `; COMMENT`, on one line: 200 code points of it at most, and spaces for control characters.
 pub fn comment(rest: &mut [u8], room: usize, comment: &[u8]) -> usize
     ensures { λ r. ⌜ Wrote room (now (rest .entry)) (now (rest .exit)) r (line (commented (now (comment .entry)))) ⌝ }
 {
@@ -53,8 +54,8 @@ pub fn comment(rest: &mut [u8], room: usize, comment: &[u8]) -> usize
         return 1;
     }
     let a = put_word(rest, 0, room, Word::Comment);
-    let b = write_text::put_comment_text(rest, a, room, comment);
-    write_bytes::put_at(rest, b, room, b"\n")
+    let text = write_text::put_comment_text(rest, Comment { at: a, points: 0 }, room, comment);
+    write_bytes::put_at(rest, text.at, room, b"\n")
 }
 
 // A declaration without parameters.

@@ -1,7 +1,9 @@
-// Encodes each term file that an argument names as `termscript` does, and compares with the file that the next argument names: a
-// line for each that differs, and how many were compared.
+// Encodes each term file that an argument names as `termscript` does, and compares with the file that the next argument names, whose
+// comments are cut and have their control characters replaced first: a line for each that differs, and how many were compared.
 use libc::STDOUT_FILENO;
-ghost use Prim.Native.Nat.{_<_};
+use write_text::Comment;
+ghost use Prim.Native.Nat.{_<_, _≤_};
+ghost use lib.ListN.{length};
 
 // Reads a file, and answers how many bytes were read.
 fn read_file(path: &[u8], bytes: &mut [u8]) -> usize {
@@ -52,13 +54,68 @@ fn is_expected(file: &[u8], n: usize, expected: &[u8], m: usize) -> bool {
     same_start(&script, end, expected, m)
 }
 
+// The end of the line that begins at a place: after its byte 10, or the end of the bytes.
+fn line_end(s: &[u8], from: usize) -> usize
+    requires { ⌜ from < length (now s) ⌝ }
+    ensures { λ r. ⌜ (from < r) × (r ≤ length (now (s .entry))) ⌝ }
+{
+    let mut i = from;
+    while i < s.len() {
+        if s[i] == b'\n' {
+            return i + 1;
+        }
+        i += 1;
+    }
+    i
+}
+
+// Writes a line of a script, the text of a comment cut and with spaces for its control characters.
+fn put_line(out: &mut [u8], at: usize, line: &[u8]) -> usize {
+    let limit = out.len();
+    if line.len() < 3 {
+        return write_bytes::put_at(out, at, limit, line);
+    }
+    if line[0] != b';' {
+        return write_bytes::put_at(out, at, limit, line);
+    }
+    let start = write_bytes::put_at(out, at, limit, b"; ");
+    let comment = Comment {
+        at: start,
+        points: 0,
+    };
+    let end = write_text::put_comment_text(out, comment, limit, &line[2..line.len() - 1]);
+    write_bytes::put_at(out, end.at, limit, b"\n")
+}
+
+// Writes the lines of a script one after another, and answers their length.
+fn put_lines(out: &mut [u8], script: &[u8]) -> usize {
+    let mut at = 0;
+    let mut from = 0;
+    while from < script.len() {
+        let to = line_end(script, from);
+        at = put_line(out, at, &script[from..to]);
+        from = to;
+    }
+    at
+}
+
+// Writes the lines of the first n bytes of a script.
+fn put_script(out: &mut [u8], script: &[u8], n: usize) -> usize {
+    if script.len() < n {
+        return 0;
+    }
+    put_lines(out, &script[..n])
+}
+
 // Whether the file of argument i is encoded to that of argument j.
 fn agrees(i: usize, j: usize) -> bool {
     let mut file = [0u8; 8193];
+    let mut stored = [0u8; 65536];
     let mut expected = [0u8; 65536];
     let n = read_argument(i, &mut file);
-    let m = read_argument(j, &mut expected);
-    is_expected(&file, n, &expected, m)
+    let m = read_argument(j, &mut stored);
+    let end = put_script(&mut expected, &stored, m);
+    is_expected(&file, n, &expected, end)
 }
 
 // How many arguments there are, of fewer than a million.

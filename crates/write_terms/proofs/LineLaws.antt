@@ -12,10 +12,10 @@ use Rattle.script_spec.specs.Base.{Bytes, bytes, joined, collect}
 use Rattle.script_spec.specs.Utf8.{isUtf8}
 use Rattle.script_spec.specs.Tree.{Ty, Forest, Mark, node, forest, Var}
 use Rattle.script_spec.specs.File.{TermFile, termAt, namedMark}
-use Rattle.script_spec.specs.Text.{oneLine, debug}
+use Rattle.script_spec.specs.Text.{debug}
 use Rattle.script_spec.specs.Command.{Command, headed, listed, spaced, spelled, line, script, comment, declareConst, defineFun}
 use Rattle.script_spec.proofs.Laws.{never}
-use Rattle.smtlib_script.proofs.Lines.{line-assert}
+use Rattle.smtlib_script.proofs.Lines.{line-comment, line-assert}
 use Rattle.write_bytes.specs.Writing.{ceiling, moved, Appends}
 use Rattle.write_bytes.proofs.Laws.{_then_, says, from-start, line-says, line-past, line-some}
 use Rattle.read_utf8.specs.Decoding.{points}
@@ -45,11 +45,6 @@ pub definition-pieces : (n t b : Bytes) → definitionHead n t ++ (b ++ bytes ")
 unfolding definitionHead line spelled headed listed spaced joined bytes
 definition-pieces n t b = simp append-assoc
 
--- a comment on one line
-comment-line : (d : Bytes) → oneLine d ≡ d → bytes "; " ++ (d ++ bytes "\n") ≡ line (comment d)
-unfolding line spelled bytes
-comment-line d e = rw e
-
 const-pieces : (n t : Bytes) → bytes "(declare-const " ++ (n ++ (bytes " " ++ (t ++ bytes ")\n"))) ≡ line (declareConst n t)
 unfolding line spelled headed spaced joined bytes
 const-pieces n t = simp append-assoc
@@ -69,8 +64,8 @@ module _ {id : Bytes} {room : ℕ} {x : Bytes} where
   pub id-past : room ≡ 0 → SpellsId id room x x 1
   id-past e = record { go = λ u. rw e (line-past (line-some _)) }
 
-  pub spells-id : {p q r : ℕ} {y z w : Bytes} → Appends room x 0 y p (bytes "; ") → Appends room y p z q (quoted true (points id)) → Appends room z q w r (bytes "\n") → SpellsId id room x w r
-  spells-id A Q B = record { go = λ u. from-start (says (comment-line (debug id) (debug-line id)) (A then says (quoted-debug id u) Q then B)) }
+  pub spells-id : {p q r : ℕ} {y z w : Bytes} → Appends room x 0 y p (bytes "; ") → Appends room y p z q (take 200 (quoted true (points id))) → Appends room z q w r (bytes "\n") → SpellsId id room x w r
+  spells-id A Q B = record { go = λ u. from-start (says (line-comment (debug id)) (A then says (ap (take 200) (quoted-debug id u) ∙ debug-line id) Q then B)) }
 
 module _ {file : Bytes} {work : List ℕ} {sizes : Sizes} {n limit : ℕ} {x : Bytes} where
   pub spells-head : {at p₁ p₂ p₃ p₄ r : ℕ} {x₁ x₂ x₃ x₄ y : Bytes} → Appends limit x at x₁ p₁ (bytes "(define-fun ") → Appends limit x₁ p₁ x₂ p₂ (termNameOf work (sizes .rows) n)

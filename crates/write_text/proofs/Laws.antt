@@ -4,12 +4,12 @@ use mathlib.Core.Path.{_≡_, refl}
 use mathlib.Core.Bool.{Bool, true, false, not, _&&_, _||_}
 use mathlib.Core.List.{[], _∷_}
 use mathlib.Core.Option.{none}
-use Prim.Native.Nat.{ℕ, _≤_}
+use Prim.Native.Nat.{ℕ, _≤_, _<_}
 use native.Mathlib.Omega.{arith}
-use borrow.Author.Tests.{le-leb, leb-true, eq-eqb, ne-eqb}
+use borrow.Author.Tests.{le-leb, leb-true, lt-ltb, le-ltb, eq-eqb, ne-eqb}
 use lib.Dec.{eqb, leb}
-use Rattle.script_spec.specs.Base.{Bytes, bytes, between, place, placeFrom, endsLine}
-use Rattle.script_spec.specs.Text.{brace, escape, escapeBy, debugChar}
+use Rattle.script_spec.specs.Base.{Bytes, bytes, between, place, placeFrom}
+use Rattle.script_spec.specs.Text.{brace, escape, escapeBy, debugChar, isControl}
 use Rattle.script_spec.proofs.Laws.{and-false, and-true, never}
 use Rattle.write_text.specs.Written.{shown, stops}
 
@@ -88,13 +88,13 @@ module _ (c : ℕ) (h1 : c ≡ 34 → ⊥) (h2 : c ≡ 92 → ⊥) (h3 : c ≡ 9
 
 -- ---- bytes that end a run
 
-pub ends-line : (b : ℕ) → b ≡ 10 → true ≡ endsLine b
-unfolding endsLine
-ends-line b h = rw (eq-eqb b 10 h)
+pub control-low : (b : ℕ) → b < 32 → true ≡ isControl b
+unfolding isControl
+control-low b h = rw (lt-ltb b 32 h)
 
-pub ends-line-else : (b : ℕ) → (b ≡ 10 → ⊥) → eqb b 13 ≡ endsLine b
-unfolding endsLine
-ends-line-else b h = rw (ne-eqb b 10 h)
+pub control-else : (b : ℕ) → 32 ≤ b → eqb b 127 ≡ isControl b
+unfolding isControl
+control-else b h = rw (le-ltb b 32 h)
 
 or-true : (x : Bool) → (x || true) ≡ true
 or-true true = refl

@@ -1,2 +1,4 @@
 pub mod Laws
 pub mod Runs
+pub mod CutLaws
+pub mod CommentLaws

@@ -10,8 +10,8 @@ use lib.Dec.{T, eqb}
 use borrow.Author.Tests.{eqb-false, not-false}
 use lib.ListN.{length, take, drop, getD, length-drop, take-append-drop, drop-of-length-le}
 use lib.Seq.{take-suc, getD-drop, drop-drop, drop-cons}
-use Rattle.script_spec.specs.Base.{Bytes, between, all, collect, endsLine}
-use Rattle.script_spec.specs.Text.{literal, escaped, debug, oneLine, spaceIf}
+use Rattle.script_spec.specs.Base.{Bytes, between, all, collect}
+use Rattle.script_spec.specs.Text.{literal, escaped, debug, isControl, spaceIf, blanked}
 use Rattle.script_spec.specs.Utf8.{isUtf8}
 use Rattle.script_spec.proofs.Laws.{all-append, and-parts, is-false, or-false}
 use Rattle.read_utf8.specs.declared.Cursor.{Cursor}
@@ -98,22 +98,22 @@ pub quoted-debug : (id : Bytes) → isUtf8 id ≡ true → quoted true (points i
 unfolding quoted spelling debug
 quoted-debug id h = rw (utf8-points id h)
 
--- ---- comments
+-- ---- texts with spaces for control characters
 
-line-run : (r s : Bytes) → T (all (λ b. not (stops true b)) r) → oneLine (r ++ s) ≡ r ++ oneLine s
-unfolding all oneLine stops spaceIf
-line-run [] s h = refl
-line-run (b ∷ r) s h =
+blanked-run : (r s : Bytes) → T (all (λ b. not (stops true b)) r) → blanked (r ++ s) ≡ r ++ blanked s
+unfolding all blanked stops spaceIf
+blanked-run [] s h = refl
+blanked-run (b ∷ r) s h =
     let q = and-parts (not (stops true b)) (all (λ c. not (stops true c)) r) h in
-    rw (is-false (stops true b) (q .0)) (ap (λ (t : Bytes). b ∷ t) (line-run r s (q .1)))
+    rw (is-false (stops true b) (q .0)) (ap (λ (t : Bytes). b ∷ t) (blanked-run r s (q .1)))
 
-pub line-passed : {s : Bytes} {from to : ℕ} → Passed (stops true) s from to → oneLine (drop from s) ≡ take (to - from) (drop from s) ++ oneLine (drop to s)
-line-passed {s} {from} {to} p = ap oneLine (run-split p) ∙ line-run (take (to - from) (drop from s)) (drop to s) (p .keeps)
+pub blanked-passed : {s : Bytes} {from to : ℕ} → Passed (stops true) s from to → blanked (drop from s) ≡ take (to - from) (drop from s) ++ blanked (drop to s)
+blanked-passed {s} {from} {to} p = ap blanked (run-split p) ∙ blanked-run (take (to - from) (drop from s)) (drop to s) (p .keeps)
 
-pub line-byte : (s : Bytes) (to : ℕ) {b : ℕ} → b ≡ spaceIf (endsLine (getD s to 0)) (getD s to 0) → to < length s → oneLine (drop to s) ≡ (b ∷ []) ++ oneLine (drop (to + 1) s)
-unfolding oneLine
-line-byte s to e h = rw (drop-cons s to 0 h, add-one, e)
+pub blanked-byte : (s : Bytes) (to : ℕ) {b : ℕ} → b ≡ spaceIf (isControl (getD s to 0)) (getD s to 0) → to < length s → blanked (drop to s) ≡ (b ∷ []) ++ blanked (drop (to + 1) s)
+unfolding blanked
+blanked-byte s to e h = rw (drop-cons s to 0 h, add-one, e)
 
-pub line-end : (s : Bytes) (to : ℕ) → length s ≤ to → oneLine (drop to s) ≡ []
-unfolding oneLine
-line-end s to h = rw (drop-of-length-le s h)
+pub blanked-end : (s : Bytes) (to : ℕ) → length s ≤ to → blanked (drop to s) ≡ []
+unfolding blanked
+blanked-end s to h = rw (drop-of-length-le s h)

@@ -5,8 +5,8 @@ use mathlib.Core.List.{List, [], _∷_, _++_}
 use Prim.Native.Nat.{ℕ, _-_, _≤_}
 use lib.Dec.{T, eqb}
 use lib.ListN.{length, take, drop}
-use Rattle.script_spec.specs.Base.{Bytes, between, all, collect, endsLine}
-use Rattle.script_spec.specs.Text.{brace, escape, debugChar}
+use Rattle.script_spec.specs.Base.{Bytes, between, all, collect}
+use Rattle.script_spec.specs.Text.{brace, escape, debugChar, isControl}
 
 -- a code point as it is where it is printable, and else as `\u{h}`
 unfoldable pub shown : ℕ → Bytes
@@ -23,7 +23,7 @@ quoted debug cs = 34 ∷ (collect (spelling debug) cs ++ (34 ∷ []))
 
 -- a byte that is not written as it is: in a comment, or in double quotes
 unfoldable pub stops : Bool → ℕ → Bool
-stops true b = endsLine b
+stops true b = isControl b
 stops false b = eqb b 34 || (eqb b 92 || not (between 32 126 b))
 
 -- the bytes from one place to another have no stop

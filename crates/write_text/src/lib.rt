@@ -2,12 +2,14 @@
 ghost use mathlib.Core.Path.{_≡_};
 ghost use mathlib.Core.Bool.{true, false};
 ghost use Prim.Native.Nat.{_≤_};
-ghost use lib.ListN.{length};
-ghost use Rattle.script_spec.specs.Base.{between, collect, endsLine};
-ghost use Rattle.script_spec.specs.Text.{brace, escape, debugChar, spaceIf, oneLine, literal};
+ghost use lib.ListN.{length, take};
+ghost use Rattle.script_spec.specs.Base.{between, collect};
+ghost use Rattle.script_spec.specs.Text.{brace, escape, debugChar, literal};
+ghost use Rattle.script_spec.specs.Text as text;
 ghost use Rattle.write_bytes.specs.Writing.{Appends};
 ghost use Rattle.read_utf8.specs.Decoding.{points};
 ghost use Rattle.write_text.specs.Written.{shown, spelling, quoted, stops, Passed};
+ghost use Rattle.write_text.specs.Comments.{over, Cuts, Comments};
 use read_utf8::Cursor;
 use read_utf8::Next;
 
@@ -78,14 +80,14 @@ fn put_point(out: &mut [u8], at: usize, limit: usize, c: u32, debug: bool) -> us
     put_escape(out, at, limit, c)
 }
 
-// A byte at which SMT-LIB 2.6 ends a line.
-fn ends_line(b: u8) -> bool
-    ensures { λ r. ⌜ r ≡ endsLine b ⌝ }
+// A control character of ASCII.
+fn is_control(b: u8) -> bool
+    ensures { λ r. ⌜ r ≡ text.isControl b ⌝ }
 {
-    if b == 10 {
+    if b < 32 {
         return true;
     }
-    b == 13
+    b == 127
 }
 
 // A byte at which a run of bytes that are written as they are ends.
@@ -93,7 +95,7 @@ fn is_stop(b: u8, comment: bool) -> bool
     ensures { λ r. ⌜ r ≡ stops comment b ⌝ }
 {
     if comment {
-        return ends_line(b);
+        return is_control(b);
     }
     if b == 34 {
         return true;
@@ -166,26 +168,35 @@ pub fn put_literal(out: &mut [u8], at: usize, limit: usize, s: &[u8]) -> usize
     put_quoted(out, at, limit, s, false)
 }
 
-// Writes a variable's id in its comment.
+// The most code points of a comment's text.
+const MOST: usize = 200;
+
+// Writes a variable's id in its comment: as many bytes of it as a comment has code points, since each of them is a code point. Past them
+// the id is not looked at.
 pub fn put_debug(out: &mut [u8], at: usize, limit: usize, id: &[u8]) -> usize
-    ensures { λ r. ⌜ Appends limit (now (out .entry)) at (now (out .exit)) r (quoted true (points (now (id .entry)))) ⌝ }
+    ensures { λ r. ⌜ Appends limit (now (out .entry)) at (now (out .exit)) r (take 200 (quoted true (points (now (id .entry))))) ⌝ }
 {
-    put_quoted(out, at, limit, id, true)
+    if write_bytes::room(at, limit) < MOST {
+        return put_quoted(out, at, limit, id, true);
+    }
+    let end = at + MOST;
+    let place = put_quoted(out, at, end, id, true);
+    write_bytes::smaller(place, end)
 }
 
-// A byte of a comment on one line: a space for one that ends a line.
-fn on_one_line(b: u8) -> u8
-    ensures { λ r. ⌜ r ≡ spaceIf (endsLine b) b ⌝ }
+// A space for a control character, and else the byte.
+fn blank(b: u8) -> u8
+    ensures { λ r. ⌜ r ≡ text.spaceIf (text.isControl b) b ⌝ }
 {
-    if ends_line(b) {
+    if is_control(b) {
         return b' ';
     }
     b
 }
 
-// Writes a comment's text on one line. Past the limit the text is not looked at.
-pub fn put_comment_text(out: &mut [u8], at: usize, limit: usize, s: &[u8]) -> usize
-    ensures { λ r. ⌜ Appends limit (now (out .entry)) at (now (out .exit)) r (oneLine (now (s .entry))) ⌝ }
+// Writes a text with spaces for its control characters. Past the limit the text is not looked at.
+fn put_blanked(out: &mut [u8], at: usize, limit: usize, s: &[u8]) -> usize
+    ensures { λ r. ⌜ Appends limit (now (out .entry)) at (now (out .exit)) r (text.blanked (now (s .entry))) ⌝ }
 {
     let mut place = at;
     let mut from = 0;
@@ -198,7 +209,69 @@ pub fn put_comment_text(out: &mut [u8], at: usize, limit: usize, s: &[u8]) -> us
         if s.len() <= to {
             return place;
         }
-        place = write_bytes::put_byte(out, place, limit, on_one_line(s[to]));
+        place = write_bytes::put_byte(out, place, limit, blank(s[to]));
         from = to + 1;
+    }
+}
+
+// How many code points begin at a byte.
+fn begun(b: u8) -> usize
+    ensures { λ r. ⌜ r ≡ text.begun b ⌝ }
+{
+    if b < 128 {
+        return 1;
+    }
+    if b <= 191 {
+        return 0;
+    }
+    1
+}
+
+// A comment's text as far as it is written: the place after it, and how many code points it has; one more than the most where it is cut.
+pub struct Comment {
+    pub at: usize,
+    pub points: usize,
+}
+
+// Where a text is cut in a comment that has so many code points before it, and how many it has then.
+fn cut(s: &[u8], points: usize) -> Comment
+    requires { ⌜ points ≤ 200 ⌝ }
+    ensures { λ r. ⌜ Cuts (now (s .entry)) points r ⌝ }
+{
+    let mut at = 0;
+    let mut sum = points;
+    while at < s.len() {
+        let next = sum + begun(s[at]);
+        if MOST < next {
+            return Comment { at, points: next };
+        }
+        sum = next;
+        at += 1;
+    }
+    Comment { at, points: sum }
+}
+
+// Whether nothing is written of a comment's text any more, since it is cut or past the limit.
+pub fn is_over(comment: Comment, limit: usize) -> bool
+    ensures { λ r. ⌜ r ≡ over limit comment ⌝ }
+{
+    if MOST < comment.points {
+        return true;
+    }
+    write_bytes::is_past(comment.at, limit)
+}
+
+// Goes on with a comment's text. Past its end and past the limit the text is not looked at.
+pub fn put_comment_text(out: &mut [u8], comment: Comment, limit: usize, s: &[u8]) -> Comment
+    ensures { λ r. ⌜ Comments limit (now (out .entry)) comment (now (out .exit)) r (now (s .entry)) ⌝ }
+{
+    if is_over(comment, limit) {
+        return comment;
+    }
+    let kept = cut(s, comment.points);
+    let at = put_blanked(out, comment.at, limit, &s[..kept.at]);
+    Comment {
+        at,
+        points: kept.points,
     }
 }

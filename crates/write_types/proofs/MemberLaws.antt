@@ -1,19 +1,18 @@
 -- The declarations of entity types and enums, piece by piece; members by recursion on their number.
 -- Assumes nothing.
-use mathlib.Core.Path.{_≡_, refl, sym, ap, _∙_}
+use mathlib.Core.Path.{_≡_, refl, sym, _∙_}
 use mathlib.Core.List.{List, [], _∷_, _++_, append-assoc, append-nil}
 use mathlib.Core.Option.{none, some}
 use Prim.Native.Nat.{ℕ, suc, _+_, _-_, _<_, _≤_}
 use native.Mathlib.Numerals.{add-one}
 use native.Mathlib.Omega.{arith}
 use lib.ListN.{length}
-use Rattle.script_spec.specs.Base.{Bytes, bytes, joined, endsLine}
-use Rattle.script_spec.specs.Text.{decimal, oneLine, spaceIf}
-use Rattle.script_spec.specs.Command.{line, spelled, headed, listed, spaced, constructorList, datatypeBody, declareDatatype, comment}
-use Rattle.script_spec.specs.Spelling.{memberName, numberedFrom, entityConstructors, entityComment}
+use Rattle.script_spec.specs.Base.{Bytes, bytes, joined}
+use Rattle.script_spec.specs.Text.{decimal}
+use Rattle.script_spec.specs.Command.{line, spelled, headed, listed, spaced, constructorList, datatypeBody, declareDatatype}
+use Rattle.script_spec.specs.Spelling.{memberName, numberedFrom, entityConstructors}
 use Rattle.write_bytes.specs.Writing.{Appends}
 use Rattle.write_bytes.proofs.Laws.{_then_, says, from-start, line-past, line-some}
-use Rattle.write_types.proofs.CommentLaws.{oneLine-append}
 use Rattle.write_types.specs.Members.{entitySymbol, memberText, membersText, SpellsMembers, SpellsEnum}
 
 pub entity-pieces : (n : Bytes) → bytes "(declare-datatype " ++ (n ++ (bytes " (\n  (" ++ (n ++ (bytes " (" ++ (n ++ bytes "_eid String))))\n"))))) ≡ line (declareDatatype n [] (entityConstructors n none))
@@ -76,18 +75,3 @@ enum-past h = record { go = λ ms e. rw h (line-past (line-some _)) }
 pub datatype-pieces : (n : Bytes) (cs : List Bytes) → bytes "(declare-datatype " ++ (spaced (n ∷ constructorList cs ∷ []) ++ bytes ")\n") ≡ line (declareDatatype n [] cs)
 unfolding line spelled headed spaced joined datatypeBody bytes
 datatype-pieces n cs = simp append-assoc
-
--- ---- comments
-
-comment-pieces : (u v : Bytes) → bytes "; " ++ (u ++ (bytes "::[" ++ (v ++ bytes "]\n"))) ≡ (bytes "; " ++ (u ++ (bytes "::[" ++ (v ++ bytes "]")))) ++ bytes "\n"
-unfolding bytes
-comment-pieces u v = simp append-assoc
-
-enum-text : (s : Bytes) (ms : List Bytes) → oneLine s ++ (bytes "::[" ++ (oneLine (joined (bytes ", ") ms) ++ bytes "]")) ≡ oneLine (entityComment s (some ms))
-unfolding entityComment bytes oneLine spaceIf endsLine
-enum-text s ms =
-    sym (oneLine-append s (bytes "::[" ++ (joined (bytes ", ") ms ++ bytes "]")) ∙ ap (λ (t : Bytes). oneLine s ++ (bytes "::[" ++ t)) (oneLine-append (joined (bytes ", ") ms) (bytes "]")))
-
-pub enum-comment : (s : Bytes) (ms : List Bytes) → bytes "; " ++ (oneLine s ++ (bytes "::[" ++ (oneLine (joined (bytes ", ") ms) ++ bytes "]\n"))) ≡ line (comment (entityComment s (some ms)))
-unfolding line spelled
-enum-comment s ms = comment-pieces (oneLine s) (oneLine (joined (bytes ", ") ms)) ∙ ap (λ (t : Bytes). (bytes "; " ++ t) ++ bytes "\n") (enum-text s ms)

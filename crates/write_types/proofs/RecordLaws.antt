@@ -8,13 +8,12 @@ use native.Mathlib.Omega.{arith}
 use mathlib.Core.Bool.{Bool, true}
 use lib.Dec.{ltb}
 use lib.ListN.{length, drop}
-use Rattle.script_spec.specs.Base.{Bytes, bytes, joined, seconds, endsLine}
+use Rattle.script_spec.specs.Base.{Bytes, bytes, joined, seconds}
 use Rattle.script_spec.specs.File.{TermFile, types, typeAt}
-use Rattle.script_spec.specs.Text.{oneLine, spaceIf}
-use Rattle.script_spec.specs.Command.{_⊹_, headed, spaced, line, spelled, datatypeBody, constructorList, comment, declareDatatype}
+use Rattle.script_spec.specs.Command.{headed, spaced, line, spelled, datatypeBody, constructorList, declareDatatype}
 use Rattle.script_spec.specs.Spelling.{Names, sort, attributeName, numberedFrom, recordConstructor}
 use Rattle.script_spec.specs.Walk.{State, names}
-use Rattle.write_bytes.specs.Writing.{ceiling, Appends, Wrote}
+use Rattle.write_bytes.specs.Writing.{ceiling, Appends}
 use Rattle.write_bytes.proofs.Laws.{_then_, says, stops-past, from-start, line-past, line-some}
 use Rattle.index.specs.First.{All, Below}
 use Rattle.index.specs.Meaning.{Index}
@@ -24,7 +23,6 @@ use Rattle.index.specs.Lists.{numberAt, textSize}
 use Rattle.index_entry.specs.Places.{namedItems, PastText}
 use Rattle.write_types.specs.Sorts.{SpellsSort}
 use Rattle.write_types.specs.Records.{partText, partsText, partsOf, recordName, partSorts, argumentsText, SpellsPartSort, SpellsParts, SpellsSpaced, SpellsRecordType}
-use Rattle.write_types.proofs.CommentLaws.{oneLine-append}
 use Rattle.write_types.proofs.Runs.{Continues, continues-start, continues-on, continues-end}
 
 -- a part, piece by piece
@@ -112,7 +110,3 @@ module _ {file : Bytes} {work : List ℕ} {sizes : Sizes} {body : Bytes} {name n
   -- with no room nothing is written
   pub record-past : {x : Bytes} → limit ≡ 0 → SpellsRecordType file work sizes body name n limit x x 1
   record-past e = record { go = λ f S I J b. rw e (line-past (line-some _)) }
-
-pub record-comment : {room r : ℕ} {x y : Bytes} (s : Bytes) → Appends room x 0 y r (bytes "; " ++ (bytes "{" ++ (oneLine s ++ bytes "}\n"))) → Wrote room x y r (line (comment (bytes "{" ⊹ s ⊹ bytes "}")))
-unfolding line spelled oneLine spaceIf endsLine bytes
-record-comment s A = from-start (says (rw (oneLine-append s (bytes "}")) (simp append-assoc)) A)

@@ -1,6 +1,7 @@
 // Comments of enums.
 use crate::comments;
 use smtlib_script::line::Word;
+use write_text::Comment;
 ghost use mathlib.Core.Option.{some};
 ghost use lib.ListN.{drop};
 ghost use Rattle.script_spec.specs.Command.{line, comment};
@@ -24,8 +25,9 @@ pub fn put_enum_comment(
         return 1;
     }
     let a = smtlib_script::line::put_word(rest, 0, room, Word::Comment);
-    let b = write_text::put_comment_text(rest, a, room, name);
-    let c = write_bytes::put_at(rest, b, room, b"::[");
+    let b = write_text::put_comment_text(rest, Comment { at: a, points: 0 }, room, name);
+    let c = write_text::put_comment_text(rest, b, room, b"::[");
     let d = comments::put_texts(rest, c, room, body, from, n, 0);
-    write_bytes::put_at(rest, d, room, b"]\n")
+    let e = write_text::put_comment_text(rest, d, room, b"]");
+    write_bytes::put_byte(rest, e.at, room, b'\n')
 }

@@ -4,6 +4,7 @@ use crate::sorts;
 use index::Sizes;
 use index_entry::lists;
 use smtlib_script::line::Word;
+use write_text::Comment;
 ghost use lib.ListN.{drop};
 ghost use mathlib.Core.List.{_++_};
 ghost use Rattle.script_spec.specs.Base.{bytes, joined};
@@ -131,7 +132,8 @@ pub fn put_record_comment(rest: &mut [u8], room: usize, body: &[u8], n: u32) -> 
         return 1;
     }
     let a = smtlib_script::line::put_word(rest, 0, room, Word::Comment);
-    let b = write_bytes::put_byte(rest, a, room, b'{');
+    let b = write_text::put_comment_text(rest, Comment { at: a, points: 0 }, room, b"{");
     let c = comments::put_texts(rest, b, room, body, 4, n, 4);
-    write_bytes::put_at(rest, c, room, b"}\n")
+    let d = write_text::put_comment_text(rest, c, room, b"}");
+    write_bytes::put_byte(rest, d.at, room, b'\n')
 }

@@ -8,7 +8,7 @@ use Rattle.write_text.proofs.is_stop.Tie as tie
 
 returns : tie.Need-returns
 unfolding stops
-returns c = rw c.before.if1.taken c.ends-line.ensures
+returns c = rw c.before.if1.taken c.is-control.ensures
 
 returns-2 : tie.Need-returns-2
 returns-2 c = rw c.before.if1.left (stops-quote _ c.if2.taken)

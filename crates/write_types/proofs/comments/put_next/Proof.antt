@@ -1,14 +1,14 @@
 -- `write_types::comments::put_next` meets its contract.
 -- Assumes nothing.
 use Rattle.script_spec.specs.Base.{bytes}
-use Rattle.write_bytes.proofs.Laws.{_then_}
+use Rattle.write_text.proofs.CommentLaws.{_also_}
 use borrow.Author.Needs.{needs}
 use Rattle.write_types.proofs.comments.put_next.Statement.{statement}
 use Rattle.write_types.proofs.comments.put_next.Tie as tie
 
 returns : tie.Need-returns
 unfolding bytes
-returns c = c.before.before.before.before.before.before.put-at.ensures then c.before.before.put-comment-text.ensures
+returns c = c.before.before.before.before.before.before.put-comment-text.ensures also c.before.before.put-comment-text2.ensures
 
 pub put-next-spec : {M : Type 1} → statement M
 put-next-spec =
