@@ -15,6 +15,7 @@ use Rattle.write_bytes.specs.Writing.{ceiling, Appends}
 use Rattle.write_bytes.proofs.Laws.{nothing, nothing-past, line-says}
 use Rattle.write_text.specs.Comments.{Cuts, over, Commented, Comments}
 use Rattle.write_text.specs.declared.Comment.{Comment}
+use Rattle.write_text.specs.declared.Cut.{Cut}
 use Rattle.script_spec.proofs.Cutting.{cut-on, cut-off}
 use Rattle.write_text.proofs.CutLaws.{cut-over}
 
@@ -42,22 +43,22 @@ cut-more (b ∷ t) s n = by (ltb 200 (n + begun b)) refl (cut-more t s (n + begu
 -- ---- one piece
 
 -- a text that is cut, with nothing after it
-cuts-whole : {s : Bytes} {n : ℕ} {c : Comment} → Cuts s n c → cutAfter n s ≡ take (c .at) s
+cuts-whole : {s : Bytes} {n : ℕ} {c : Cut} → Cuts s n c → cutAfter n s ≡ take (c .end) s
 unfolding cutAfter
-cuts-whole {s} {n} {c} k = ap (cutAfter n) (sym (append-nil s)) ∙ k .kept [] ∙ append-nil (take (c .at) s)
+cuts-whole {s} {n} {c} k = ap (cutAfter n) (sym (append-nil s)) ∙ k .kept [] ∙ append-nil (take (c .end) s)
 
-module _ {limit q : ℕ} {x y s : Bytes} {c d : Comment} where
+module _ {limit q : ℕ} {x y s : Bytes} {c : Comment} {d : Cut} where
   -- a piece that is cut and written
-  pub goes-on : c .at ≤ ceiling limit → Cuts s (c .points) d → Appends limit x (c .at) y q (blanked (take (d .at) s)) → Comments limit x c y (record { at = q; points = d .points }) s
+  pub goes-on : c .at ≤ ceiling limit → Cuts s (c .points) d → Appends limit x (c .at) y q (blanked (take (d .end) s)) → Comments limit x c y (record { at = q; points = d .points }) s
   unfolding oneLine
   goes-on h k A = record {
     go = λ o a t m.
-        let whole : cutAfter 0 (t ++ s) ≡ cutAfter 0 t ++ take (d .at) s = m .counted h s ∙ ap (λ (l : Bytes). cutAfter 0 t ++ l) (cuts-whole k) in
+        let whole : cutAfter 0 (t ++ s) ≡ cutAfter 0 t ++ take (d .end) s = m .counted h s ∙ ap (λ (l : Bytes). cutAfter 0 t ++ l) (cuts-whole k) in
         record {
-          wrote = line-says (append-assoc a (blanked (cutAfter 0 t)) (blanked (take (d .at) s)) ∙ ap (λ (l : Bytes). a ++ l) (sym (ap blanked whole ∙ blanked-append (cutAfter 0 t) (take (d .at) s)))) (A .go o (a ++ blanked (cutAfter 0 t)) (m .wrote));
+          wrote = line-says (append-assoc a (blanked (cutAfter 0 t)) (blanked (take (d .end) s)) ∙ ap (λ (l : Bytes). a ++ l) (sym (ap blanked whole ∙ blanked-append (cutAfter 0 t) (take (d .end) s)))) (A .go o (a ++ blanked (cutAfter 0 t)) (m .wrote));
           counted = λ l r.
               ap (cutAfter 0) (append-assoc t s r) ∙ m .counted h (s ++ r) ∙ ap (λ (u : Bytes). cutAfter 0 t ++ u) (k .kept r)
-              ∙ sym (append-assoc (cutAfter 0 t) (take (d .at) s) (cutAfter (d .points) r)) ∙ ap (λ (u : Bytes). u ++ cutAfter (d .points) r) (sym whole);
+              ∙ sym (append-assoc (cutAfter 0 t) (take (d .end) s) (cutAfter (d .points) r)) ∙ ap (λ (u : Bytes). u ++ cutAfter (d .points) r) (sym whole);
         };
   }
 
@@ -82,7 +83,7 @@ module _ {limit : ℕ} {x s : Bytes} {c : Comment} where
   -- nor where the text is cut
   comment-cut : 200 < c .points → c .at ≤ ceiling limit → Comments limit x c x c s
   unfolding blanked
-  comment-cut h l = goes-on {d = record { at = 0; points = c .points }} l (record { inside = omega arith; kept = λ r. cut-over (c .points) (s ++ r) h ∙ sym (cut-over (c .points) r h) }) nothing
+  comment-cut h l = goes-on {d = record { end = 0; points = c .points }} l (record { inside = omega arith; kept = λ r. cut-over (c .points) (s ++ r) h ∙ sym (cut-over (c .points) r h) }) nothing
 
   by-limit : (b : Bool) → ltb (ceiling limit) (c .at) ≡ b → (ltb 200 (c .points) || b) ≡ true → Comments limit x c x c s
   by-limit true e h = comment-past (ltb-true (ceiling limit) (c .at) e)

@@ -54,7 +54,7 @@ module _ {s : Bytes} {n at sum d : ℕ} (h : at < length s) (e : d ≡ begun (ge
         ∙ (rw (← e, add-one at, take-suc s at 0 h) (sym (append-assoc (take at s) (getD s at 0 ∷ []) (cutAfter (sum + d) (drop (suc at) s ++ r)))));
   }
 
-  pub kept-cut : 200 < sum + d → Cuts s n (record { at = at; points = sum + d })
+  pub kept-cut : 200 < sum + d → Cuts s n (record { end = at; points = sum + d })
   kept-cut l = record {
     inside = omega arith;
     kept = λ r.
@@ -63,7 +63,7 @@ module _ {s : Bytes} {n at sum d : ℕ} (h : at < length s) (e : d ≡ begun (ge
         ∙ ap (λ (t : Bytes). take at s ++ t) (cut-off sum (getD s at 0) (drop (suc at) s ++ r) (rw (← e) l) ∙ sym (cut-over (sum + d) r l));
   }
 
-pub kept-all : {s : Bytes} {n at sum : ℕ} → length s ≤ at → Kept s n at sum → Cuts s n (record { at = at; points = sum })
+pub kept-all : {s : Bytes} {n at sum : ℕ} → length s ≤ at → Kept s n at sum → Cuts s n (record { end = at; points = sum })
 kept-all {s} {n} {at} {sum} h k = record {
   inside = k .inside;
   kept = λ r. k .goes r ∙ ap (λ (t : Bytes). take at s ++ cutAfter sum (t ++ r)) (drop-of-length-le s h);

@@ -10,11 +10,12 @@ use Rattle.script_spec.specs.Base.{Bytes}
 use Rattle.script_spec.specs.Text.{cutAfter, oneLine}
 use Rattle.write_bytes.specs.Writing.{ceiling, Wrote}
 use Rattle.write_text.specs.declared.Comment.{Comment}
+use Rattle.write_text.specs.declared.Cut.{Cut}
 
 -- a text s of a comment that has n code points before it is cut at c: whatever text follows it is cut as after the code points of c
-pub record Cuts (s : Bytes) (n : ℕ) (c : Comment) : Type 0 where
-  pub inside : c .at ≤ length s
-  pub kept : (r : Bytes) → cutAfter n (s ++ r) ≡ take (c .at) s ++ cutAfter (c .points) r
+pub record Cuts (s : Bytes) (n : ℕ) (c : Cut) : Type 0 where
+  pub inside : c .end ≤ length s
+  pub kept : (r : Bytes) → cutAfter n (s ++ r) ≡ take (c .end) s ++ cutAfter (c .points) r
 
 -- nothing is written of a comment's text any more
 unfoldable pub over : ℕ → Comment → Bool

@@ -233,22 +233,28 @@ pub struct Comment {
     pub points: usize,
 }
 
-// Where a text is cut in a comment that has so many code points before it, and how many it has then.
-fn cut(s: &[u8], points: usize) -> Comment
+// Where a text ends in a comment, and how many code points the comment then has.
+struct Cut {
+    end: usize,
+    points: usize,
+}
+
+// Where a text is cut in a comment that has so many code points before it.
+fn cut_text(s: &[u8], points: usize) -> Cut
     requires { ⌜ points ≤ 200 ⌝ }
     ensures { λ r. ⌜ Cuts (now (s .entry)) points r ⌝ }
 {
-    let mut at = 0;
+    let mut end = 0;
     let mut sum = points;
-    while at < s.len() {
-        let next = sum + begun(s[at]);
+    while end < s.len() {
+        let next = sum + begun(s[end]);
         if MOST < next {
-            return Comment { at, points: next };
+            return Cut { end, points: next };
         }
         sum = next;
-        at += 1;
+        end += 1;
     }
-    Comment { at, points: sum }
+    Cut { end, points: sum }
 }
 
 // Whether nothing is written of a comment's text any more, since it is cut or past the limit.
@@ -268,8 +274,8 @@ pub fn put_comment_text(out: &mut [u8], comment: Comment, limit: usize, s: &[u8]
     if is_over(comment, limit) {
         return comment;
     }
-    let kept = cut(s, comment.points);
-    let at = put_blanked(out, comment.at, limit, &s[..kept.at]);
+    let kept = cut_text(s, comment.points);
+    let at = put_blanked(out, comment.at, limit, &s[..kept.end]);
     Comment {
         at,
         points: kept.points,

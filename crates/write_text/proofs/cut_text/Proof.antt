@@ -1,4 +1,4 @@
--- `write_text::cut` meets its contract: the text is kept as far as the place reached, and the code points are counted. The measure is what
+-- `write_text::cut_text` meets its contract: the text is kept as far as the place reached, and the code points are counted. The measure is what
 -- is left.
 -- Assumes nothing.
 use Prim.Native.Nat.{_-_}
@@ -6,14 +6,14 @@ use lib.ListN.{length}
 use native.Mathlib.Omega.{arith}
 use borrow.Author.Needs.{needs}
 use Rattle.write_text.proofs.CutLaws.{begun-one, Kept, kept-none, kept-more, kept-cut, kept-all}
-use Rattle.write_text.proofs.cut.Statement.{statement}
-use Rattle.write_text.proofs.cut.Tie as tie
+use Rattle.write_text.proofs.cut_text.Statement.{statement}
+use Rattle.write_text.proofs.cut_text.Tie as tie
 
 abbrev Inv-loop : tie.InvT-loop
-Inv-loop s points at₀ sum₀ at sum = Kept s points at sum
+Inv-loop s points end₀ sum₀ end sum = Kept s points end sum
 
 abbrev μ-loop : tie.MeasureT-loop
-μ-loop s points at₀ sum₀ at sum = length s - at
+μ-loop s points end₀ sum₀ end sum = length s - end
 
 loop-holds : tie.Need-loop-holds Inv-loop μ-loop
 loop-holds c = kept-none _ _ c.before.pre
@@ -30,8 +30,8 @@ loop-again c = kept-more c.before.before.before.loop-test.taken c.before.begun.e
 returns-2 : tie.Need-returns-2 Inv-loop μ-loop
 returns-2 c = kept-all c.loop-test.left c.before.loop.inv
 
-pub cut-spec : {M : Type 1} → statement M
-cut-spec =
+pub cut-text-spec : {M : Type 1} → statement M
+cut-text-spec =
     tie.close
     (tie.spec
     Inv-loop
