@@ -69,13 +69,24 @@ fn line_end(s: &[u8], from: usize) -> usize
     i
 }
 
-// Writes a line of a script, the text of a comment cut and with spaces for its control characters.
+// Whether a line with these bytes at its start and at its end is a comment.
+fn is_comment(first: u8, second: u8, last: u8) -> bool {
+    if first != b';' {
+        return false;
+    }
+    if second != b' ' {
+        return false;
+    }
+    last == b'\n'
+}
+
+// Writes a line of a script: the text of a comment cut and with spaces for its control characters, and any other line as it is.
 fn put_line(out: &mut [u8], at: usize, line: &[u8]) -> usize {
     let limit = out.len();
     if line.len() < 3 {
         return write_bytes::put_at(out, at, limit, line);
     }
-    if line[0] != b';' {
+    if !is_comment(line[0], line[1], line[line.len() - 1]) {
         return write_bytes::put_at(out, at, limit, line);
     }
     let start = write_bytes::put_at(out, at, limit, b"; ");

@@ -6,16 +6,17 @@ use mathlib.Core.List.{List, [], _∷_}
 use mathlib.Core.Option.{Option, none, some}
 use Prim.Native.Nat.{ℕ, suc, _+_, _-_, _≤_, _<_}
 use native.Mathlib.Omega.{arith}
-use lib.Dec.{T, eqb, leb, ltb, leb→le, lt→ltb, ltb→lt}
+use lib.Dec.{T, eqb, ltb, lt→ltb, ltb→lt}
 use lib.ListN.{length, take, getD}
 use lib.Seq.{take-nil}
 use borrow.Author.Tests.{ltb-true, ltb-false, le-ltb, ne-eqb}
 use Rattle.script_spec.specs.Base.{Bytes, bytes, between, all, collect, place, placeFrom}
 use Rattle.script_spec.specs.Utf8.{codePoints}
 use Rattle.script_spec.specs.Text.{digit, hex, brace, isControl, spaceIf, blanked, begun, cutAfter, oneLine, debugChar, debug}
-use Rattle.script_spec.proofs.Laws.{and-parts, and-both, all-append}
+use Rattle.script_spec.proofs.Laws.{and-parts, and-both, is-true, all-append}
 use Rattle.script_spec.proofs.Numerals.{allBelow, allBelow-each, hex-all}
 use Rattle.script_spec.proofs.Cutting.{begun-ascii, cut-on, cut-off}
+use Rattle.write_text.proofs.Laws.{printable-small, printable-large}
 
 -- ---- printable bytes in a comment
 
@@ -23,30 +24,22 @@ use Rattle.script_spec.proofs.Cutting.{begun-ascii, cut-on, cut-off}
 abbrev isPlain : ℕ → Bool
 isPlain b = between 32 126 b
 
-plain-low : (b : ℕ) → T (isPlain b) → 32 ≤ b
-unfolding between
-plain-low b h = leb→le 32 b (and-parts (leb 32 b) (leb b 126) h .0)
-
-plain-high : (b : ℕ) → T (isPlain b) → b ≤ 126
-unfolding between
-plain-high b h = leb→le b 126 (and-parts (leb 32 b) (leb b 126) h .1)
-
 plain-same : (b : ℕ) → T (isPlain b) → spaceIf (isControl b) b ≡ b
 unfolding isControl spaceIf
-plain-same b h = rw (le-ltb b 32 (plain-low b h), ne-eqb b 127 (λ e. omega (arith, plain-high b h)))
+plain-same b h = let p = is-true (isPlain b) h in rw (le-ltb b 32 (printable-large b p), ne-eqb b 127 (λ e. omega (arith, printable-small b p)))
 
 -- a text with n code points before it
 plain-cut : (b : ℕ) (s : Bytes) (n : ℕ) → T (isPlain b) → n ≤ 200 → (n + 1 ≤ 200 → blanked (cutAfter (n + 1) s) ≡ take (200 - (n + 1)) s)
     → (o : Bool) → ltb n 200 ≡ o → blanked (cutAfter n (b ∷ s)) ≡ take (200 - n) (b ∷ s)
 unfolding blanked
 plain-cut b s n h l rest true e =
-    let one : begun b ≡ 1 = sym (begun-ascii b (omega (arith, plain-high b h))) in
+    let one : begun b ≡ 1 = sym (begun-ascii b (omega (arith, printable-small b (is-true (isPlain b) h)))) in
     let k : n + 1 ≤ 200 = omega (arith, ltb-true n 200 e) in
     let on : cutAfter n (b ∷ s) ≡ b ∷ cutAfter (n + 1) s = rw one at (cut-on n b s (rw one k)) in
     let left : 200 - n ≡ suc (200 - (n + 1)) = omega arith in
     rw (on, left) (ap (λ (c : ℕ). c ∷ blanked (cutAfter (n + 1) s)) (plain-same b h) ∙ ap (λ (t : Bytes). b ∷ t) (rest k))
 plain-cut b s n h l rest false e =
-    let one : begun b ≡ 1 = sym (begun-ascii b (omega (arith, plain-high b h))) in
+    let one : begun b ≡ 1 = sym (begun-ascii b (omega (arith, printable-small b (is-true (isPlain b) h)))) in
     let k : 200 ≤ n = ltb-false n 200 e in
     let left : 200 - n ≡ 0 = omega arith in
     rw (cut-off n b s (rw one (omega arith)), left)

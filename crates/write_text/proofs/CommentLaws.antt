@@ -1,4 +1,4 @@
--- A comment's text piece by piece: each piece goes on with it, and the pieces with `; ` and a line end are the comment's line.
+-- A comment's text piece by piece: each piece goes on with it, and pieces from the start are the text on one line.
 -- Assumes nothing.
 use mathlib.Core.Path.{_≡_, refl, sym, ap, _∙_, subst}
 use mathlib.Core.Bool.{Bool, true, false, _||_}
