@@ -1,5 +1,7 @@
 // Checks term files, and writes a line for each: its name, and check's answer. The arguments name the first files; standard input has
 // the others, one after another.
+#![tactic(auto)]
+
 use check_file::Checked;
 use libc::{STDIN_FILENO, STDOUT_FILENO};
 

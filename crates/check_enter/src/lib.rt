@@ -1,4 +1,6 @@
 // Entering a record into the index: the rules that it must keep, and its row.
+#![tactic(auto)]
+
 pub mod enums;
 pub mod inputs;
 pub mod terms;
@@ -10,7 +12,7 @@ use index::Sizes;
 use index_search::search::Table;
 
 // The record is entered, or it breaks the rule of a number.
-#[derive(Drop)]
+#[derive(Clone, Copy)]
 pub enum Entered {
     Done,
     Broken(u32),

@@ -8,7 +8,7 @@ use index::Sizes;
 use read_record::mark::Kind;
 
 // The place after a record and the sizes with it, or the number of its refusal.
-#[derive(Drop)]
+#[derive(Clone, Copy)]
 pub enum Step {
     To(usize, Sizes),
     Bad(u32),

@@ -1,4 +1,6 @@
 // Check: a file's records one after the other, with refusals 1 to 13, and the index that this fills.
+#![tactic(auto)]
+
 pub mod kinds;
 pub mod next;
 pub mod step;
@@ -10,7 +12,7 @@ use index::Sizes;
 use kinds::Step;
 
 // Check's answer: acceptance, or a refusal's number and place.
-#[derive(Drop)]
+#[derive(Clone, Copy)]
 pub enum Checked {
     Accepted,
     Refused(u32, u32),
@@ -20,7 +22,7 @@ pub enum Checked {
 const MOST_BYTES: usize = 1048576;
 
 // The answer of filling the index: its sizes, or a refusal's number and place.
-#[derive(Drop)]
+#[derive(Clone, Copy)]
 pub enum Filled {
     Done(Sizes),
     Refused(u32, u32),

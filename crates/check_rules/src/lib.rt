@@ -1,4 +1,6 @@
 // The rules of a record by its body, and the references of a set that repeat.
+#![tactic(auto)]
+
 pub mod ascending;
 pub mod distinct;
 pub mod members;

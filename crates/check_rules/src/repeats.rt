@@ -6,7 +6,7 @@ ghost use Rattle.check_rules.specs.Repeats.{ref_at, first_at, Notes, Clears, Sam
 use index_compare::segments::Word;
 
 // No two references are to equal terms; two are; or that is not told, as where the column had other notes.
-#[derive(Drop)]
+#[derive(Clone, Copy)]
 pub enum Answer {
     Never,
     Once,

@@ -10,7 +10,7 @@ use index_compare::record::body_at;
 use read_record::mark::Kind;
 
 // The rules are kept, or the one of a number is broken.
-#[derive(Drop)]
+#[derive(Clone, Copy)]
 pub enum Rules {
     Kept,
     Broken(u32),

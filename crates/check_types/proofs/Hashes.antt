@@ -10,7 +10,7 @@ use mathlib.Core.Option.{some}
 use types.Run.{OneOf}
 use denote.Enum.Declared.{tag_of}
 use lib.Dec.{eqb}
-use lib.ListN.{length, length_map}
+use lib.ListN.{length, length-map}
 use Rattle.script_spec.specs.Base.{Bytes}
 use Rattle.script_spec.specs.Tree.{TypeMark, Bool·, String·, Option·, Set·, BitVec·, Declared, entity, extension, record_of, TermMark, Record}
 use Rattle.script_spec.specs.Fields.{term}
@@ -93,7 +93,7 @@ module _ {file : Bytes} {work : List ℕ} {k o part : ℕ} {sought : Kind} (W : 
             let letter : letter_of t ≡ l = sought_letter S W.kind_is ∙ is in
             let back : l ≡ letter_of t = sym letter in
             let num : n ≡ type_number t ns = number f t ps S letter in
-            let sized : Sized t (length ns) = rw (length_map ps (cell work k type_first)) (seeks_sized S) in
+            let sized : Sized t (length ns) = rw (length-map ps (cell work k type_first)) (seeks_sized S) in
             let shown = one_segment t ns sized (λ z. no_record (back ∙ z)) (seeks_no_entity S) in
             e ∙ ap (λ (x : Segment). type_hash l (x ∷ [])) q ∙ (λ i. type_hash (back i) (sole (back i) (num i) ∷ []))
             ∙ sym (ap (hashed (type_bytes t)) shown ∙ hashed_letter t (sole (letter_of t) (type_number t ns) ∷ []));

@@ -11,7 +11,7 @@ use lib.Dec.{eqb, eqb→eq}
 use borrow.Author.Tests.{eq-eqb}
 use package.types.Run.{OneOf}
 use denote.Enum.Declared.{tag_of}
-use lib.ListN.{length, length_map}
+use lib.ListN.{length, length-map}
 use Rattle.script_spec.specs.Base.{Bytes}
 use Rattle.script_spec.specs.Tree.{Ty, TypeMark, Bool·, String·, Option·, Set·, BitVec·, Declared, entity, extension, record_of}
 use Rattle.script_spec.specs.Tree.{TermMark, Var, BoolLit, BitVecLit, StringLit, Entity, ExtLit, None, Some, Set, Record, App}
@@ -166,8 +166,8 @@ module _ {file : Bytes} {work : List ℕ} {k p o part : ℕ} {sought other : Kin
               let φ = cell work k type_first in
               let letter : letter_of u ≡ l = sym (type_letter_lem file p M e) ∙ same ∙ is in
               let letter' : letter_of t ≡ l = sought_letter S W.kind_is ∙ is in
-              let sized : Sized u (length (map φ rs)) = rw (length_map rs φ) (entry_sized file p e) in
-              let sized' : Sized t (length (map φ ps)) = rw (length_map ps φ) (seeks_sized S) in
+              let sized : Sized u (length (map φ rs)) = rw (length-map rs φ) (entry_sized file p e) in
+              let sized' : Sized t (length (map φ ps)) = rw (length-map ps φ) (seeks_sized S) in
               decides_same (equal_types S.index u t rs ps below (seeks_below S))
               (record {
                 true_of = λ s. test ∙ eq-eqb a b (number u rs e letter ∙ (λ i. type_number (s.0 i) (s.1 i)) ∙ sym (number' f t ps S letter'));

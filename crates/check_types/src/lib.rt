@@ -1,4 +1,6 @@
 // The type of a term among the types that are listed before it, by the slots of the hash table.
+#![tactic(auto)]
+
 ghost use Rattle.std.specs.Prelude.{◌≡◌, eqb};
 ghost use Rattle.index.specs.Standing.{mark_at};
 ghost use Rattle.read_record.specs.Marks.{Marked};
@@ -10,7 +12,7 @@ use index_compare::record::{body_at, kind_at};
 use read_record::mark::Kind;
 
 // The first type that is equal to a term's type, by its number, or that none is listed.
-#[derive(Drop)]
+#[derive(Clone, Copy)]
 pub enum Found {
     Listed(u32),
     NotListed,

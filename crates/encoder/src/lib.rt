@@ -1,4 +1,6 @@
 // Encode: the script of a term file, or its refusal.
+#![tactic(auto)]
+
 pub mod assertions;
 pub mod inputs;
 pub mod print;
@@ -13,7 +15,7 @@ use walk_names::progress::Progress;
 use write_bytes::Written;
 
 // Encode's answer: the script's length, or a refusal's number and place.
-#[derive(Drop)]
+#[derive(Clone, Copy)]
 pub enum Encoded {
     Script(usize),
     Refused(u32, u32),

@@ -5,7 +5,7 @@ use Prim.Native.Nat.{ℕ}
 use mathlib.Core.Path.{◌≡◌, refl, sym, ap, ◌∙◌}
 use mathlib.Core.List.{List, [], ◌∷◌, ◌++◌, map}
 use mathlib.Core.Option.{some}
-use lib.ListN.{length_map}
+use lib.ListN.{length-map}
 use Rattle.script_spec.specs.Base.{Bytes, collect}
 use Rattle.script_spec.specs.Tree.{TypeMark, Bool·, String·, Option·, Set·, BitVec·, Declared, entity, extension, record_of}
 use Rattle.script_spec.specs.Tree.{TermMark, Var, BoolLit, BitVecLit, StringLit, Entity, ExtLit, None, Some, Set, Record, App, Op, Plain, Ext, RecordGet, StringLike, Uuf, ZeroExtend}
@@ -45,7 +45,7 @@ module _ (types funs terms : ℕ → ℕ) where
 
   counted_mapped : (rs : List ℕ) → map g (count_before rs (map term_ref rs)) ≡ count_before (map terms rs) (map term_ref (map terms rs))
   unfolding count_before mapped
-  counted_mapped rs = λ i. plain (low_bytes 4 (sym (length_map rs terms) i)) ∷ terms_mapped rs i
+  counted_mapped rs = λ i. plain (low_bytes 4 (sym (length-map rs terms) i)) ∷ terms_mapped rs i
 
   type_mapped : (m : TypeMark) (rs : List ℕ) → map g (type_segments m rs) ≡ type_segments m (map types rs)
   unfolding type_segments count_before mapped

@@ -11,7 +11,7 @@ use crate::segments::{Met, Walk};
 
 // What stands for a reference: the number of the first equal record; the same, and for a term that of its type, as a reference to a
 // type; or the depth.
-#[derive(Drop)]
+#[derive(Clone, Copy)]
 pub enum View {
     First,
     Listed,
@@ -30,7 +30,7 @@ pub const FUN_REF: u32 = 3;
 pub const TERM_REF: u32 = 4;
 
 // The first segment of a walk in a view: its kind, its number, its bytes by their start and size, and the walk after it.
-#[derive(Drop)]
+#[derive(Clone, Copy)]
 pub struct Seen {
     pub kind: u32,
     pub number: u32,

@@ -1,4 +1,6 @@
 // A record's body as plain bytes and references, and records compared by it, with the index for what they refer to.
+#![tactic(auto)]
+
 pub mod compare;
 pub mod depth;
 pub mod mark;

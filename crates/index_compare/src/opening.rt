@@ -10,7 +10,7 @@ use crate::segments::{Walk, Word};
 use crate::shape::{Shape, shape_by};
 
 // What the body of a record begins with, where its mark tells that it is a reference.
-#[derive(Drop)]
+#[derive(Clone, Copy)]
 enum Opening {
     TypeFirst,
     TermFirst,

@@ -6,7 +6,7 @@ ghost use Rattle.index_compare.specs.Machine.{cut, reference, text_then, operand
 ghost use Rattle.index_compare.specs.Step.{refer, WordRead, walk_ending, after_field, popped, put, items_from};
 
 // What an operator has after its code.
-#[derive(Drop)]
+#[derive(Clone, Copy)]
 pub enum Operand {
     Byte,
     Word,
@@ -16,7 +16,7 @@ pub enum Operand {
 }
 
 // A field of a body. `Nothing` ends the fields; the named one is a text and then a reference.
-#[derive(Drop)]
+#[derive(Clone, Copy)]
 pub enum Field {
     Nothing,
     Rest,
@@ -28,7 +28,7 @@ pub enum Field {
 }
 
 // What a list has as its items.
-#[derive(Drop)]
+#[derive(Clone, Copy)]
 pub enum Item {
     Term,
     NamedType,
@@ -36,7 +36,7 @@ pub enum Item {
 }
 
 // A place in a body: the fields that come next, whether a count follows them, and the items and how many are left.
-#[derive(Drop)]
+#[derive(Clone, Copy)]
 pub struct Walk {
     pub first: Field,
     pub second: Field,
@@ -47,7 +47,7 @@ pub struct Walk {
 }
 
 // The next segment and the walk after it: plain bytes by their start and length, or a reference; or the end.
-#[derive(Drop)]
+#[derive(Clone, Copy)]
 pub enum Met {
     Plain(usize, usize, Walk),
     TypeRef(u32, Walk),
@@ -57,14 +57,14 @@ pub enum Met {
 }
 
 // Whether an operator has an operand.
-#[derive(Drop)]
+#[derive(Clone, Copy)]
 pub enum Coded {
     With(Operand),
     Absent,
 }
 
 // What a reference is to.
-#[derive(Drop)]
+#[derive(Clone, Copy)]
 enum Referent {
     TypeKind,
     FunKind,
@@ -72,7 +72,7 @@ enum Referent {
 }
 
 // Four bytes, low byte first, if they are there.
-#[derive(Drop)]
+#[derive(Clone, Copy)]
 pub enum Word {
     Value(u32),
     Short,

@@ -11,7 +11,7 @@ use crate::segments::{Coded, Word};
 // The segments of a record, where they are told with no walk: a reference to a term; a reference to a type, the code of an operator
 // that has no operand, a count, and so many references to terms; the same with no code; or a text of so many bytes with its count, and
 // a reference to a type.
-#[derive(Drop)]
+#[derive(Clone, Copy)]
 pub enum Shape {
     Sole(u32),
     Applied(u32, u32),

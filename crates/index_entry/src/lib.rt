@@ -1,4 +1,6 @@
 // The records of an accepted file read again, by their offsets: types, functions, enums and terms.
+#![tactic(auto)]
+
 pub mod leaves;
 pub mod lists;
 pub mod numbered;

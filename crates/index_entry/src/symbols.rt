@@ -6,14 +6,14 @@ use crate::lists;
 use read_record::mark::Kind;
 
 // An enum: how many members it has, and from where on they stand in the body, after its name.
-#[derive(Drop)]
+#[derive(Clone, Copy)]
 pub struct Enum {
     pub members: u32,
     pub from: usize,
 }
 
 // A function: the numbers of its argument's and its result's types. Its id is the text that the body begins with.
-#[derive(Drop)]
+#[derive(Clone, Copy)]
 pub struct Fun {
     pub argument: u32,
     pub result: u32,

@@ -11,7 +11,7 @@ use read_operator::Op;
 use write_bitvec::halves::Halves;
 
 // The terms that a record refers to: so many numbers from a place of the body on, each after a text where `named`.
-#[derive(Drop)]
+#[derive(Clone, Copy)]
 pub struct Children {
     pub from: usize,
     pub left: u32,
@@ -19,14 +19,14 @@ pub struct Children {
 }
 
 // The first of the terms that a record refers to, by its number, and the others.
-#[derive(Drop)]
+#[derive(Clone, Copy)]
 pub struct Child {
     pub number: u32,
     pub rest: Children,
 }
 
 // An application: its operator, its arguments and its number.
-#[derive(Drop)]
+#[derive(Clone, Copy)]
 pub struct Application {
     pub op: Op,
     pub arguments: Children,
@@ -34,21 +34,21 @@ pub struct Application {
 }
 
 // A set or a record: its number and what it is of.
-#[derive(Drop)]
+#[derive(Clone, Copy)]
 pub struct Compound {
     pub number: u32,
     pub children: Children,
 }
 
 // An entity: its number, and the number of its type.
-#[derive(Drop)]
+#[derive(Clone, Copy)]
 pub struct Entity {
     pub number: u32,
     pub of: u32,
 }
 
 // An extension value: an address and its prefix, or 64 bits.
-#[derive(Drop)]
+#[derive(Clone, Copy)]
 pub enum Value {
     V4(u64, u32),
     V6(Halves, u32),
@@ -59,7 +59,7 @@ pub enum Value {
 
 // A term as its record has it: types and terms by their numbers, texts as parts of the body. `Unreadable` stands for what is no
 // term.
-#[derive(Drop)]
+#[derive(Clone, Copy)]
 pub enum TermEntry {
     Var(Span, u32),
     BoolLit(bool),

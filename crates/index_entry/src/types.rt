@@ -7,7 +7,7 @@ ghost use Rattle.index_entry.specs.Types.{IsType, TypeAt, PartAt};
 use read_field::{Cursor, ReadNumber, Span};
 
 // The extension types, in the order of `ExtType`.
-#[derive(Drop)]
+#[derive(Clone, Copy)]
 pub enum ExtType {
     IPAddr,
     Decimal,
@@ -17,7 +17,7 @@ pub enum ExtType {
 
 // A type as its record has it: parts by their numbers, a name as a part of the body, and of a record type how many attributes the
 // body has. `Unreadable` stands for what is no type.
-#[derive(Drop)]
+#[derive(Clone, Copy)]
 pub enum TypeEntry {
     Bool,
     String,

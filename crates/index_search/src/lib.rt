@@ -1,4 +1,6 @@
 // Equal records and enums of a name, found by a hash table in the index's last column.
+#![tactic(auto)]
+
 pub mod enums;
 pub mod hash;
 pub mod names;

@@ -5,7 +5,7 @@ ghost use Rattle.index_search.specs.Tables.{slot_kind, offsets_of, firsts_of};
 ghost use Rattle.index_search.specs.Found.{SameAt, HoldsEqual, Probes, Enrols};
 
 // The tables of records that are searched by marks and bodies.
-#[derive(Drop)]
+#[derive(Clone, Copy)]
 pub enum Table {
     Types,
     Funs,
@@ -14,7 +14,7 @@ pub enum Table {
 
 // What the search tells: the number of the first record that is equal; or that there is none, and how many steps after the home slot the
 // first empty slot is.
-#[derive(Drop)]
+#[derive(Clone, Copy)]
 enum Answer {
     Known(u32),
     Absent(usize),

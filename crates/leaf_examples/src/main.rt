@@ -1,5 +1,7 @@
 // Writes what the leaves of the encoder make of the literals of document 01 and of SMT-LIB's theories, one to a line. What is
 // expected, in the file `stdout`, was worked out from these papers.
+#![tactic(auto)]
+
 mod codes;
 mod lines;
 mod numerals;

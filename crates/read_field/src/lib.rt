@@ -1,4 +1,6 @@
 // Reading the fields of a record's body: a cursor by value, whose methods hand back the moved cursor in their answers.
+#![tactic(auto)]
+
 pub mod list;
 
 ghost use Rattle.std.specs.Prelude.{◌≡◌, ◌-◌, ◌||◌, [], ◌∷◌, eqb, ltb, length, take, drop};
@@ -11,34 +13,34 @@ ghost use Rattle.read_field.specs.Answers.{number_told, text_told, number_moved,
 pub const NO_PREFIX: u32 = 255;
 
 // A place in a body.
-#[derive(Drop)]
+#[derive(Clone, Copy)]
 pub struct Cursor {
     pub at: usize,
 }
 
 // A part of a body.
-#[derive(Drop)]
+#[derive(Clone, Copy)]
 pub struct Span {
     pub start: usize,
     pub len: usize,
 }
 
 // What reading a number answers; `Bad` has the number of the refusal.
-#[derive(Drop)]
+#[derive(Clone, Copy)]
 pub enum ReadNumber {
     Value(u32, Cursor),
     Bad(u32),
 }
 
 // What reading bytes or a text answers.
-#[derive(Drop)]
+#[derive(Clone, Copy)]
 pub enum ReadText {
     Bytes(Span, Cursor),
     Bad(u32),
 }
 
 // What reading answers where the value is not kept.
-#[derive(Drop)]
+#[derive(Clone, Copy)]
 pub enum Moved {
     To(Cursor),
     Bad(u32),

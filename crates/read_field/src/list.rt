@@ -6,7 +6,7 @@ ghost use Rattle.read_field.specs.Items.{item_reader, list_reader};
 use crate::{Cursor, Moved, ReadNumber, ReadText};
 
 // What the items of a list are.
-#[derive(Drop)]
+#[derive(Clone, Copy)]
 pub enum Item {
     Text,
     // The number of one of so many earlier records.

@@ -1,4 +1,6 @@
 // Operators (op.rs): the operator of an application, read with its operand.
+#![tactic(auto)]
+
 ghost use Rattle.std.specs.Prelude.{◌≡◌, ◌<◌, ◌≤◌, ◌^◌};
 ghost use Rattle.script_spec.specs.Fields.{operators, operator};
 ghost use Rattle.read_field.specs.Reads.{Reads, chosen};
@@ -100,7 +102,7 @@ const IPADDR_PREFIX_V6: u32 = 9;
 const EXT_OPS: u32 = 10;
 
 // The extension operators, in the order of `ExtOp`.
-#[derive(Drop)]
+#[derive(Clone, Copy)]
 pub enum ExtOp {
     DatetimeOfBitVec,
     DatetimeVal,
@@ -115,14 +117,14 @@ pub enum ExtOp {
 }
 
 // The elements of a pattern: so many numbers of four bytes each, from this place of the body on.
-#[derive(Drop)]
+#[derive(Clone, Copy)]
 pub struct Pattern {
     pub start: usize,
     pub count: u32,
 }
 
 // The operators, each with its operand.
-#[derive(Drop)]
+#[derive(Clone, Copy)]
 pub enum Op {
     And,
     Bvadd,
@@ -160,7 +162,7 @@ pub enum Op {
 }
 
 // What reading an operator answers.
-#[derive(Drop)]
+#[derive(Clone, Copy)]
 pub enum ReadOp {
     Is(Op, Cursor),
     Bad(u32),

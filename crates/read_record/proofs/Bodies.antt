@@ -7,7 +7,7 @@ use mathlib.Core.Bool.{Bool, true, false}
 use mathlib.Core.List.{List, [], ◌∷◌, map}
 use mathlib.Core.Option.{some}
 use lib.Dec.{ltb}
-use lib.ListN.{length, length_map}
+use lib.ListN.{length, length-map}
 use borrow.Author.Tests.{ltb-true, ltb-false}
 use Rattle.script_spec.specs.Base.{Bytes, at}
 use Rattle.script_spec.specs.Fields.{Read, got, bad, Reader, ◌>>=◌, pure, ensure, present, byte, coded}
@@ -82,7 +82,7 @@ module _ {A : Type 0} (xs : List A) where
   skim_chosen : (n : ℕ) (b : Bool) → ltb n (length xs) ≡ b → (s : Bytes) → skim (chosen (map pure xs) n) s ≡ skim (ensure 7 b n) s
   unfolding skim chosen present ensure ◌>>=◌ pure
   skim_chosen n true e s = let p = at_some xs n (ltb-true n (length xs) e) in rw (at_map pure xs n p.0 p.1)
-  skim_chosen n false e s = rw (at_past (map pure xs) n (rw length_map (ltb-false n (length xs) e)))
+  skim_chosen n false e s = rw (at_past (map pure xs) n (rw length-map (ltb-false n (length xs) e)))
 
   -- a table of values is a code below its length
   pub skim_coded : (s : Bytes) → skim (coded (map pure xs)) s ≡ skim (code (length xs)) s

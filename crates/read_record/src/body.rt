@@ -14,7 +14,7 @@ use read_field::{Cursor, Moved, ReadNumber, ReadText};
 use read_operator::ReadOp;
 
 // A body that can be read, or the number of its refusal.
-#[derive(Drop)]
+#[derive(Clone, Copy)]
 pub enum Verdict {
     Fine,
     Bad(u32),

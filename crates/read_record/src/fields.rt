@@ -6,7 +6,7 @@ use crate::mark::Kind;
 use read_field::list::Item;
 
 // A field of a body.
-#[derive(Drop)]
+#[derive(Clone, Copy)]
 pub enum Field {
     Nothing,
     Text,
@@ -29,7 +29,7 @@ pub enum Field {
 }
 
 // The fields of a body in their order.
-#[derive(Drop)]
+#[derive(Clone, Copy)]
 pub struct Fields(pub Field, pub Field, pub Field);
 
 // The fields of a kind's body, after so many types, functions and terms.

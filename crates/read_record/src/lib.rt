@@ -1,4 +1,6 @@
 // The records of a term file: marks, the fields that each mark's body has, and reading a record.
+#![tactic(auto)]
+
 pub mod body;
 pub mod fields;
 pub mod mark;
@@ -11,7 +13,7 @@ use mark::Kind;
 use read_field::Cursor;
 
 // The next record: its kind and where its body starts and ends in the file; or the number of its refusal.
-#[derive(Drop)]
+#[derive(Clone, Copy)]
 pub enum Next {
     Record {
         kind: Kind,

@@ -3,7 +3,7 @@ ghost use Rattle.std.specs.Prelude.{[], ◌∷◌};
 ghost use Rattle.read_record.specs.Marks.{Marked, Known};
 
 // A record's mark; `Unknown` stands for two bytes that are none.
-#[derive(Drop)]
+#[derive(Clone, Copy)]
 pub enum Kind {
     TB,
     TS,

@@ -1,4 +1,6 @@
 // The code points of a text one by one, and tests of a whole text.
+#![tactic(auto)]
+
 ghost use Rattle.std.specs.Prelude.{◌≡◌, ◌<◌, drop};
 ghost use Rattle.script_spec.specs.Utf8.{is_utf8};
 ghost use Rattle.script_spec.specs.Walk.{low_enough};
@@ -10,13 +12,13 @@ pub const HIGHEST: u32 = 196607;
 pub const WILDCARD: u32 = 4294967295;
 
 // A reading position in a text.
-#[derive(Drop)]
+#[derive(Clone, Copy)]
 pub struct Cursor {
     pub at: usize,
 }
 
 // What stands at a cursor: a code point with the cursor after it, bytes that are not UTF-8, or the end.
-#[derive(Drop)]
+#[derive(Clone, Copy)]
 pub enum Next {
     Point(u32, Cursor),
     Malformed,

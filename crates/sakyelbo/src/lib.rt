@@ -1,5 +1,7 @@
 // What other languages link: check, encode and the writers of commands, with the answers as numbers. Each function answers 0, or
 // a refusal's number times 2^32 plus the place of its record.
+#![tactic(auto)]
+
 mod answers;
 pub mod commands;
 

@@ -9,7 +9,7 @@ use mathlib.Core.List.{List, [], ◌∷◌, ◌++◌, map, map-append, tail, Mem
 use mathlib.Core.Option
 use mathlib.Core.Option.{some}
 use lib.Dec.{T, T_not}
-use lib.ListN.{length, length_map, get_elem?}
+use lib.ListN.{length, length-map, get_elem?}
 use Rattle.script_spec.specs.Base.{Bytes, bytes, all, any, collect}
 use Rattle.script_spec.specs.Tree.{Tm, Mark, Forest, node, nil, cons, trees, children, type_of, eq_ty, eq_tm, Bool·, Enums}
 use Rattle.script_spec.specs.File.{distinct}
@@ -146,8 +146,8 @@ module _ {e : Enums} {ins : List Tm} {cs : List (List Token)} (h : Says e ins cs
   -- there are as many assertions as inputs
   pub assertions_count : length (collect assertion_read (tail cs)) ≡ length ins
   assertions_count =
-      sym (length_map (collect assertion_read (tail cs)) (λ b. flat (unfolded (definitions h.names h.roles) b)))
-      ∙ ap length assertions_of ∙ length_map ins (full e h.names)
+      sym (length-map (collect assertion_read (tail cs)) (λ b. flat (unfolded (definitions h.names h.roles) b)))
+      ∙ ap length assertions_of ∙ length-map ins (full e h.names)
 
   -- a bare symbol, such as `true`, is asserted only of an input that is spelled so
   pub bare_of : (w : Bytes) → T (not (lettered 116 w)) → (k : ℕ) → get_elem? (collect assertion_read (tail cs)) k ≡ some (word_end w) → Option.map (full e h.names) (get_elem? ins k) ≡ some w
@@ -177,5 +177,5 @@ module _ {e : Enums} {ins : List Tm} {cs : List (List Token)} (h : Says e ins cs
   -- there are no fewer names than unlike terms that need one
   pub terms_fit : (ts : List Tm) → T (distinct ts) → Every (λ t. Needed e ins (term t)) ts → length ts ≤ length (collect name_read (tail cs))
   terms_fit ts d n =
-      rw (names_of, length_map (things h.roles) (name_of h.names), ← length_map ts term)
+      rw (names_of, length-map (things h.roles) (name_of h.names), ← length-map ts term)
       (length_apart (map term ts) (things h.roles) (distinct_apart ts d) (λ th m. (h.needed th).0 (every_term (Needed e ins) ts n th m)))

@@ -6,7 +6,7 @@ use mathlib.Core.Path.{◌≡◌, refl, sym, ap, ap₂, ◌∙◌, subst}
 use mathlib.Core.List.{List, [], ◌∷◌, ◌++◌, Memᴰ}
 use lib.Dec.{T}
 use Rattle.script_spec.specs.Base.{collect}
-use Rattle.script_spec.specs.Tree.{Tree, Ty, Fun, Tm, Forest, node, cons, trees, children, Enums, uuf}
+use Rattle.script_spec.specs.Tree.{nil, Tree, Ty, Fun, Tm, Forest, node, cons, trees, children, Enums, uuf}
 use Rattle.script_spec.specs.Command.{Command, assert_that}
 use Rattle.script_spec.specs.Spelling.{Names, atom}
 use Rattle.script_spec.specs.Walk.{State, went, stopped, start, names, encode_inputs, assertions}
@@ -26,6 +26,7 @@ use Rattle.script_spec.proofs.TermLog.{walk_logs}
 pub forest_mem : {A : Type 0} (P : Tree A → Type 0) (Q : Forest A → Type 0) → ((t : Tree A) (ts : Forest A) → Q (cons t ts) → P t × Q ts)
     → (ts : Forest A) → Q ts → (t : Tree A) → Memᴰ t (trees ts) → P t
 unfolding trees
+forest_mem {A = A} P Q h nil q t x'' = elim x'' [ ]
 forest_mem P Q h (cons u ts) q t (Memᴰ.head e) = subst P (sym e) (h u ts q).0
 forest_mem P Q h (cons u ts) q t (Memᴰ.tail m) = forest_mem P Q h ts (h u ts q).1 t m
 

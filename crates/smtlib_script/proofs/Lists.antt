@@ -6,7 +6,7 @@ use native.Mathlib.Numerals.{add-one}
 use native.Mathlib.Omega.{arith}
 use mathlib.Core.Path.{◌≡◌, refl, sym, ◌∙◌}
 use mathlib.Core.List.{List, [], ◌∷◌, ◌++◌, append-nil, append_assoc, map, zip, zip_with}
-use lib.ListN.{length, drop, get_or, length_map, drop_of_length-le, get_or-map}
+use lib.ListN.{length, drop, get_or, length-map, drop_of_length-le, get_or-map}
 use lib.Seq.{drop-cons}
 use denote.Ref.{Bor}
 use Rattle.script_spec.specs.Base.{Bytes, bytes, joined, collect}
@@ -67,7 +67,7 @@ get_or_map_zip f (x ∷ xs) (y ∷ ys) (suc i) h k = get_or_map_zip f xs ys i (o
 -- two lent lists, whose pairs are arguments
 module _ (xs ys : List (Bor Bytes)) where
   length_arguments : length (arguments (zip (map (λ x. x.now) xs) (map (λ x. x.now) ys))) ≡ min (length xs) (length ys)
-  length_arguments = length_map (zip (map (λ x. x.now) xs) (map (λ x. x.now) ys)) argument ∙ length_zip (map (λ x. x.now) xs) (map (λ x. x.now) ys) ∙ (simp length_map)
+  length_arguments = length-map (zip (map (λ x. x.now) xs) (map (λ x. x.now) ys)) argument ∙ length_zip (map (λ x. x.now) xs) (map (λ x. x.now) ys) ∙ (simp length-map)
 
   pub arguments_none : min (length xs) (length ys) ≡ 0 → [] ≡ spaced (arguments (zip (map (λ x. x.now) xs) (map (λ x. x.now) ys)))
   unfolding spaced joined
@@ -84,4 +84,4 @@ module _ (xs ys : List (Bor Bytes)) where
   arguments_all i h = omega (arith, length_arguments)
 
   pub argument_at : (i : ℕ) → i < min (length xs) (length ys) → argument (get_or (map (λ x. x.now) xs) i [], get_or (map (λ x. x.now) ys) i []) ≡ get_or (arguments (zip (map (λ x. x.now) xs) (map (λ x. x.now) ys))) i []
-  argument_at i h = get_or_map_zip argument (map (λ x. x.now) xs) (map (λ x. x.now) ys) i (simp length_map (omega arith)) (simp length_map (omega arith))
+  argument_at i h = get_or_map_zip argument (map (λ x. x.now) xs) (map (λ x. x.now) ys) i (simp length-map (omega arith)) (simp length-map (omega arith))

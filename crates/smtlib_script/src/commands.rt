@@ -10,7 +10,7 @@ ghost use Rattle.smtlib_script.specs.Writes.{command_answer, Writes};
 use write_bytes::Written;
 
 // What writing a command answers: the line's length, a text that is not UTF-8, or too little room.
-#[derive(Drop)]
+#[derive(Clone, Copy)]
 pub enum WrittenCommand {
     Length(usize),
     NotUtf8,

@@ -12,7 +12,7 @@ ghost use Rattle.smtlib_script.specs.declared.line.Word.TheVariants.{DefineFun};
 use write_text::Comment;
 
 // What lines begin with: a comment, and the words of the commands that have texts.
-#[derive(Drop)]
+#[derive(Clone, Copy)]
 pub enum Word {
     Comment,
     DeclareDatatype,

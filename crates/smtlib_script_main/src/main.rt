@@ -1,4 +1,6 @@
 // Writes each command once, and then a refusal of each kind, to standard output.
+#![tactic(auto)]
+
 use smtlib_script::commands::WrittenCommand;
 
 // Writes the first n bytes.

@@ -1,4 +1,6 @@
 // The program `termscript` as a function: a term file from standard input, its script or its refusal to standard output.
+#![tactic(auto)]
+
 use libc::{STDIN_FILENO, STDOUT_FILENO};
 
 // Writes the first n bytes.

@@ -1,5 +1,7 @@
 // Encodes each term file that an argument names as `termscript` does, and compares with the file that the next argument names, whose
 // comments are cut and have their control characters replaced first: a line for each that differs, and how many were compared.
+#![tactic(auto)]
+
 ghost use Rattle.std.specs.Prelude.{◌<◌, ◌≤◌, length};
 
 use libc::STDOUT_FILENO;

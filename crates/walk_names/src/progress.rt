@@ -4,7 +4,7 @@ ghost use Rattle.write_bytes.specs.Writing.{ceiling, moved};
 
 // The place in the script and how many of its bytes count; how many types, functions and terms have a name; the number of the refused
 // term, and the number of the refusal, 0 for none, which is asked for at each step and stands last, so that the rest is copied in one go.
-#[derive(Drop)]
+#[derive(Clone, Copy)]
 pub struct Progress {
     pub at: usize,
     pub limit: usize,

@@ -5,7 +5,7 @@ use mathlib.Core.Path.{◌≡◌, refl, sym, ap, ◌∙◌, subst}
 use mathlib.Core.Bool.{false}
 use mathlib.Core.List.{List}
 use native.Mathlib.Omega.{arith}
-use borrow.Author.Tests.{eqb-true, not_false}
+use borrow.Author.Tests.{eqb-true, not-false}
 use lib.ListN.{length, length-append}
 use Rattle.script_spec.specs.Base.{Bytes, any}
 use Rattle.script_spec.specs.Tree.{eq_tm}
@@ -41,7 +41,7 @@ module _ {file : Bytes} {f : TermFile} {sizes : Sizes} {limit : ℕ} {o out : By
       let same = W.terms_are in
       let e : v ≡ length S.terms + 1 = omega arith in
       record {
-        numbers = numbers_term I.rows W.numbers n v l (eqb-true _ 0 (not_false _ (sym (table_known W.numbers.term_table n l) ∙ new))) e (omega arith);
+        numbers = numbers_term I.rows W.numbers n v l (eqb-true _ 0 (not-false _ (sym (table_known W.numbers.term_table n l) ∙ new))) e (omega arith);
         types_are = W.types_are;
         funs_are = W.funs_are;
         terms_are = e ∙ sym (length-append S.terms _);

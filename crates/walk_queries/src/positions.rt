@@ -8,14 +8,14 @@ ghost use Rattle.walk_queries.specs.Found.{FindsText, FindsListed, Finds, Halves
 use index::Sizes;
 
 // Where a text stands in a list.
-#[derive(Drop)]
+#[derive(Clone, Copy)]
 pub enum Found {
     At(u32),
     Nowhere,
 }
 
 // So many texts from a place of a body on, with so many bytes after each.
-#[derive(Drop)]
+#[derive(Clone, Copy)]
 pub struct Texts {
     pub from: usize,
     pub count: u32,

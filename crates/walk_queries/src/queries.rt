@@ -10,7 +10,7 @@ use read_field::{Cursor, ReadNumber};
 use read_operator::Op;
 
 // What a term is as a `Bvnego`: over an argument of so many bits a comparison, over any other `false`.
-#[derive(Drop)]
+#[derive(Clone, Copy)]
 pub enum Negated {
     Ordinary,
     Falsehood,
@@ -18,7 +18,7 @@ pub enum Negated {
 }
 
 // Where an attribute stands in a type, if the type is a record type.
-#[derive(Drop)]
+#[derive(Clone, Copy)]
 pub enum Attribute {
     NotRecord,
     Missing,
@@ -26,7 +26,7 @@ pub enum Attribute {
 }
 
 // Where a member stands in a type, if the type is an enum.
-#[derive(Drop)]
+#[derive(Clone, Copy)]
 pub enum Member {
     NoEnum,
     NotMember,

@@ -1,4 +1,6 @@
 // The walk over the terms of a file: each term after its type and its children, and each once.
+#![tactic(auto)]
+
 ghost use Rattle.index.specs.Standing.{body_at};
 ghost use Rattle.walk_names.specs.Progress.{Advances};
 ghost use Rattle.index_entry.specs.Children.{TakesChild};

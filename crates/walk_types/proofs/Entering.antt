@@ -6,7 +6,7 @@ use mathlib.Core.Bool.{Bool, true, false}
 use mathlib.Core.List.{List, [], ◌∷◌, ◌++◌}
 use mathlib.Core.Option.{Option, none, some}
 use native.Mathlib.Omega.{arith}
-use borrow.Author.Tests.{eqb-true, not_false}
+use borrow.Author.Tests.{eqb-true, not-false}
 use lib.ListN.{length, take, drop, length-append}
 use Rattle.script_spec.specs.Base.{Bytes, any, is_some}
 use Rattle.script_spec.specs.Tree.{datatype, eq_ty, eq_fun}
@@ -56,7 +56,7 @@ module _ {file : Bytes} {f : TermFile} {sizes : Sizes} {limit : ℕ} {o out : By
       let fit = types_fit I.rows in
       let small = I.small in
       let same = W.types_are in
-      let z : name_in work sizes.rows type_names (first_type f t) ≡ 0 = eqb-true _ 0 (not_false _ (sym (table_known N.type_table t l) ∙ new)) in
+      let z : name_in work sizes.rows type_names (first_type f t) ≡ 0 = eqb-true _ 0 (not-false _ (sym (table_known N.type_table t l) ∙ new)) in
       let e : v ≡ length S.types + 1 = omega arith in
       record {
         numbers = numbers_type I.rows N t v l z e (omega arith);
@@ -105,7 +105,7 @@ module _ {file : Bytes} {f : TermFile} {sizes : Sizes} {limit : ℕ} {o out : By
       let fit = funs_fit I.rows in
       let small = I.small in
       let same = W.funs_are in
-      let z : name_in work sizes.rows fun_names (first_fun f g) ≡ 0 = eqb-true _ 0 (not_false _ (sym (table_known N.fun_table g l) ∙ new)) in
+      let z : name_in work sizes.rows fun_names (first_fun f g) ≡ 0 = eqb-true _ 0 (not-false _ (sym (table_known N.fun_table g l) ∙ new)) in
       let e : v ≡ length S.funs + 1 = omega arith in
       record {
         numbers = numbers_fun I.rows N g v l z e (omega arith);

@@ -1,4 +1,6 @@
 // The encoder's walk over types and functions, by the numbers of their records: what was not declared before is.
+#![tactic(auto)]
+
 pub mod declare;
 pub mod parts;
 pub mod settled;

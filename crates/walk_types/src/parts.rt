@@ -7,7 +7,7 @@ use index_entry::lists;
 use index_entry::types::TypeEntry;
 
 // The parts that are left: the attributes from a place of the body on, or else a part that stands alone.
-#[derive(Drop)]
+#[derive(Clone, Copy)]
 pub struct Parts {
     pub named: bool,
     pub alone: u32,
@@ -16,7 +16,7 @@ pub struct Parts {
 }
 
 // A part, and those after it.
-#[derive(Drop)]
+#[derive(Clone, Copy)]
 pub struct Part {
     pub number: u32,
     pub rest: Parts,

@@ -6,7 +6,7 @@ use index::Sizes;
 use write_types::sorts;
 
 // What tells whether a type is settled: its mark alone, which says that it is, its part, or its name.
-#[derive(Drop)]
+#[derive(Clone, Copy)]
 enum SettledBy {
     Mark,
     Part(u32),

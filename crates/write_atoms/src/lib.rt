@@ -1,4 +1,6 @@
 // How terms are spelled where they are used: symbols, extension values, literals, members and names.
+#![tactic(auto)]
+
 pub mod atoms;
 pub mod parts;
 pub mod symbols;

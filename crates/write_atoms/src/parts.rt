@@ -9,7 +9,7 @@ use index::Sizes;
 use read_field::Span;
 
 // The name of a member or of an attribute: the number of its type, and its place among the members or attributes.
-#[derive(Drop)]
+#[derive(Clone, Copy)]
 pub struct PartName {
     pub of: u32,
     pub place: u32,

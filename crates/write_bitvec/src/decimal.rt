@@ -7,14 +7,14 @@ ghost use Rattle.write_bitvec.specs.Value.{of_halves};
 use crate::halves::Halves;
 
 // What a step of a division gives.
-#[derive(Drop)]
+#[derive(Clone, Copy)]
 struct Division {
     quotient: u64,
     remainder: u64,
 }
 
 // A number without its last digit, and that digit.
-#[derive(Drop)]
+#[derive(Clone, Copy)]
 struct Tenth {
     rest: Halves,
     last: u64,

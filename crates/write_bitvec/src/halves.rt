@@ -3,7 +3,7 @@ ghost use Rattle.std.specs.Prelude.{◌≡◌, ◌<◌, ◌%◌, ◌^◌, ltb};
 ghost use Rattle.write_bitvec.specs.Value.{of_halves};
 
 // A number by its two halves.
-#[derive(Drop)]
+#[derive(Clone, Copy)]
 pub struct Halves {
     pub high: u64,
     pub low: u64,

@@ -1,4 +1,6 @@
 // Bit vectors of 1 to 128 bits (bitvec.rs), over numbers in two halves of 64 bits.
+#![tactic(auto)]
+
 pub mod decimal;
 pub mod halves;
 pub mod reading;
@@ -11,7 +13,7 @@ ghost use Rattle.write_bitvec.specs.Vector.{said, new_vector, of_int, int_min};
 use halves::Halves;
 
 // A bit vector by its width and the halves of its value.
-#[derive(Drop)]
+#[derive(Clone, Copy)]
 pub struct BitVec {
     pub width: u32,
     pub high: u64,
@@ -19,7 +21,7 @@ pub struct BitVec {
 }
 
 // What a constructor answers; a width or a value outside its range is refused.
-#[derive(Drop)]
+#[derive(Clone, Copy)]
 pub enum Made {
     Vector(BitVec),
     Refused,

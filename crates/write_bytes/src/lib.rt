@@ -1,9 +1,11 @@
 // Bytes written one after another into a lent buffer, cut at a limit; and buffers cleared and finished.
+#![tactic(auto)]
+
 ghost use Rattle.std.specs.Prelude.{◌≡◌, [], ◌∷◌, ◌<◌, ◌≤◌, ◌+◌, ◌-◌, min, ltb, length, replicate};
 ghost use Rattle.write_bytes.specs.Writing.{laid, longest, ceiling, Appends, moved, cleared, answer, Finishes};
 
 // What writing into a buffer answers: the length, or too little room.
-#[derive(Drop)]
+#[derive(Clone, Copy)]
 pub enum Written {
     Length(usize),
     NoRoom,

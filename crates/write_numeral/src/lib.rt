@@ -1,4 +1,6 @@
 // Numbers written in decimal and hexadecimal, without leading zeros.
+#![tactic(auto)]
+
 ghost use Rattle.std.specs.Prelude.{◌≡◌, [], ◌∷◌, ◌/◌, ◌%◌};
 ghost use Rattle.script_spec.specs.Text.{digit, digits, decimal, hex};
 ghost use Rattle.write_bytes.specs.Writing.{Appends};

@@ -1,4 +1,6 @@
 // The patterns of `StringLike`, read from their bytes in the file: elements of four bytes, low byte first.
+#![tactic(auto)]
+
 ghost use Rattle.std.specs.Prelude.{◌≡◌, ◌++◌, drop};
 ghost use Rattle.script_spec.specs.Base.{collect};
 ghost use Rattle.script_spec.specs.Spelling.{pattern_element, pattern};

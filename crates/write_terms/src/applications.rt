@@ -16,21 +16,21 @@ use walk_queries::queries::Attribute;
 use write_atoms::parts::PartName;
 
 // The attribute that is asked of the first argument: its name is a part of the body.
-#[derive(Drop)]
+#[derive(Clone, Copy)]
 struct Get {
     arguments: Children,
     name: Span,
 }
 
 // The match of an argument with a pattern of the body.
-#[derive(Drop)]
+#[derive(Clone, Copy)]
 struct Like {
     arguments: Children,
     pattern: Pattern,
 }
 
 // The comparison of an argument with the least signed number of a width.
-#[derive(Drop)]
+#[derive(Clone, Copy)]
 pub struct Comparison {
     pub arguments: Children,
     pub width: u32,

@@ -7,7 +7,7 @@ use Prim.Native.Nat.{ℕ, suc, ◌+◌, ◌-◌, ◌≤◌, ◌<◌}
 use native.Mathlib.Numerals.{add-one}
 use native.Mathlib.Omega.{arith}
 use lib.Dec.{T, eqb}
-use borrow.Author.Tests.{eqb-false, not_false}
+use borrow.Author.Tests.{eqb-false, not-false}
 use lib.ListN.{length, take, drop, get_or, length-drop, take-append-drop, drop_of_length-le}
 use lib.Seq.{take-suc, get_or-drop, drop-drop, drop-cons}
 use Rattle.script_spec.specs.Base.{Bytes, between, all, collect}
@@ -55,7 +55,7 @@ unfolding stops
 plain_parts b h =
     let p = or_false (eqb b 34) (eqb b 92 || not (between 32 126 b)) h in
     let q = or_false (eqb b 92) (not (between 32 126 b)) p.1 in
-    (eqb-false b 34 p.0, eqb-false b 92 q.0, not_false (between 32 126 b) q.1)
+    (eqb-false b 34 p.0, eqb-false b 92 q.0, not-false (between 32 126 b) q.1)
 
 spelling_plain : (debug : Bool) (b : ℕ) → stops false b ≡ false → ◌≡◌ {A = Bytes} (b ∷ []) (spelling debug b)
 unfolding spelling

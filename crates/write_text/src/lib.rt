@@ -1,4 +1,6 @@
 // Texts written as string literals, as ids in comments, and as comments.
+#![tactic(auto)]
+
 ghost use Rattle.std.specs.Prelude.{◌≡◌, true, false, ◌≤◌, length, take};
 ghost use Rattle.script_spec.specs.Base.{between, collect};
 ghost use Rattle.script_spec.specs.Text.{brace, escape, debug_char, literal};
@@ -224,14 +226,14 @@ fn begun(b: u8) -> usize
 }
 
 // A comment's text as far as it is written: the place after it, and how many code points it has; one more than the most where it is cut.
-#[derive(Drop)]
+#[derive(Clone, Copy)]
 pub struct Comment {
     pub at: usize,
     pub points: usize,
 }
 
 // Where a text ends in a comment, and how many code points the comment then has.
-#[derive(Drop)]
+#[derive(Clone, Copy)]
 struct Cut {
     end: usize,
     points: usize,

@@ -1,4 +1,6 @@
 // How types and functions are spelled and declared, by the numbers of their records.
+#![tactic(auto)]
+
 pub mod comments;
 pub mod datatype_comments;
 pub mod datatypes;

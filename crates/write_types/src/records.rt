@@ -14,7 +14,7 @@ use smtlib_script::line::Word;
 use write_text::Comment;
 
 // A record type as it is declared: what stands for its name, and how many attributes it has.
-#[derive(Drop)]
+#[derive(Clone, Copy)]
 pub struct RecordType {
     pub name: u32,
     pub attributes: u32,

@@ -12,7 +12,7 @@ use index::Sizes;
 use index_entry::types::{ExtType, TypeEntry};
 
 // What a type stands over: the part of a set, or else of an option, by its number; the type of truth values is told apart.
-#[derive(Drop)]
+#[derive(Clone, Copy)]
 pub enum Over {
     Part(bool, u32),
     Truth,

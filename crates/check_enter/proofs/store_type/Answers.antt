@@ -1,0 +1,8 @@
+-- The search, and the row.
+-- Assumes nothing.
+use Rattle.check_enter.proofs.Types.{type_row_stored}
+use borrow.Author.Rules.{rules}
+use Rattle.check_enter.proofs.store_type.Goals as goal
+
+pub returns : goal.returns
+returns c = type_row_stored _ _ _ _ _ _ c.enrol-first.ensures c.set.ensures c.set-2.ensures c.set-3.ensures c.set-4.ensures c.set-5.ensures

@@ -1,0 +1,15 @@
+-- The first equal numbers of the two references.
+-- Assumes nothing.
+use lib.Dec.{eqb→eq}
+use Rattle.check_rules.proofs.Noting.{none_earlier, maybe_earlier}
+use borrow.Author.Rules.{rules}
+use Rattle.check_rules.proofs.repeats.same_earlier.Goals as goal
+
+pub returns-then-v-eq0 : goal.returns-then-v-eq0
+returns-then-v-eq0 c = none_earlier
+
+pub returns-then-n-v : goal.returns-then-n-v
+returns-then-n-v c = none_earlier
+
+pub returns : goal.returns
+returns c = maybe_earlier c.if-v-eq0.false c.if-n-v.false c.first_at-a.ensures c.first_at-b.ensures (λ t. eqb→eq _ _ (rw t tt))

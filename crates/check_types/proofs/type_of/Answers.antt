@@ -1,0 +1,14 @@
+-- `check_types::type_of` meets its contract: the type that the term refers to, or the search.
+-- Assumes nothing.
+use native.Mathlib.Omega.{arith}
+use Rattle.check_types.specs.Sought.{part_at}
+use Rattle.check_types.proofs.Search.{reference_sought, listed_sought}
+use borrow.Author.Rules.{rules}
+use Rattle.check_types.proofs.type_of.Goals as goal
+
+pub returns-in-XV : goal.returns-in-XV
+unfolding part_at
+returns-in-XV c = λ M. reference_sought _ _ _ _ M (λ i. omega (arith, c.type_inv.file i)) c.in-XV.keys1 c.first_reference-first.ensures
+
+pub returns-in_default : goal.returns-in_default
+returns-in_default c = λ M. listed_sought _ _ _ _ M c.in_default.keys2 (c.find.ensures M)

@@ -1,0 +1,18 @@
+-- `index::set` meets its contract: a store past the end changes nothing.
+-- Assumes nothing.
+use native.Mathlib.Omega.{arith}
+use borrow.Author.Rules.{rules}
+use Rattle.index.specs.Cells.{store}
+use Rattle.index.proofs.Cells.{placed_as, store_nowhere}
+use Rattle.index.proofs.set.Goals as goal
+
+-- TODO need overflow-mul-work is not asked: omega (arith, (c.before.before.before.before.before.well-formed).0.1, (placed_as c.before.before.before.cell-place.ensures c.before.at.given.1).0)
+pub bounds-work-at : goal.bounds-work-at
+bounds-work-at c = (placed_as c.cell_place.ensures c.in-At.is).0
+
+pub returns-in-At : goal.returns-in-At
+unfolding store
+returns-in-At c = rw (placed_as c.cell_place.ensures c.in-At.is).1
+
+pub returns-in-Nowhere : goal.returns-in-Nowhere
+returns-in-Nowhere c = store_nowhere _ _ _ _ _ (placed_as c.cell_place.ensures c.in-Nowhere.is)

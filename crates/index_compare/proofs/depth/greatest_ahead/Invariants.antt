@@ -1,0 +1,21 @@
+-- `index_compare::depth::greatest_ahead` meets its contract: the greatest so far and what is ahead make the result.
+-- The measure is the number of segments ahead.
+-- Assumes nothing.
+use native.Mathlib.Omega.{arith}
+use borrow.Author.Rules.{rules}
+use Rattle.index_compare.proofs.Depths.{greatest_end, greatest_next}
+use Rattle.index_compare.specs.declared.compare.View.TheVariants.{Depth}
+use Rattle.index_compare.specs.View.{viewed, reference_numbers}
+use Rattle.index_compare.specs.Machine.{ahead}
+use Rattle.index.specs.Rules.{greatest}
+use lib.ListN.{length}
+use mathlib.Core.List.{map}
+use mathlib.Core.Path.{◌≡◌, ◌∙◌}
+use Prim.Native.Nat.{max}
+use Rattle.index_compare.proofs.depth.greatest_ahead.Given as goal
+
+abbrev pub invariant-loop-s : goal.invariant-loop-s
+invariant-loop-s l = max l.most (greatest (reference_numbers l.kind (map (viewed l.work l.rows Depth) (ahead l.body l.x)))) ≡ greatest (reference_numbers l.kind (map (viewed l.work l.rows Depth) (ahead l.body l.initial.x)))
+
+abbrev pub decreases-loop-s : goal.decreases-loop-s
+decreases-loop-s l = length (ahead l.body l.x)

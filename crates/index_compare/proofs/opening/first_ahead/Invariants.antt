@@ -1,0 +1,19 @@
+-- `index_compare::opening::first_ahead` meets its contract: what is ahead has the same first number.
+-- The measure is the number of segments ahead.
+-- Assumes nothing.
+use native.Mathlib.Omega.{arith}
+use borrow.Author.Rules.{rules}
+use Rattle.index_compare.proofs.Depths.{first_end, first_here, first_next}
+use Rattle.index_compare.specs.declared.compare.View.TheVariants.{Listed}
+use Rattle.index_compare.specs.View.{viewed, reference_numbers}
+use Rattle.index_compare.specs.Machine.{ahead}
+use lib.ListN.{length, get_or}
+use mathlib.Core.List.{map}
+use mathlib.Core.Path.{◌≡◌, refl, ◌∙◌}
+use Rattle.index_compare.proofs.opening.first_ahead.Given as goal
+
+abbrev pub invariant-loop-s : goal.invariant-loop-s
+invariant-loop-s l = get_or (reference_numbers 2 (map (viewed l.work l.rows Listed) (ahead l.body l.x))) 0 0 ≡ get_or (reference_numbers 2 (map (viewed l.work l.rows Listed) (ahead l.body l.initial.x))) 0 0
+
+abbrev pub decreases-loop-s : goal.decreases-loop-s
+decreases-loop-s l = length (ahead l.body l.x)

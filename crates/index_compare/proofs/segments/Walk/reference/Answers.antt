@@ -1,0 +1,33 @@
+-- `index_compare::segments::Walk::reference` meets its contract: the four bytes are the number.
+-- Assumes nothing.
+use native.Mathlib.Omega.{arith}
+use borrow.Author.Rules.{rules}
+use lib.ListN.{drop}
+use Rattle.index_compare.specs.Segment.{type_ref, fun_ref, term_ref}
+use Rattle.index_compare.specs.Machine.{remaining, ahead}
+use Rattle.index_compare.proofs.Steps.{word_value, word_short, word_fits, reference_short, reference_at}
+use Rattle.index_compare.proofs.segments.Walk.reference.Goals as goal
+
+-- TODO need overflow-add-self is not asked: let s = c.before.before.before.before.before in
+--     let read_word = c.before.before.before.read_word in
+--     omega (arith, word_fits s.args.self.at s.args.body.now (word_value (drop s.args.self.at s.ar
+pub returns-in_default : goal.returns-in_default
+returns-in_default c = reference_short _ _ _ (word_short (drop c.args.self.at c.args.body.now) c.read_word.result c.read_word.ensures c.in_default.is)
+
+pub returns-in-TypeKind : goal.returns-in-TypeKind
+unfolding ahead remaining
+returns-in-TypeKind c =
+    let read_word = c.read_word in
+    rw c.in-TypeKind.is (reference_at c.args.self.at c.args.body.now type_ref (remaining c.args.self) (word_value (drop c.args.self.at c.args.body.now) read_word.result read_word.ensures c.in-Value.is))
+
+pub returns-in-FunKind : goal.returns-in-FunKind
+unfolding ahead remaining
+returns-in-FunKind c =
+    let read_word = c.read_word in
+    rw c.in-FunKind.is (reference_at c.args.self.at c.args.body.now fun_ref (remaining c.args.self) (word_value (drop c.args.self.at c.args.body.now) read_word.result read_word.ensures c.in-Value.is))
+
+pub returns-in-TermKind : goal.returns-in-TermKind
+unfolding ahead remaining
+returns-in-TermKind c =
+    let read_word = c.read_word in
+    rw c.in-TermKind.is (reference_at c.args.self.at c.args.body.now term_ref (remaining c.args.self) (word_value (drop c.args.self.at c.args.body.now) read_word.result read_word.ensures c.in-Value.is))

@@ -1,0 +1,8 @@
+-- `index_entry::leaves::variable` meets its contract.
+-- Assumes nothing.
+use Rattle.index_entry.proofs.LeafEntries.{term_var}
+use borrow.Author.Rules.{rules}
+use Rattle.index_entry.proofs.leaves.variable.Goals as goal
+
+pub returns : goal.returns
+returns c = term_var c.number_at.ensures (c.wide-len.ensures).0 c.past_text.ensures c.number_at-t.ensures

@@ -1,0 +1,8 @@
+-- `index_entry::lists::text_at` meets its contract.
+-- Assumes nothing.
+use Rattle.index_entry.proofs.Places.{text_is}
+use borrow.Author.Rules.{rules}
+use Rattle.index_entry.proofs.lists.text_at.Goals as goal
+
+pub returns : goal.returns
+returns c = text_is _ _ _ c.wide-n.result c.past-start.result c.number_at.ensures (c.wide-n.ensures).0 c.past-start.ensures c.part_of.ensures

@@ -1,0 +1,7 @@
+-- `index_entry::numbered::fun_at` meets its contract.
+-- Assumes nothing.
+use borrow.Author.Rules.{rules}
+use Rattle.index_entry.proofs.numbered.fun_at.Goals as goal
+
+pub returns : goal.returns
+returns c = rw (← (c.wide.ensures).0, ← c.get-offset.ensures) c.fun_at.ensures

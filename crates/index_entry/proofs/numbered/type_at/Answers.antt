@@ -1,0 +1,7 @@
+-- `index_entry::numbered::type_at` meets its contract.
+-- Assumes nothing.
+use borrow.Author.Rules.{rules}
+use Rattle.index_entry.proofs.numbered.type_at.Goals as goal
+
+pub returns : goal.returns
+returns c = rw (← (c.wide.ensures).0, ← c.get-offset.ensures) c.type_at.ensures

@@ -1,0 +1,8 @@
+-- `index_entry::numbered_terms::body_at` meets its contract.
+-- Assumes nothing.
+use mathlib.Core.Path.{◌∙◌}
+use borrow.Author.Rules.{rules}
+use Rattle.index_entry.proofs.numbered_terms.body_at.Goals as goal
+
+pub returns : goal.returns
+returns c = c.body_at.ensures ∙ (rw (c.get-offset.ensures, (c.wide.ensures).0))

@@ -1,0 +1,7 @@
+-- `index_entry::numbered_terms::term_at` meets its contract.
+-- Assumes nothing.
+use borrow.Author.Rules.{rules}
+use Rattle.index_entry.proofs.numbered_terms.term_at.Goals as goal
+
+pub returns : goal.returns
+returns c = rw (← (c.wide.ensures).0, ← c.get-offset.ensures) c.term_at.ensures

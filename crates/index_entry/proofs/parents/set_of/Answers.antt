@@ -1,0 +1,8 @@
+-- `index_entry::parents::set_of` meets its contract.
+-- Assumes nothing.
+use Rattle.index_entry.proofs.ParentEntries.{term_set}
+use borrow.Author.Rules.{rules}
+use Rattle.index_entry.proofs.parents.set_of.Goals as goal
+
+pub returns : goal.returns
+returns c = term_set c.number_at-t.ensures c.set_children.ensures

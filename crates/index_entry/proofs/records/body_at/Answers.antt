@@ -1,0 +1,7 @@
+-- `index_entry::records::body_at` meets its contract.
+-- Assumes nothing.
+use borrow.Author.Rules.{rules}
+use Rattle.index_entry.proofs.records.body_at.Goals as goal
+
+pub returns : goal.returns
+returns c = rw (← (c.wide.ensures).0) c.body_at.ensures

@@ -1,0 +1,11 @@
+-- `index_entry::symbols::enum_of` meets its contract.
+-- Assumes nothing.
+use Rattle.index_entry.proofs.SymbolEntries.{enum_is, no_enums}
+use borrow.Author.Rules.{rules}
+use Rattle.index_entry.proofs.symbols.enum_of.Goals as goal
+
+pub returns-in-EN : goal.returns-in-EN
+returns-in-EN c = enum_is c.in-EN.is c.past_text-end.ensures c.number_at-members.ensures c.past-from.ensures
+
+pub returns-in_default : goal.returns-in_default
+returns-in_default c = no_enums _ c.in_default.keys2

@@ -1,0 +1,28 @@
+-- The hash so far with the bytes that are left comes to the hash with all bytes.
+-- Assumes nothing.
+use mathlib.Core.Path.{◌≡◌, refl, ◌∙◌}
+use Prim.Native.Nat.{◌-◌, ◌≤◌}
+use native.Mathlib.Omega.{arith}
+use lib.ListN.{length, drop}
+use Rattle.index.specs.Names.{mixed_bytes}
+use Rattle.index_search.proofs.Mixed.{bytes_four}
+use borrow.Author.Rules.{rules}
+use Rattle.index_search.proofs.hash.mix_bytes.Goals as goal
+
+-- TODO need overflow-add-loop is not asked: omega (arith, c.loop.invariant.1)
+pub loop-i-init : goal.loop-i-init
+loop-i-init c = (refl, omega arith)
+
+pub number_at-requires : goal.number_at-requires
+number_at-requires c = c.loop-i-test.true
+
+pub loop-i-preserved : goal.loop-i-preserved
+loop-i-preserved c =
+    let loop = c.loop-i in
+    (bytes_four _ _ loop.i c.loop-i-test.true c.number_at.ensures c.mix-x.ensures ∙ loop.invariant.0, c.loop-i-test.true)
+
+pub mix_last-requires : goal.mix_last-requires
+mix_last-requires c = omega (arith, c.loop-i-test.false)
+
+pub returns : goal.returns
+returns c = c.mix_last.ensures ∙ c.loop-i.invariant.0

@@ -1,0 +1,16 @@
+-- The hash so far with the bytes that are left comes to the hash with all bytes.
+-- Assumes nothing.
+use mathlib.Core.Path.{◌≡◌, refl, ◌∙◌}
+use Prim.Native.Nat.{◌-◌, ◌≤◌}
+use native.Mathlib.Omega.{arith}
+use lib.ListN.{length, drop}
+use Rattle.index.specs.Names.{mixed_bytes}
+use Rattle.index_search.proofs.Mixed.{bytes_four}
+use borrow.Author.Rules.{rules}
+use Rattle.index_search.proofs.hash.mix_bytes.Given as goal
+
+abbrev pub invariant-loop-i : goal.invariant-loop-i
+invariant-loop-i l = (mixed_bytes l.x (drop l.i l.s) ≡ mixed_bytes l.h l.s) × (l.i ≤ length l.s)
+
+abbrev pub decreases-loop-i : goal.decreases-loop-i
+decreases-loop-i l = length l.s - l.i

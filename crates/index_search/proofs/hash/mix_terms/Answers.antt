@@ -1,0 +1,29 @@
+-- The hash so far with the references that are left comes to the hash with all of them. The measure is how many are left.
+-- Assumes nothing.
+use mathlib.Core.Path.{◌≡◌, refl, ◌∙◌}
+use mathlib.Core.List.{map}
+use lib.ListN.{drop}
+use Rattle.index_search.specs.Hash.{mixed_segments}
+use Rattle.index_compare.specs.Machine.{items}
+use Rattle.index_compare.specs.declared.segments.Item.TheVariants.{Term}
+use Rattle.index_compare.proofs.Steps.{word_short, word_value, word_fits}
+use Rattle.index_compare.specs.View.{viewed}
+use Rattle.index_compare.specs.declared.compare.View.TheVariants.{First}
+use Rattle.index_compare.proofs.Shapes.{terms_none, terms_short, terms_next}
+use Rattle.index_search.proofs.Shapes.{mixed_none, mixed_turn}
+use native.Mathlib.Omega.{arith}
+use borrow.Author.Rules.{rules}
+use Rattle.index_search.proofs.hash.mix_terms.Goals as goal
+
+-- TODO need overflow-add-at is not asked: let s = c.before.before.before.before.before.before.before.before.before.before in omega (arith, word_fits c.before.before.before.before.before.before.before.loop.at s.args.body.now (word_value (drop
+pub loop-left-init : goal.loop-left-init
+loop-left-init c = refl
+
+pub returns-in_default : goal.returns-in_default
+returns-in_default c = mixed_none c.args.work.now c.args.rows c.loop-left.x (terms_short c.args.body.now c.loop-left.at c.loop-left.false (word_short (drop c.loop-left.at c.args.body.now) c.read_word.result c.read_word.ensures c.in_default.is)) ∙ c.loop-left.invariant
+
+pub loop-left-preserved : goal.loop-left-preserved
+loop-left-preserved c = mixed_turn c.args.work.now c.args.rows c.loop-left.x c.mix_reference-x.ensures c.get.ensures (terms_next c.args.body.now c.loop-left.at c.loop-left.false (omega (arith, c.loop-left-test.true)) (word_value (drop c.loop-left.at c.args.body.now) c.read_word.result c.read_word.ensures c.in-Value.is)) ∙ c.loop-left.invariant
+
+pub returns : goal.returns
+returns c = mixed_none c.args.work.now c.args.rows c.loop-left.x (terms_none (drop c.loop-left.at c.args.body.now) c.loop-left.false (omega arith)) ∙ c.loop-left.invariant

@@ -1,0 +1,10 @@
+-- The number that a slot holds.
+-- Assumes nothing.
+use Rattle.index.specs.Names.{code_of}
+use native.Mathlib.Omega.{arith}
+use borrow.Author.Rules.{rules}
+use Rattle.index_search.proofs.slots.code_of.Goals as goal
+
+pub returns : goal.returns
+unfolding code_of
+returns c = omega arith

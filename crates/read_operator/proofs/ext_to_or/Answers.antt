@@ -1,0 +1,31 @@
+-- Each code by its arm; the last arm has the code that is left.
+-- Assumes nothing.
+use mathlib.Core.Path.{refl}
+use borrow.Author.Rules.{rules}
+use Rattle.script_spec.specs.Base.{at}
+use Rattle.script_spec.specs.Fields.{operators, plain}
+use Rattle.read_field.proofs.Coded.{reads_chosen}
+use Rattle.read_field.proofs.Laws.{reads_pure}
+use Rattle.read_operator.specs.Operators.{op_told, op_of, ext_operator, record_get_operand, string_like, uninterpreted, zero_extend}
+use Rattle.read_operator.proofs.Laws.{past_last}
+use Rattle.read_operator.proofs.ext_to_or.Goals as goal
+
+pub returns-in-21 : goal.returns-in-21
+unfolding op_told op_of operators at plain ext_operator record_get_operand string_like uninterpreted zero_extend
+returns-in-21 c = reads_chosen _ 21 c.in-21.is refl c.ext.ensures
+
+pub returns-in-22 : goal.returns-in-22
+unfolding op_told op_of operators at plain ext_operator record_get_operand string_like uninterpreted zero_extend
+returns-in-22 c = reads_chosen _ 22 c.in-22.is refl (reads_pure _)
+
+pub returns-in-23 : goal.returns-in-23
+unfolding op_told op_of operators at plain ext_operator record_get_operand string_like uninterpreted zero_extend
+returns-in-23 c = reads_chosen _ 23 c.in-23.is refl (reads_pure _)
+
+pub returns-in-24 : goal.returns-in-24
+unfolding op_told op_of operators at plain ext_operator record_get_operand string_like uninterpreted zero_extend
+returns-in-24 c = reads_chosen _ 24 c.in-24.is refl (reads_pure _)
+
+pub returns-in_default : goal.returns-in_default
+unfolding op_told op_of operators at plain ext_operator record_get_operand string_like uninterpreted zero_extend
+returns-in_default c = reads_chosen _ 25 (past_last 21 4 _ (c.requires).0 (c.requires).1 c.in_default.rest) refl (reads_pure _)

@@ -1,0 +1,8 @@
+-- `sakyelbo::commands::sakyelbo_declare_datatype` writes what `smtlib_script::declare_datatype` does, and says its answer by numbers.
+-- Assumes nothing.
+use borrow.Author.Rules.{rules}
+use Rattle.sakyelbo.proofs.Laws.{writes_command}
+use Rattle.sakyelbo.proofs.commands.sakyelbo_declare_datatype.Goals as goal
+
+pub returns : goal.returns
+returns c = writes_command c.declare_datatype.ensures c.of_command.ensures

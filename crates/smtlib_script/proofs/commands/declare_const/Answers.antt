@@ -1,0 +1,14 @@
+-- `smtlib_script::commands::declare_const` meets its contract: the texts are tested, the line is written, and the buffer finished.
+-- Assumes nothing.
+use borrow.Author.Rules.{rules}
+use Rattle.script_spec.specs.Command.{given}
+use Rattle.smtlib_script.proofs.Laws.{refuses, writes, tested_two}
+use Rattle.smtlib_script.proofs.commands.declare_const.Goals as goal
+
+pub returns-then-not-is_utf8 : goal.returns-then-not-is_utf8
+unfolding given
+returns-then-not-is_utf8 c = refuses (tested_two _ _ c.is_utf8.ensures c.is_utf8-2.ensures) c.if-not-is_utf8.true c.refuse_text.ensures
+
+pub returns : goal.returns
+unfolding given
+returns c = writes (tested_two _ _ c.is_utf8.ensures c.is_utf8-2.ensures) c.if-not-is_utf8.false c.declare_const-length.ensures c.finish.ensures

@@ -1,0 +1,14 @@
+-- `smtlib_script::commands::declare_datatype` meets its contract: the texts are tested, the line is written, and the buffer finished.
+-- Assumes nothing.
+use borrow.Author.Rules.{rules}
+use Rattle.script_spec.specs.Command.{given}
+use Rattle.smtlib_script.proofs.Laws.{refuses, writes, tested_list}
+use Rattle.smtlib_script.proofs.commands.declare_datatype.Goals as goal
+
+pub returns-then-not-is_utf8-are_utf8 : goal.returns-then-not-is_utf8-are_utf8
+unfolding given
+returns-then-not-is_utf8-are_utf8 c = refuses (tested_list _ _ _ c.is_utf8.ensures c.are_utf8.ensures c.are_utf8-2.ensures) c.if-not-is_utf8-are_utf8.true c.refuse_text.ensures
+
+pub returns : goal.returns
+unfolding given
+returns c = writes (tested_list _ _ _ c.is_utf8.ensures c.are_utf8.ensures c.are_utf8-2.ensures) c.if-not-is_utf8-are_utf8.false c.declare_datatype-length.ensures c.finish.ensures

@@ -1,0 +1,13 @@
+-- `smtlib_script::commands::get_model` meets its contract: the line is written, and the buffer finished.
+-- Assumes nothing.
+use mathlib.Core.Path.{refl}
+use mathlib.Core.Bool.{true}
+use borrow.Author.Rules.{rules}
+use Rattle.script_spec.specs.Base.{all}
+use Rattle.script_spec.specs.Command.{given}
+use Rattle.smtlib_script.proofs.Laws.{writes}
+use Rattle.smtlib_script.proofs.commands.get_model.Goals as goal
+
+pub returns : goal.returns
+unfolding given all
+returns c = writes {b = true} refl refl c.get_model-length.ensures c.finish.ensures

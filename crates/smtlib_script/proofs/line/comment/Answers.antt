@@ -1,0 +1,15 @@
+-- `smtlib_script::line::comment` meets its contract: its pieces one after another are the line, which is not empty where there is no room.
+-- Assumes nothing.
+use mathlib.Core.Path.{refl}
+use borrow.Author.Rules.{rules}
+use Rattle.script_spec.specs.Base.{bytes}
+use Rattle.write_bytes.proofs.Laws.{line_past, line_some}
+use Rattle.smtlib_script.specs.Opened.{opened}
+use Rattle.smtlib_script.proofs.Lines.{comment_written}
+use Rattle.smtlib_script.proofs.line.comment.Goals as goal
+
+-- TODO NOTE 7 arguments, 6 goals
+-- TODO argument 0 is for no known goal: rw c.if1.true (line_past (line_some _))
+pub returns : goal.returns
+unfolding opened bytes
+returns c = comment_written refl c.put_word-a.ensures c.put_comment_text-text.ensures c.put_at.ensures

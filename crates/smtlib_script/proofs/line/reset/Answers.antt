@@ -1,0 +1,13 @@
+-- `smtlib_script::line::reset` meets its contract: its one piece is the line, which is not empty where there is no room.
+-- Assumes nothing.
+use borrow.Author.Rules.{rules}
+use Rattle.script_spec.specs.Base.{bytes}
+use Rattle.script_spec.specs.Command.{line, spelled}
+use Rattle.write_bytes.proofs.Laws.{from_start, line_past, line_some}
+use Rattle.smtlib_script.proofs.line.reset.Goals as goal
+
+-- TODO NOTE 5 arguments, 4 goals
+-- TODO argument 0 is for no known goal: rw c.if1.true (line_past (line_some _))
+pub returns : goal.returns
+unfolding line spelled bytes
+returns c = from_start c.put_at.ensures

@@ -1,0 +1,14 @@
+-- `smtlib_script::line::set_logic` meets its contract: its pieces one after another are the line, which is not empty where there is no room.
+-- Assumes nothing.
+use borrow.Author.Rules.{rules}
+use Rattle.script_spec.specs.Base.{bytes}
+use Rattle.write_bytes.proofs.Laws.{◌then◌, says, from_start, line_past, line_some}
+use Rattle.smtlib_script.specs.Opened.{opened}
+use Rattle.smtlib_script.proofs.Lines.{line_set_logic}
+use Rattle.smtlib_script.proofs.line.set_logic.Goals as goal
+
+-- TODO NOTE 7 arguments, 6 goals
+-- TODO argument 0 is for no known goal: rw c.if1.true (line_past (line_some _))
+pub returns : goal.returns
+unfolding opened bytes
+returns c = from_start (says (line_set_logic _) (c.put_word-a.ensures then (c.put_at-b.ensures then c.put_at.ensures)))

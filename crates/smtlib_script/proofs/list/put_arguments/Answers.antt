@@ -1,0 +1,12 @@
+-- `smtlib_script::list::put_arguments` meets its contract: the joined arguments between parentheses.
+-- Assumes nothing.
+use borrow.Author.Rules.{rules}
+use Rattle.script_spec.specs.Base.{bytes}
+use Rattle.script_spec.specs.Command.{listed}
+use Rattle.write_bytes.proofs.Laws.{◌then◌}
+use Rattle.smtlib_script.proofs.list.put_arguments.Goals as goal
+
+-- TODO NOTE 7 arguments, 5 goals
+pub returns : goal.returns
+unfolding listed bytes
+returns c = c.put_at-a.ensures then (c.put_spaced_arguments-b.ensures then c.put_at.ensures)

@@ -1,0 +1,23 @@
+-- `smtlib_script::list::put_spaced_arguments` meets its contract: before a turn, the arguments up to `i` are written; the measure is the number of arguments left.
+-- Assumes nothing.
+use Prim.Native.Nat.{◌-◌, ◌<◌, min}
+use native.Mathlib.Omega.{arith}
+use mathlib.Core.Path.{◌≡◌, refl, ◌∙◌}
+use mathlib.Core.List.{map, zip}
+use lib.ListN.{length, drop}
+use borrow.Author.Rules.{rules}
+use Rattle.script_spec.specs.Base.{bytes}
+use Rattle.script_spec.specs.Command.{spaced}
+use Rattle.write_bytes.proofs.Laws.{◌then◌, says, nothing}
+use Rattle.write_bytes.proofs.Loop.{Along, along_start, along_step, along_end, along_past}
+use Rattle.smtlib_script.specs.Arguments.{arguments}
+use Rattle.smtlib_script.proofs.Lists.{separated, separated_more, separated_none, joined_first, arguments_none, arguments_more, arguments_all, argument_at}
+use Rattle.smtlib_script.proofs.list.put_spaced_arguments.Given as goal
+
+abbrev pub invariant-loop-i : goal.invariant-loop-i
+invariant-loop-i l =
+    Along l.limit l.initial.out l.initial.place l.place l.i (separated (bytes " ") (drop i (arguments (zip (map (λ x. x.now) l.names) (map (λ x. x.now) l.sorts))))) (separated (bytes " ") (drop 1 (arguments (zip (map (λ x. x.now) l.names) (map (λ x. x.now) l.sorts)))))
+    × (length l.place ≡ length l.initial.out) × (l.n ≡ min (length l.names) (length l.sorts)) × (l.out ≡ bytes " ")
+
+abbrev pub decreases-loop-i : goal.decreases-loop-i
+decreases-loop-i l = l.n - i

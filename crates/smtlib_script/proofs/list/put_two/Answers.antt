@@ -1,0 +1,12 @@
+-- `smtlib_script::list::put_two` meets its contract: the two texts with a space between them.
+-- Assumes nothing.
+use borrow.Author.Rules.{rules}
+use Rattle.script_spec.specs.Base.{joined, bytes}
+use Rattle.script_spec.specs.Command.{spaced}
+use Rattle.write_bytes.proofs.Laws.{◌then◌}
+use Rattle.smtlib_script.proofs.list.put_two.Goals as goal
+
+-- TODO NOTE 6 arguments, 5 goals
+pub returns : goal.returns
+unfolding spaced joined bytes
+returns c = c.put_at-a.ensures then (c.put_at-b.ensures then c.put_at.ensures)

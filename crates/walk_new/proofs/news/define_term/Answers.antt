@@ -1,0 +1,13 @@
+-- `walk_new::news::define_term` meets its contract: after a refusal, and else a name and a line in the rest.
+-- Assumes nothing.
+use borrow.Author.Rules.{rules}
+use Rattle.walk_names.proofs.Running.{advances_refused}
+use Rattle.walk_new.proofs.Defining.{defines}
+use Rattle.walk_new.proofs.news.define_term.Goals as goal
+
+-- TODO Rest-from at After-past_line
+pub returns-then-p-ne0 : goal.returns-then-p-ne0
+returns-then-p-ne0 c = advances_refused c.if-p-ne0.true
+
+pub returns : goal.returns
+returns c = defines c.if-p-ne0.false c.enter-q.ensures c.Rest-from.ensures c.room-room.ensures c.put_definition-length.ensures c.past_line.ensures

@@ -1,0 +1,15 @@
+-- `walk_queries::lists::list_enums` meets its contract.
+-- Assumes nothing.
+use Prim.Native.Nat.{◌-◌}
+use Rattle.walk_queries.proofs.LoopLaws.{EnumsSoFar, enums_start, enums_more, enums_end}
+use borrow.Author.Rules.{rules}
+use Rattle.walk_queries.proofs.lists.list_enums.Goals as goal
+
+pub loop-e-init : goal.loop-e-init
+loop-e-init c = enums_start _ _
+
+pub loop-e-preserved : goal.loop-e-preserved
+loop-e-preserved c = enums_more c.loop-e.invariant c.loop-e-test.true c.list_enum-next.ensures (c.list_enum-next.auto).1.0
+
+pub returns : goal.returns
+returns c = enums_end c.loop-e.invariant c.loop-e-test.false

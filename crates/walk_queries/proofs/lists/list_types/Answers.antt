@@ -1,0 +1,15 @@
+-- `walk_queries::lists::list_types` meets its contract.
+-- Assumes nothing.
+use Prim.Native.Nat.{◌-◌}
+use Rattle.walk_queries.proofs.LoopLaws.{TypesSoFar, types_start, types_more, types_end}
+use borrow.Author.Rules.{rules}
+use Rattle.walk_queries.proofs.lists.list_types.Goals as goal
+
+pub loop-t-init : goal.loop-t-init
+loop-t-init c = types_start _
+
+pub loop-t-preserved : goal.loop-t-preserved
+loop-t-preserved c = types_more c.loop-t.invariant c.loop-t-test.true c.list_type-next.ensures (c.list_type-next.auto).1.0
+
+pub returns : goal.returns
+returns c = types_end c.loop-t.invariant c.loop-t-test.false

@@ -1,0 +1,15 @@
+-- `walk_queries::lists::note_enums` meets its contract.
+-- Assumes nothing.
+use Prim.Native.Nat.{◌-◌}
+use Rattle.walk_queries.proofs.NoteLaws.{NotedSoFar, noted_start, noted_more, noted_end}
+use borrow.Author.Rules.{rules}
+use Rattle.walk_queries.proofs.lists.note_enums.Goals as goal
+
+pub loop-t-init : goal.loop-t-init
+loop-t-init c = noted_start _
+
+pub loop-t-preserved : goal.loop-t-preserved
+loop-t-preserved c = noted_more c.loop-t.invariant c.loop-t-test.true c.note_enum.ensures (c.note_enum.auto).1.0
+
+pub returns : goal.returns
+returns c = noted_end c.loop-t.invariant c.loop-t-test.false

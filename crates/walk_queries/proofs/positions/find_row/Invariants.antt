@@ -1,0 +1,14 @@
+-- `walk_queries::positions::find_row` meets its contract. The loop's invariant: the text can only be between the two rows.
+-- Assumes nothing.
+use Prim.Native.Nat.{◌-◌}
+use Rattle.walk_queries.specs.Found.{Halves}
+use Rattle.walk_queries.proofs.RowLaws.{halves_start, halves_end, halves_lower, halves_upper}
+use native.Mathlib.Omega.{arith}
+use borrow.Author.Rules.{rules}
+use Rattle.walk_queries.proofs.positions.find_row.Given as goal
+
+abbrev pub invariant-loop-high : goal.invariant-loop-high
+invariant-loop-high l = Halves l.body l.work l.sizes.rows l.base l.rows l.name l.low l.high
+
+abbrev pub decreases-loop-high : goal.decreases-loop-high
+decreases-loop-high l = l.high - l.low

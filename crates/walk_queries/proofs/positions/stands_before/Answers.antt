@@ -1,0 +1,9 @@
+-- `walk_queries::positions::stands_before` meets its contract.
+-- Assumes nothing.
+use mathlib.Core.Path.{ap, ◌∙◌}
+use Rattle.script_spec.specs.Base.{before}
+use borrow.Author.Rules.{rules}
+use Rattle.walk_queries.proofs.positions.stands_before.Goals as goal
+
+pub returns : goal.returns
+returns c = c.before-2.ensures ∙ ap (before _) c.text_at.ensures

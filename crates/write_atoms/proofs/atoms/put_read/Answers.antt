@@ -1,0 +1,20 @@
+-- `write_atoms::atoms::put_read` meets its contract: each term by its arm.
+-- Assumes nothing.
+use Rattle.write_atoms.proofs.AtomLaws.{atom_bool, atom_bits, atom_string, atom_entity, atom_named}
+use borrow.Author.Rules.{rules}
+use Rattle.write_atoms.proofs.atoms.put_read.Goals as goal
+
+pub returns-in-BoolLit : goal.returns-in-BoolLit
+returns-in-BoolLit c = atom_bool c.term_at-term.ensures c.in-BoolLit.is c.put_bool.ensures
+
+pub returns-in-BitVecLit : goal.returns-in-BitVecLit
+returns-in-BitVecLit c = atom_bits c.term_at-term.ensures c.in-BitVecLit.is c.put_bitvec.ensures
+
+pub returns-in-StringLit : goal.returns-in-StringLit
+returns-in-StringLit c = atom_string c.term_at-term.ensures c.in-StringLit.is c.body_at-body.ensures c.put_string.ensures
+
+pub returns-in-Entity : goal.returns-in-Entity
+returns-in-Entity c = atom_entity c.term_at-term.ensures c.in-Entity.is c.body_at-body-in-Entity.ensures c.part_of-id.ensures c.put_entity.ensures
+
+pub returns-in_default : goal.returns-in_default
+returns-in_default c = atom_named c.term_at-term.ensures c.in_default.keys5 c.put_term_name.ensures

@@ -1,0 +1,16 @@
+-- `write_atoms::parts::put_bool` meets its contract.
+-- Assumes nothing.
+use Rattle.script_spec.specs.Base.{bytes}
+use Rattle.write_bytes.proofs.Laws.{says}
+use Rattle.write_atoms.specs.Parts.{truth}
+use borrow.Author.Rules.{rules}
+use Rattle.write_atoms.proofs.parts.put_bool.Goals as goal
+
+-- TODO NOTE 8 arguments, 6 goals
+pub returns-then-b : goal.returns-then-b
+unfolding bytes truth
+returns-then-b c = says (rw c.if-b.true) c.put_at.ensures
+
+pub returns : goal.returns
+unfolding bytes truth
+returns c = says (rw c.if-b.false) c.put_at-2.ensures

@@ -1,0 +1,11 @@
+-- `write_atoms::parts::put_term_name` meets its contract.
+-- Assumes nothing.
+use Rattle.script_spec.specs.Base.{bytes}
+use Rattle.write_bytes.proofs.Laws.{says}
+use Rattle.write_atoms.specs.Parts.{term_name_of}
+use borrow.Author.Rules.{rules}
+use Rattle.write_atoms.proofs.parts.put_term_name.Goals as goal
+
+pub returns : goal.returns
+unfolding bytes term_name_of
+returns c = says (rw c.term_name-name.ensures) c.put_name.ensures

@@ -1,0 +1,8 @@
+-- `write_bytes::clear` meets its contract: the part from the place on is zeroed.
+-- Assumes nothing.
+use Rattle.write_bytes.proofs.Clearing.{cleared_part}
+use borrow.Author.Rules.{rules}
+use Rattle.write_bytes.proofs.clear.Goals as goal
+
+pub returns : goal.returns
+returns c = cleared_part _ _ _ _ c.smaller-start.ensures c.clear_all.ensures

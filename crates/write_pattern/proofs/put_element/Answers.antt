@@ -1,0 +1,16 @@
+-- `write_pattern::put_element` meets its contract: the wildcard, or three writes in a row.
+-- Assumes nothing.
+use borrow.Author.Rules.{rules}
+use Rattle.script_spec.specs.Base.{bytes}
+use Rattle.write_bytes.proofs.Laws.{◌then◌, says}
+use Rattle.write_pattern.proofs.Laws.{element_wildcard, element_point}
+use Rattle.write_pattern.proofs.put_element.Goals as goal
+
+-- TODO NOTE 11 arguments, 8 goals
+pub returns-then-c-eq-WILDCARD : goal.returns-then-c-eq-WILDCARD
+unfolding bytes
+returns-then-c-eq-WILDCARD c = says (element_wildcard _ c.if-c-eq-WILDCARD.true) c.put_at.ensures
+
+pub returns : goal.returns
+unfolding bytes
+returns c = says (element_point _ c.if-c-eq-WILDCARD.false) (c.put_at-a1.ensures then c.put_escape-a2.ensures then c.put_at-2.ensures)

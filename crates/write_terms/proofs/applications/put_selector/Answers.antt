@@ -1,0 +1,18 @@
+-- `write_terms::applications::put_selector` meets its contract.
+-- Assumes nothing.
+use mathlib.Core.Path.{◌∙◌}
+use Rattle.script_spec.specs.Base.{bytes}
+use Rattle.write_terms.proofs.HeadLaws.{selector_of, selector_none, selector_past, selector_at, selector_nowhere}
+use native.Mathlib.Omega.{arith}
+use borrow.Author.Rules.{rules}
+use Rattle.write_terms.proofs.applications.put_selector.Goals as goal
+
+-- TODO NOTE 14 arguments, 13 goals
+-- TODO argument 0 is for no known goal: selector_none c.if1.true
+-- TODO argument 2 is for no known goal: selector_past c.before.is-past.ensures c.if2.true
+pub returns-in-At : goal.returns-in-At
+unfolding bytes
+returns-in-At c = selector_of _ c.part_of-name.ensures (selector_at (omega (arith, c.if-c-eq0.false)) c.take_child-child.ensures (c.get-t.ensures ∙ (rw (c.wide-number.ensures).0)) c.index_of_attr.ensures c.in-At.is c.put_numbered.ensures)
+
+pub returns-in_default : goal.returns-in_default
+returns-in_default c = selector_of _ c.part_of-name.ensures (selector_nowhere (omega (arith, c.if-c-eq0.false)) c.take_child-child.ensures (c.get-t.ensures ∙ (rw (c.wide-number.ensures).0)) c.index_of_attr.ensures c.in_default.keys2)

@@ -1,0 +1,12 @@
+-- `write_terms::applications::put_zero_extend` meets its contract.
+-- Assumes nothing.
+use Rattle.script_spec.specs.Base.{bytes}
+use Rattle.write_bytes.proofs.Laws.{◌then◌, says}
+use Rattle.write_terms.proofs.HeadLaws.{zero_extend_pieces}
+use borrow.Author.Rules.{rules}
+use Rattle.write_terms.proofs.applications.put_zero_extend.Goals as goal
+
+-- TODO NOTE 6 arguments, 5 goals
+pub returns : goal.returns
+unfolding bytes
+returns c = says (zero_extend_pieces _) (c.put_at-a.ensures then c.put_decimal-b.ensures then c.put_byte.ensures)

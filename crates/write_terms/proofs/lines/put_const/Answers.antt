@@ -1,0 +1,13 @@
+-- `write_terms::lines::put_const` meets its contract: nothing with no room, and else piece by piece.
+-- Assumes nothing.
+use Rattle.script_spec.specs.Base.{bytes}
+use Rattle.smtlib_script.specs.Opened.{opened}
+use Rattle.write_terms.proofs.LineLaws.{spells_const, const_past}
+use borrow.Author.Rules.{rules}
+use Rattle.write_terms.proofs.lines.put_const.Goals as goal
+
+-- TODO NOTE 9 arguments, 8 goals
+-- TODO argument 0 is for no known goal: const_past c.if1.true
+pub returns : goal.returns
+unfolding bytes opened
+returns c = spells_const c.put_word-a.ensures c.put_term_name-b.ensures c.put_byte-c.ensures c.put_term_sort-d.ensures c.put_at.ensures

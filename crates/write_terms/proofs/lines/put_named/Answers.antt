@@ -1,0 +1,10 @@
+-- `write_terms::lines::put_named` meets its contract: a line, and a line in the rest after it.
+-- Assumes nothing.
+use Rattle.write_terms.proofs.LineLaws.{spells_named}
+use borrow.Author.Rules.{rules}
+use Rattle.write_terms.proofs.lines.put_named.Goals as goal
+
+-- TODO Rest-from at After-past_line
+-- TODO put_Const at After-past_line
+pub returns : goal.returns
+returns c = spells_named c.put_id-at.ensures c.Rest-from.ensures c.room-left.ensures c.put_Const.ensures c.past_line.ensures

@@ -1,0 +1,22 @@
+-- `write_text::cut_text` meets its contract: the text is kept as far as the place reached, and the code points are counted. The measure is what
+-- is left.
+-- Assumes nothing.
+use Prim.Native.Nat.{◌-◌}
+use lib.ListN.{length}
+use native.Mathlib.Omega.{arith}
+use borrow.Author.Rules.{rules}
+use Rattle.write_text.proofs.CutLaws.{begun_one, Kept, kept_none, kept_more, kept_cut, kept_all}
+use Rattle.write_text.proofs.cut_text.Goals as goal
+
+-- TODO need overflow-add-next is not asked: omega (arith, c.before.before.before.loop.invariant.few, begun_one _ c.begun.ensures)
+pub loop-end-init : goal.loop-end-init
+loop-end-init c = kept_none _ _ c.requires
+
+pub returns-then-next-gt-MOST : goal.returns-then-next-gt-MOST
+returns-then-next-gt-MOST c = kept_cut c.loop-end-test.true c.begun.ensures c.loop-end.invariant c.if-next-gt-MOST.true
+
+pub loop-end-preserved : goal.loop-end-preserved
+loop-end-preserved c = kept_more c.loop-end-test.true c.begun.ensures c.loop-end.invariant c.if-next-gt-MOST.false
+
+pub returns : goal.returns
+returns c = kept_all c.loop-end-test.false c.loop-end.invariant

@@ -1,0 +1,39 @@
+-- `write_text::put_blanked` meets its contract: each turn writes a run without control characters and the byte after it, as long as the place
+-- is not past the limit. The measure is what is left of the text.
+-- Assumes nothing.
+use mathlib.Core.Path.{◌≡◌, refl, ◌∙◌}
+use Prim.Native.Nat.{◌-◌, ◌≤◌}
+use lib.ListN.{length, drop}
+use native.Mathlib.Omega.{arith}
+use borrow.Author.Rules.{rules}
+use Rattle.script_spec.specs.Text.{blanked}
+use Rattle.write_bytes.proofs.Loop.{Along, along_start, along_step, along_end, along_past}
+use Rattle.write_text.proofs.Runs.{blanked_passed, blanked_byte, blanked_end}
+use Rattle.write_text.proofs.put_blanked.Goals as goal
+
+-- TODO need overflow-sub-put-at is not asked: omega (arith, c.before.run-end.ensures.start, c.before.run-end.ensures.inside)
+-- TODO need slice-bounds-put-at-start is not asked: omega (arith, c.before.run-end.ensures.start, c.before.run-end.ensures.inside)
+-- TODO need slice-bounds-put-at-end is not asked: omega (arith, c.before.run-end.ensures.start, c.before.run-end.ensures.inside)
+pub loop-at-init : goal.loop-at-init
+loop-at-init c = (along_start, omega arith, refl)
+
+pub shape_of-out-then-is_past : goal.shape_of-out-then-is_past
+shape_of-out-then-is_past c = c.loop-at.invariant.2
+
+pub returns-then-is_past : goal.returns-then-is_past
+returns-then-is_past c = along_past c.loop-at.invariant.0 c.is_past.ensures c.if-is_past.true
+
+pub run_end-to-requires : goal.run_end-to-requires
+run_end-to-requires c = c.loop-at.invariant.1
+
+pub shape_of-out-then-s-to : goal.shape_of-out-then-s-to
+shape_of-out-then-s-to c = c.put_at-place.auto.0 ∙ c.loop-at.invariant.2
+
+pub returns-then-s-to : goal.returns-then-s-to
+returns-then-s-to c = along_end (along_step c.loop-at.invariant.0 (blanked_passed c.run_end-to.ensures) c.put_at-place.ensures) (blanked_end _ _ c.if-s-to.true)
+
+pub loop-at-smaller : goal.loop-at-smaller
+loop-at-smaller c = omega (arith, c.run_end-to.ensures.start, c.if-s-to.false)
+
+pub loop-at-preserved : goal.loop-at-preserved
+loop-at-preserved c = (along_step (along_step c.loop-at.invariant.0 (blanked_passed c.run_end-to.ensures) c.put_at-place.ensures) (blanked_byte _ _ c.blank.ensures c.if-s-to.false) c.put_byte-place.ensures, omega (arith, c.if-s-to.false), c.put_byte-place.auto.0 ∙ c.put_at-place.auto.0 ∙ c.loop-at.invariant.2)

@@ -1,0 +1,21 @@
+-- `write_text::put_points` meets its contract: each turn writes a run of plain bytes and one code point of what is to be written, as long
+-- as the place is not past the limit. The measure is what is left of the text.
+-- Assumes nothing.
+use mathlib.Core.Path.{◌≡◌, refl, ◌∙◌}
+use Prim.Native.Nat.{◌-◌, ◌≤◌}
+use lib.ListN.{length, drop}
+use native.Mathlib.Omega.{arith}
+use borrow.Author.Rules.{rules}
+use Rattle.script_spec.specs.Base.{collect}
+use Rattle.write_bytes.proofs.Loop.{Along, along_start, along_step, along_end, along_past}
+use Rattle.read_utf8.specs.Decoding.{points}
+use Rattle.read_utf8.proofs.Laws.{next_point, next_malformed, next_end}
+use Rattle.write_text.specs.Written.{spelling}
+use Rattle.write_text.proofs.Runs.{points_passed, points_next, points_none}
+use Rattle.write_text.proofs.put_points.Given as goal
+
+abbrev pub invariant-loop-at : goal.invariant-loop-at
+invariant-loop-at l = (Along l.limit l.initial.out l.at l.out l.place (collect (spelling l.debug) (points (drop l.from l.s))) (collect (spelling l.debug) (points l.s))) × (l.from ≤ length l.s) × (length l.out ≡ length l.initial.out)
+
+abbrev pub decreases-loop-at : goal.decreases-loop-at
+decreases-loop-at l = length l.s - l.from

@@ -1,0 +1,22 @@
+-- `write_types::datatype_comments::put_enum_comment` meets its contract: nothing with no room, and else piece by piece.
+-- Assumes nothing.
+use mathlib.Core.Path.{refl, ◌∙◌}
+use Rattle.script_spec.specs.Base.{bytes}
+use Rattle.smtlib_script.specs.Opened.{opened}
+use Rattle.script_spec.specs.Spelling.{entity_comment}
+use Rattle.smtlib_script.proofs.Lines.{comment_written}
+use Rattle.write_bytes.proofs.Laws.{line_past, line_some}
+use Rattle.write_text.proofs.CommentLaws.{◌also◌}
+use borrow.Author.Rules.{rules}
+use Rattle.write_types.proofs.datatype_comments.put_enum_comment.Goals as goal
+
+-- TODO NOTE 11 arguments, 9 goals
+pub returns-then-room-eq0 : goal.returns-then-room-eq0
+returns-then-room-eq0 c = rw c.if-room-eq0.true (line_past (line_some _))
+
+pub shape_of-rest : goal.shape_of-rest
+shape_of-rest c = c.put_byte.auto.0 ∙ c.put_comment_text-e.auto.0 ∙ c.put_texts-d.auto.0 ∙ c.put_comment_text-c.auto.0 ∙ c.put_comment_text-b.auto.0 ∙ c.put_word-a.auto.0
+
+pub returns : goal.returns
+unfolding opened bytes entity_comment
+returns c = comment_written refl c.put_word-a.ensures (c.put_comment_text-b.ensures also c.put_comment_text-c.ensures also c.put_texts-d.ensures also c.put_comment_text-e.ensures) c.put_byte.ensures

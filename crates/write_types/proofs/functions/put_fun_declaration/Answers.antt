@@ -1,0 +1,17 @@
+-- `write_types::functions::put_fun_declaration` meets its contract: nothing with no room, and else piece by piece.
+-- Assumes nothing.
+use mathlib.Core.Path.{◌∙◌}
+use Rattle.script_spec.specs.Base.{bytes}
+use Rattle.smtlib_script.specs.Opened.{opened}
+use Rattle.write_types.proofs.FunctionLaws.{spells_fun, fun_past}
+use borrow.Author.Rules.{rules}
+use Rattle.write_types.proofs.functions.put_fun_declaration.Goals as goal
+
+-- TODO NOTE 15 arguments, 12 goals
+-- TODO argument 0 is for no known goal: fun_past c.if1.true
+pub shape_of-rest : goal.shape_of-rest
+shape_of-rest c = (c.put_at.auto).0 ∙ (c.put_sort-f.auto).1.1.1.0 ∙ (c.put_at-e.auto).0 ∙ (c.put_sort-d.auto).1.1.1.0 ∙ (c.put_at-c.auto).0 ∙ (c.put_name-b.auto).0 ∙ (c.put_word-a.auto).0
+
+pub returns : goal.returns
+unfolding bytes opened
+returns c = spells_fun c.fun_at-fun.ensures c.fun_name.ensures c.put_word-a.ensures c.put_name-b.ensures c.put_at-c.ensures c.put_sort-d.ensures c.put_at-e.ensures c.put_sort-f.ensures c.put_at.ensures

@@ -1,0 +1,13 @@
+-- `write_types::records::put_selector` meets its contract.
+-- Assumes nothing.
+use Rattle.script_spec.specs.Base.{bytes}
+use Rattle.script_spec.specs.Spelling.{attribute_name}
+use Rattle.write_bytes.proofs.Laws.{◌then◌}
+use Rattle.write_types.specs.Records.{record_name}
+use borrow.Author.Rules.{rules}
+use Rattle.write_types.proofs.records.put_selector.Goals as goal
+
+-- TODO NOTE 8 arguments, 6 goals
+pub returns : goal.returns
+unfolding bytes attribute_name record_name
+returns c = c.put_at-a.ensures then c.put_name-b.ensures then c.put_at-c.ensures then c.put_decimal.ensures
