@@ -3,7 +3,7 @@
 -- Assumes nothing.
 use Prim.Native.Nat.{ℕ}
 use mathlib.Core.Path.{◌≡◌, refl, sym, ap, ◌∙◌}
-use mathlib.Core.List.{List, [], ◌∷◌, map, map_map}
+use mathlib.Core.List.{List, [], ◌∷◌, map, map-map}
 use Rattle.script_spec.specs.Tree.{Tree, Forest, node, nil, cons, forest, uuf, eq_ty, eq_fun, eq_tm, TermMark}
 use Rattle.script_spec.specs.Fields.{Entry}
 use Rattle.script_spec.specs.Fields as fields
@@ -56,10 +56,10 @@ module _ (f : TermFile) where
 
   pub named_canonical : (e : Entry) → InRange (earlier f) e → named f (canonical f e) ≡ named f e
   unfolding InRange earlier named canonical renumbered
-  named_canonical (fields.type m rs) h = rw (map_map (type_at f) (first_type f) rs, map_agree (first_types f).names rs h)
+  named_canonical (fields.type m rs) h = rw (map-map (type_at f) (first_type f) rs, map_agree (first_types f).names rs h)
   named_canonical (fields.enum n ms) h = refl
   named_canonical (fields.func id a r) h = rw ((first_types f).names a h.0, (first_types f).names r h.1)
-  named_canonical (fields.term m rs) h = rw (mark_named m h.0, map_map (term_at f) (first_term f) rs, map_agree (first_terms f).names rs h.1)
+  named_canonical (fields.term m rs) h = rw (mark_named m h.0, map-map (term_at f) (first_term f) rs, map_agree (first_terms f).names rs h.1)
   named_canonical (fields.input n) h = ap input ((first_terms f).names n h)
 
   -- ---- equal entries

@@ -5,15 +5,23 @@ use borrow.Author.Rules.{rules}
 use Rattle.index.proofs.Columns.{emptied_narrow, emptied_no_column, column_fits, emptied_part}
 use Rattle.index.proofs.clear_column.Goals as goal
 
--- TODO need overflow-mul-from is not asked: let a = (c.before.before.before).args in omega (arith, column_fits a.work.now a.rows a.column (omega arith) (omega arith))
--- TODO need overflow-add-to is not asked: let a = (c.before.before.before).args in omega (arith, column_fits a.work.now a.rows a.column (omega arith) (omega arith))
--- TODO need overflow-mul-clear-words is not asked: let a = (c.before.before.before).args in omega (arith, column_fits a.work.now a.rows a.column (omega arith) (omega arith))
--- TODO need slice-bounds-clear-words-end is not asked: let a = (c.before.before.before).args in omega (arith, column_fits a.work.now a.rows a.column (omega arith) (omega arith))
 pub returns-then-work-rows : goal.returns-then-work-rows
 returns-then-work-rows c = emptied_narrow _ _ _ (omega arith)
 
 pub returns-then-column-ge-COLUMNS : goal.returns-then-column-ge-COLUMNS
 returns-then-column-ge-COLUMNS c = emptied_no_column _ _ _ (omega arith) (omega arith)
+
+pub overflow_mul-from : goal.overflow_mul-from
+overflow_mul-from c = let a = (c).args in omega (arith, column_fits a.work.now a.rows a.column (omega arith) (omega arith))
+
+pub overflow_add-to : goal.overflow_add-to
+overflow_add-to c = let a = (c).args in omega (arith, column_fits a.work.now a.rows a.column (omega arith) (omega arith))
+
+pub offset_bounds-work-from : goal.offset_bounds-work-from
+offset_bounds-work-from c = let a = (c).args in omega (arith, column_fits a.work.now a.rows a.column (omega arith) (omega arith))
+
+pub slice_bounds-clear_words-end : goal.slice_bounds-clear_words-end
+slice_bounds-clear_words-end c = let a = (c).args in omega (arith, column_fits a.work.now a.rows a.column (omega arith) (omega arith))
 
 pub returns : goal.returns
 returns c = let a = (c).args in emptied_part a.work.now a.rows a.column (omega arith) (omega arith) _ c.clear_words.ensures

@@ -6,7 +6,10 @@ use Rattle.index.specs.Cells.{store}
 use Rattle.index.proofs.Cells.{placed_as, store_nowhere}
 use Rattle.index.proofs.set.Goals as goal
 
--- TODO need overflow-mul-work is not asked: omega (arith, (c.before.before.before.before.before.well-formed).0.1, (placed_as c.before.before.before.cell-place.ensures c.before.at.given.1).0)
+-- TODO well-formed at After-known_told
+pub offset_bounds-work-at : goal.offset_bounds-work-at
+offset_bounds-work-at c = omega (arith, (c.well-formed).0.1, (placed_as c.cell_place.ensures c.in-At.is).0)
+
 pub bounds-work-at : goal.bounds-work-at
 bounds-work-at c = (placed_as c.cell_place.ensures c.in-At.is).0
 

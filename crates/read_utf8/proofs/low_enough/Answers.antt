@@ -16,13 +16,13 @@ pub loop-c-init : goal.loop-c-init
 loop-c-init c = refl
 
 pub returns-then-not-is_low : goal.returns-then-not-is_low
-returns-then-not-is_low c = sym (c.loop-c.invariant ∙ low_stop (next_point c.next.ensures c.in-Point.is) (sym c.is_low.ensures ∙ not-true _ c.if-not-is_low.true))
+returns-then-not-is_low c = sym (c.loop-c.invariant ∙ low_stop (next_point c.next.ensures c.in-Point.is) (sym c.is_low.ensures ∙ c.if-not-is_low.true))
 
 pub loop-c-smaller : goal.loop-c-smaller
 loop-c-smaller c = let p = next_point c.next.ensures c.in-Point.is in omega (arith, p.moves, p.inside)
 
 pub loop-c-preserved : goal.loop-c-preserved
-loop-c-preserved c = c.loop-c.invariant ∙ low_more (next_point c.next.ensures c.in-Point.is) (sym c.is_low.ensures ∙ not-false _ c.if-not-is_low.false)
+loop-c-preserved c = c.loop-c.invariant ∙ low_more (next_point c.next.ensures c.in-Point.is) (sym c.is_low.ensures ∙ c.if-not-is_low.false)
 
 pub returns-in-Malformed : goal.returns-in-Malformed
 unfolding low_enough

@@ -9,11 +9,11 @@ use Rattle.write_bitvec.proofs.int_min.Goals as goal
 
 pub returns-then-not-is_width : goal.returns-then-not-is_width
 unfolding said int_min
-returns-then-not-is_width c = vector_if_no _ _ _ (sym c.is_width.ensures ∙ not-true _ c.if-not-is_width.true)
+returns-then-not-is_width c = vector_if_no _ _ _ (sym c.is_width.ensures ∙ c.if-not-is_width.true)
 
 pub overflow_sub-width : goal.overflow_sub-width
-overflow_sub-width c = (is_width_range _ (sym c.is_width.ensures ∙ not-false _ c.if-not-is_width.false)).0
+overflow_sub-width c = (is_width_range _ (sym c.is_width.ensures ∙ c.if-not-is_width.false)).0
 
 pub returns : goal.returns
 unfolding said int_min
-returns c = let w = (sym c.is_width.ensures ∙ not-false _ c.if-not-is_width.false) in vector_if_yes _ _ _ _ w (int_min_value _ _ w c.power-v.ensures)
+returns c = let w = (sym c.is_width.ensures ∙ c.if-not-is_width.false) in vector_if_yes _ _ _ _ w (int_min_value _ _ w c.power-v.ensures)

@@ -11,8 +11,8 @@ use Rattle.write_bitvec.proofs.of_int.Goals as goal
 
 pub returns-then-not-is_width : goal.returns-then-not-is_width
 unfolding said of_int
-returns-then-not-is_width c = vector_if_no _ _ _ (sym c.is_width.ensures ∙ not-true _ c.if-not-is_width.true)
+returns-then-not-is_width c = vector_if_no _ _ _ (sym c.is_width.ensures ∙ c.if-not-is_width.true)
 
 pub returns : goal.returns
 unfolding said of_int
-returns c = let w = (sym c.is_width.ensures ∙ not-false _ c.if-not-is_width.false) in vector_if_yes _ _ _ _ w (of_int_value _ _ _ _ w (c.signed-all.ensures ∙ ap (twos_complement 128) (to_z-of_z c.ranges.v)) c.wrap-last.ensures)
+returns c = let w = (sym c.is_width.ensures ∙ c.if-not-is_width.false) in vector_if_yes _ _ _ _ w (of_int_value _ _ _ _ w (c.signed-all.ensures ∙ ap (twos_complement 128) (to_z-of_z c.ranges.v)) c.wrap-last.ensures)

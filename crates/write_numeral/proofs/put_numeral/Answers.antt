@@ -8,13 +8,14 @@ use Rattle.write_bytes.proofs.Laws.{says}
 use Rattle.write_numeral.proofs.Laws.{Laid, laid_start, laid_inside, laid_next, laid_end, div_smaller}
 use Rattle.write_numeral.proofs.put_numeral.Goals as goal
 
--- TODO need nonzero-div-left is not asked: omega (arith, c.before.before.before.before.requires.least)
--- TODO need overflow-sub-i is not asked: laid_inside _ _ _ _ _ c.before.before.before.before.requires c.loop-test.true c.before.loop.invariant
--- TODO need overflow-sub-put-at is not asked: omega (arith, c.before.before.loop.invariant.inside)
--- TODO need slice-bounds-put-at-start is not asked: omega (arith, c.before.before.before.loop.invariant.inside)
--- TODO need slice-bounds-put-at-end is not asked: omega (arith, c.before.before.before.loop.invariant.inside)
 pub loop-left-init : goal.loop-left-init
 loop-left-init c = laid_start _ _ _ (replicate 20 0) (omega arith) refl c.last_digit.ensures
+
+pub nonzero_div-left : goal.nonzero_div-left
+nonzero_div-left c = omega (arith, c.requires.least)
+
+pub overflow_sub-i : goal.overflow_sub-i
+overflow_sub-i c = laid_inside _ _ _ _ _ c.requires c.loop-left-test.true c.loop-left.invariant
 
 pub bounds-text-i-in-loop-left : goal.bounds-text-i-in-loop-left
 bounds-text-i-in-loop-left c = omega (arith, c.loop-left.invariant.inside)
@@ -24,6 +25,15 @@ loop-left-smaller c = div_smaller _ _ c.requires c.loop-left-test.true
 
 pub loop-left-preserved : goal.loop-left-preserved
 loop-left-preserved c = laid_next _ _ _ _ _ _ c.requires c.loop-left-test.true c.last_digit-in-loop-left.ensures c.loop-left.invariant
+
+pub slice_bounds-put_at-count : goal.slice_bounds-put_at-count
+slice_bounds-put_at-count c = omega (arith, c.loop-left.invariant.inside)
+
+pub slice_bounds-put_at-start : goal.slice_bounds-put_at-start
+slice_bounds-put_at-start c = omega (arith, c.loop-left.invariant.inside)
+
+pub slice_bounds-put_at-end : goal.slice_bounds-put_at-end
+slice_bounds-put_at-end c = omega (arith, c.loop-left.invariant.inside)
 
 pub returns : goal.returns
 returns c = says (laid_end _ _ _ _ _ c.loop-left-test.false c.loop-left.invariant) c.put_at.ensures

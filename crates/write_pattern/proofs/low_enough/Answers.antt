@@ -18,7 +18,7 @@ loop-c-init c = refl
 
 pub returns-then-not-is_low : goal.returns-then-not-is_low
 unfolding number_told
-returns-then-not-is_low c = sym (c.loop-c.invariant ∙ low_stop _ _ _ (element_at (tells (ap number_told c.in-Value.is) c.u32_le.ensures)).value (sym c.is_low.ensures ∙ not-true _ c.if-not-is_low.true))
+returns-then-not-is_low c = sym (c.loop-c.invariant ∙ low_stop _ _ _ (element_at (tells (ap number_told c.in-Value.is) c.u32_le.ensures)).value (sym c.is_low.ensures ∙ c.if-not-is_low.true))
 
 pub loop-c-smaller : goal.loop-c-smaller
 unfolding number_told
@@ -26,7 +26,7 @@ loop-c-smaller c = (element_at (tells (ap number_told c.in-Value.is) c.u32_le.en
 
 pub loop-c-preserved : goal.loop-c-preserved
 unfolding number_told
-loop-c-preserved c = c.loop-c.invariant ∙ low_more _ _ _ (element_at (tells (ap number_told c.in-Value.is) c.u32_le.ensures)).value (sym c.is_low.ensures ∙ not-false _ c.if-not-is_low.false)
+loop-c-preserved c = c.loop-c.invariant ∙ low_more _ _ _ (element_at (tells (ap number_told c.in-Value.is) c.u32_le.ensures)).value (sym c.is_low.ensures ∙ c.if-not-is_low.false)
 
 pub returns-in-Bad : goal.returns-in-Bad
 unfolding number_told

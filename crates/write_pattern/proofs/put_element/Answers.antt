@@ -6,7 +6,6 @@ use Rattle.write_bytes.proofs.Laws.{◌then◌, says}
 use Rattle.write_pattern.proofs.Laws.{element_wildcard, element_point}
 use Rattle.write_pattern.proofs.put_element.Goals as goal
 
--- TODO NOTE 11 arguments, 8 goals
 pub returns-then-c-eq-WILDCARD : goal.returns-then-c-eq-WILDCARD
 unfolding bytes
 returns-then-c-eq-WILDCARD c = says (element_wildcard _ c.if-c-eq-WILDCARD.true) c.put_at.ensures

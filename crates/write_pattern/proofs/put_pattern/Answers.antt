@@ -9,7 +9,6 @@ use Rattle.read_field.proofs.Laws.{tells}
 use Rattle.write_pattern.proofs.Laws.{element_at, element_none, pattern_none, pattern_one, pattern_many}
 use Rattle.write_pattern.proofs.put_pattern.Goals as goal
 
--- TODO NOTE 16 arguments, 15 goals
 pub returns-in_default : goal.returns-in_default
 unfolding bytes number_told
 returns-in_default c = says (pattern_none _ (element_none (tells (ap number_told c.in_default.is) c.u32_le.ensures))) c.put_at.ensures

@@ -6,7 +6,6 @@ use Rattle.write_bytes.proofs.Laws.{◌then◌}
 use Rattle.write_pattern.specs.Elements.{several}
 use Rattle.write_pattern.proofs.put_several.Goals as goal
 
--- TODO NOTE 7 arguments, 6 goals
 pub returns : goal.returns
 unfolding several bytes
 returns c = c.put_at-a1.ensures then c.put_element-a2.ensures then c.put_elements-a3.ensures then c.put_byte.ensures

@@ -8,9 +8,11 @@ use borrow.Author.Rules.{rules}
 use Rattle.write_text.proofs.CutLaws.{begun_one, Kept, kept_none, kept_more, kept_cut, kept_all}
 use Rattle.write_text.proofs.cut_text.Goals as goal
 
--- TODO need overflow-add-next is not asked: omega (arith, c.before.before.before.loop.invariant.few, begun_one _ c.begun.ensures)
 pub loop-end-init : goal.loop-end-init
 loop-end-init c = kept_none _ _ c.requires
+
+pub overflow_add-next : goal.overflow_add-next
+overflow_add-next c = omega (arith, c.loop-end.invariant.few, begun_one _ c.begun.ensures)
 
 pub returns-then-next-gt-MOST : goal.returns-then-next-gt-MOST
 returns-then-next-gt-MOST c = kept_cut c.loop-end-test.true c.begun.ensures c.loop-end.invariant c.if-next-gt-MOST.true

@@ -11,9 +11,6 @@ use Rattle.write_bytes.proofs.Loop.{Along, along_start, along_step, along_end, a
 use Rattle.write_text.proofs.Runs.{blanked_passed, blanked_byte, blanked_end}
 use Rattle.write_text.proofs.put_blanked.Goals as goal
 
--- TODO need overflow-sub-put-at is not asked: omega (arith, c.before.run-end.ensures.start, c.before.run-end.ensures.inside)
--- TODO need slice-bounds-put-at-start is not asked: omega (arith, c.before.run-end.ensures.start, c.before.run-end.ensures.inside)
--- TODO need slice-bounds-put-at-end is not asked: omega (arith, c.before.run-end.ensures.start, c.before.run-end.ensures.inside)
 pub loop-at-init : goal.loop-at-init
 loop-at-init c = (along_start, omega arith, refl)
 
@@ -25,6 +22,15 @@ returns-then-is_past c = along_past c.loop-at.invariant.0 c.is_past.ensures c.if
 
 pub run_end-to-requires : goal.run_end-to-requires
 run_end-to-requires c = c.loop-at.invariant.1
+
+pub slice_bounds-put_at-count : goal.slice_bounds-put_at-count
+slice_bounds-put_at-count c = omega (arith, c.run_end-to.ensures.start, c.run_end-to.ensures.inside)
+
+pub slice_bounds-put_at-start : goal.slice_bounds-put_at-start
+slice_bounds-put_at-start c = omega (arith, c.run_end-to.ensures.start, c.run_end-to.ensures.inside)
+
+pub slice_bounds-put_at-end : goal.slice_bounds-put_at-end
+slice_bounds-put_at-end c = omega (arith, c.run_end-to.ensures.start, c.run_end-to.ensures.inside)
 
 pub shape_of-out-then-s-to : goal.shape_of-out-then-s-to
 shape_of-out-then-s-to c = c.put_at-place.auto.0 ∙ c.loop-at.invariant.2

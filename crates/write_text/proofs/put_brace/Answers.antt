@@ -6,7 +6,6 @@ use Rattle.script_spec.specs.Base.{bytes}
 use Rattle.script_spec.specs.Text.{brace}
 use Rattle.write_text.proofs.put_brace.Goals as goal
 
--- TODO NOTE 6 arguments, 5 goals
 pub returns : goal.returns
 unfolding brace bytes
 returns c = c.put_at-a1.ensures then c.put_hex-a2.ensures then c.put_byte.ensures

@@ -6,9 +6,11 @@ use borrow.Author.Rules.{rules}
 use Rattle.write_bytes.proofs.Cutting.{cut_short, cut_long}
 use Rattle.write_text.proofs.put_debug.Goals as goal
 
--- TODO need overflow-add-end is not asked: omega (arith, c.before.room.ensures, c.if1.false)
 pub returns-then-room-lt-MOST : goal.returns-then-room-lt-MOST
 returns-then-room-lt-MOST c = cut_short c.room.ensures c.if-room-lt-MOST.true c.put_quoted.ensures
+
+pub overflow_add-end : goal.overflow_add-end
+overflow_add-end c = omega (arith, c.room.ensures, c.if-room-lt-MOST.false)
 
 pub returns : goal.returns
 returns c = rw c.smaller.ensures (cut_long c.room.ensures c.if-room-lt-MOST.false (omega arith) refl c.put_quoted-place.ensures)

@@ -7,7 +7,6 @@ use Rattle.write_bytes.proofs.Laws.{says}
 use Rattle.write_text.proofs.Laws.{debug_letters, debug_shown}
 use Rattle.write_text.proofs.put_debug_char.Goals as goal
 
--- TODO NOTE 27 arguments, 21 goals
 pub returns-in-34 : goal.returns-in-34
 returns-in-34 c = says (debug_letters.0 ∙ sym (ap debug_char c.in-34.is)) c.put_at.ensures
 

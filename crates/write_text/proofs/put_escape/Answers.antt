@@ -5,7 +5,6 @@ use Rattle.write_bytes.proofs.Laws.{says}
 use Rattle.write_text.proofs.Laws.{escape_quote, escape_backslash, escape_shown}
 use Rattle.write_text.proofs.put_escape.Goals as goal
 
--- TODO NOTE 10 arguments, 9 goals
 pub returns-then-c-eq34 : goal.returns-then-c-eq34
 returns-then-c-eq34 c = says (escape_quote _ c.if-c-eq34.true) c.put_at.ensures
 

@@ -14,9 +14,6 @@ use Rattle.write_text.specs.Written.{spelling}
 use Rattle.write_text.proofs.Runs.{points_passed, points_next, points_none}
 use Rattle.write_text.proofs.put_points.Goals as goal
 
--- TODO need overflow-sub-put-at is not asked: omega (arith, c.before.run-end.ensures.start, c.before.run-end.ensures.inside)
--- TODO need slice-bounds-put-at-start is not asked: omega (arith, c.before.run-end.ensures.start, c.before.run-end.ensures.inside)
--- TODO need slice-bounds-put-at-end is not asked: omega (arith, c.before.run-end.ensures.start, c.before.run-end.ensures.inside)
 pub loop-at-init : goal.loop-at-init
 loop-at-init c = (along_start, omega arith, refl)
 
@@ -28,6 +25,15 @@ returns-then-is_past c = along_past c.loop-at.invariant.0 c.is_past.ensures c.if
 
 pub run_end-to-requires : goal.run_end-to-requires
 run_end-to-requires c = c.loop-at.invariant.1
+
+pub slice_bounds-put_at-count : goal.slice_bounds-put_at-count
+slice_bounds-put_at-count c = omega (arith, c.run_end-to.ensures.start, c.run_end-to.ensures.inside)
+
+pub slice_bounds-put_at-start : goal.slice_bounds-put_at-start
+slice_bounds-put_at-start c = omega (arith, c.run_end-to.ensures.start, c.run_end-to.ensures.inside)
+
+pub slice_bounds-put_at-end : goal.slice_bounds-put_at-end
+slice_bounds-put_at-end c = omega (arith, c.run_end-to.ensures.start, c.run_end-to.ensures.inside)
 
 pub loop-at-smaller : goal.loop-at-smaller
 loop-at-smaller c = let p = next_point c.next.ensures c.in-Point.is in omega (arith, p.moves, p.inside, c.run_end-to.ensures.start)

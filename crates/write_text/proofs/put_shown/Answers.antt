@@ -7,7 +7,9 @@ use Rattle.write_bytes.proofs.Laws.{says}
 use Rattle.write_text.proofs.Laws.{printable_small, shown_plain, shown_brace}
 use Rattle.write_text.proofs.put_shown.Goals as goal
 
--- TODO need overflow-cast-put-byte is not asked: omega (arith, printable_small _ (sym c.before.before.is-printable.ensures ∙ c.before.if1.true))
+pub overflow_cast-c : goal.overflow_cast-c
+overflow_cast-c c = omega (arith, printable_small _ (sym c.is_printable.ensures ∙ c.if-is_printable.true))
+
 pub returns-then-is_printable : goal.returns-then-is_printable
 returns-then-is_printable c = says (shown_plain _ (sym c.is_printable.ensures ∙ c.if-is_printable.true)) c.put_byte.ensures
 

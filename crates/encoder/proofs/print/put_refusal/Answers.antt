@@ -7,7 +7,6 @@ use Rattle.encoder.proofs.PrintLaws.{refusal_some}
 use borrow.Author.Rules.{rules}
 use Rattle.encoder.proofs.print.put_refusal.Goals as goal
 
--- TODO NOTE 11 arguments, 8 goals
 pub returns-then-room-eq0 : goal.returns-then-room-eq0
 returns-then-room-eq0 c = rw c.if-room-eq0.true (line_past (refusal_some _ _))
 

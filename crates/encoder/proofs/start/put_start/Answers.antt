@@ -12,7 +12,6 @@ use Rattle.write_bytes.proofs.Laws.{◌then◌, says, from_start, line_past, lin
 use borrow.Author.Rules.{rules}
 use Rattle.encoder.proofs.start.put_start.Goals as goal
 
--- TODO NOTE 6 arguments, 5 goals
 pub returns-then-room-eq0 : goal.returns-then-room-eq0
 unfolding collect script start
 returns-then-room-eq0 c = rw c.if-room-eq0.true (line_past (simp length-append (omega (arith, line_some option_declaration))))

@@ -17,12 +17,12 @@ pub same_heads-requires : goal.same_heads-requires
 same_heads-requires c = (c.head-p.ensures.within, c.head-q.ensures.within)
 
 pub returns-then-not-same_heads : goal.returns-then-not-same_heads
-returns-then-not-same_heads c = decides_false c.same_heads.ensures (not-true c.same_heads.result c.if-not-same_heads.true) (λ p. heads_agree c.head-p.ensures c.head-q.ensures (c.loop-s.invariant.from p))
+returns-then-not-same_heads c = decides_false c.same_heads.ensures c.if-not-same_heads.true (λ p. heads_agree c.head-p.ensures c.head-q.ensures (c.loop-s.invariant.from p))
 
 pub returns-then-p-eq-NONE : goal.returns-then-p-eq-NONE
 returns-then-p-eq-NONE c =
     let same-heads = c.same_heads in
-    decides_true (c.loop-s.invariant.to (heads_end c.head-p.ensures c.head-q.ensures (same-heads.ensures.of_true (not-false same-heads.result c.if-not-same_heads.false)) c.if-p-eq-NONE.true))
+    decides_true (c.loop-s.invariant.to (heads_end c.head-p.ensures c.head-q.ensures (same-heads.ensures.of_true c.if-not-same_heads.false) c.if-p-eq-NONE.true))
 
 pub loop-s-smaller : goal.loop-s-smaller
 loop-s-smaller c = c.head-p.ensures.fewer (omega (arith, c.if-p-eq-NONE.false))
@@ -33,4 +33,4 @@ loop-s-preserved c =
     let head = c.head-p in
     let head2 = c.head-q in
     let same-heads = c.same_heads in
-    record { to = λ e. loop.invariant.to (heads_equal head.ensures head2.ensures (same-heads.ensures.of_true (not-false same-heads.result c.if-not-same_heads.false)) (omega (arith, c.if-p-eq-NONE.false)) e); from = λ e. heads_next head.ensures head2.ensures (omega (arith, c.if-p-eq-NONE.false)) (loop.invariant.from e) }
+    record { to = λ e. loop.invariant.to (heads_equal head.ensures head2.ensures (same-heads.ensures.of_true c.if-not-same_heads.false) (omega (arith, c.if-p-eq-NONE.false)) e); from = λ e. heads_next head.ensures head2.ensures (omega (arith, c.if-p-eq-NONE.false)) (loop.invariant.from e) }

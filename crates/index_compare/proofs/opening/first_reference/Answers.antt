@@ -12,14 +12,11 @@ use Rattle.index_compare.proofs.Opened.{first_type_lem, first_term_lem}
 use borrow.Author.Rules.{rules}
 use Rattle.index_compare.proofs.opening.first_reference.Goals as goal
 
--- TODO Opening-of at After-first_cell
--- TODO first_Cell at After-first_cell
--- TODO Opening-of at After-first_cell2
 pub returns-in-TypeFirst : goal.returns-in-TypeFirst
-returns-in-TypeFirst c = first_type_lem c.body_at-body.result.now (walk_start c.byte_at-a.result c.byte_after-b.result) c.args.work.now c.args.rows c.Opening-of.ensures c.in-TypeFirst.is (segments_by c.args.file.now c.args.offset c.byte_at-a.ensures c.byte_after-b.ensures c.body_at-body.ensures) c.first_Cell.ensures
+returns-in-TypeFirst c = first_type_lem c.body_at-body.result.now (walk_start c.byte_at-a.result c.byte_after-b.result) c.args.work.now c.args.rows c.opening_of.ensures c.in-TypeFirst.is (segments_by c.args.file.now c.args.offset c.byte_at-a.ensures c.byte_after-b.ensures c.body_at-body.ensures) c.first_cell.ensures
 
 pub returns-in-TermFirst : goal.returns-in-TermFirst
-returns-in-TermFirst c = first_term_lem c.body_at-body.result.now (walk_start c.byte_at-a.result c.byte_after-b.result) c.args.work.now c.args.rows c.Opening-of.ensures c.in-TermFirst.is (segments_by c.args.file.now c.args.offset c.byte_at-a.ensures c.byte_after-b.ensures c.body_at-body.ensures) c.first_cell-in-TermFirst.ensures
+returns-in-TermFirst c = first_term_lem c.body_at-body.result.now (walk_start c.byte_at-a.result c.byte_after-b.result) c.args.work.now c.args.rows c.opening_of.ensures c.in-TermFirst.is (segments_by c.args.file.now c.args.offset c.byte_at-a.ensures c.byte_after-b.ensures c.body_at-body.ensures) c.first_cell-in-TermFirst.ensures
 
 pub returns-in-Unknown : goal.returns-in-Unknown
 returns-in-Unknown c = c.first_shaped.ensures ∙ ap (λ (l : List Segment). get_or (reference_numbers 2 (map (viewed c.args.work.now c.args.rows Listed) l)) 0 0) (sym (segments_by c.args.file.now c.args.offset c.byte_at-a.ensures c.byte_after-b.ensures c.body_at-body.ensures))

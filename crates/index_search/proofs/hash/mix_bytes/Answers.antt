@@ -9,9 +9,11 @@ use Rattle.index_search.proofs.Mixed.{bytes_four}
 use borrow.Author.Rules.{rules}
 use Rattle.index_search.proofs.hash.mix_bytes.Goals as goal
 
--- TODO need overflow-add-loop is not asked: omega (arith, c.loop.invariant.1)
 pub loop-i-init : goal.loop-i-init
 loop-i-init c = (refl, omega arith)
+
+pub overflow_add-i : goal.overflow_add-i
+overflow_add-i c = omega (arith, c.loop-i.invariant.1)
 
 pub number_at-requires : goal.number_at-requires
 number_at-requires c = c.loop-i-test.true

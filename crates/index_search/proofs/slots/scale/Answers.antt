@@ -4,7 +4,9 @@ use native.Mathlib.Omega.{arith}
 use Rattle.index_search.proofs.Homes.{product_fits, scales, scales_past}
 use Rattle.index_search.proofs.slots.scale.Goals as goal
 
--- TODO need overflow-mul-result is not asked: let a = (c.before).args in omega (arith, product_fits a.rows a.h c.if1.true (omega arith))
+pub overflow_mul-result : goal.overflow_mul-result
+overflow_mul-result c = let a = (c).args in omega (arith, product_fits a.rows a.h c.if-rows-lt4294967296.true (omega arith))
+
 pub returns-then-rows-lt4294967296 : goal.returns-then-rows-lt4294967296
 returns-then-rows-lt4294967296 c = let a = (c).args in scales a.rows a.h c.if-rows-lt4294967296.true (omega arith)
 

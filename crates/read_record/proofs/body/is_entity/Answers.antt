@@ -8,10 +8,12 @@ use Rattle.read_record.specs.Bodies.{is_entity_at}
 use Rattle.read_record.proofs.Values.{entity_short, entity_at}
 use Rattle.read_record.proofs.body.is_entity.Goals as goal
 
--- TODO need overflow-cast-at is not asked: let s = c.before.before.before.before in omega (arith, c.shared-slice-known3.given s.args.n)
 pub returns-then-offsets-i : goal.returns-then-offsets-i
 unfolding is_entity_at
 returns-then-offsets-i c = rw (le-ltb _ _ c.if-offsets-i.true)
+
+pub overflow_cast-at : goal.overflow_cast-at
+overflow_cast-at c = omega (arith, c.type_inv.offsets c.args.n)
 
 pub returns-then-left-lt2 : goal.returns-then-left-lt2
 unfolding is_entity_at

@@ -6,8 +6,9 @@ use Rattle.script_spec.specs.Command.{line, spelled}
 use Rattle.write_bytes.proofs.Laws.{from_start, line_past, line_some}
 use Rattle.smtlib_script.proofs.line.check_sat.Goals as goal
 
--- TODO NOTE 5 arguments, 4 goals
--- TODO argument 0 is for no known goal: rw c.if1.true (line_past (line_some _))
+pub returns-then-room-eq0 : goal.returns-then-room-eq0
+returns-then-room-eq0 c = rw c.if-room-eq0.true (line_past (line_some _))
+
 pub returns : goal.returns
 unfolding line spelled bytes
 returns c = from_start c.put_at.ensures

@@ -8,8 +8,9 @@ use Rattle.smtlib_script.specs.Opened.{opened}
 use Rattle.smtlib_script.proofs.Lines.{comment_written}
 use Rattle.smtlib_script.proofs.line.comment.Goals as goal
 
--- TODO NOTE 7 arguments, 6 goals
--- TODO argument 0 is for no known goal: rw c.if1.true (line_past (line_some _))
+pub returns-then-room-eq0 : goal.returns-then-room-eq0
+returns-then-room-eq0 c = rw c.if-room-eq0.true (line_past (line_some _))
+
 pub returns : goal.returns
 unfolding opened bytes
 returns c = comment_written refl c.put_word-a.ensures c.put_comment_text-text.ensures c.put_at.ensures

@@ -7,8 +7,9 @@ use Rattle.smtlib_script.specs.Opened.{opened}
 use Rattle.smtlib_script.proofs.Lines.{line_declare_fun}
 use Rattle.smtlib_script.proofs.line.declare_fun.Goals as goal
 
--- TODO NOTE 13 arguments, 10 goals
--- TODO argument 0 is for no known goal: rw c.if1.true (line_past (line_some _))
+pub returns-then-room-eq0 : goal.returns-then-room-eq0
+returns-then-room-eq0 c = rw c.if-room-eq0.true (line_past (line_some _))
+
 pub returns : goal.returns
 unfolding opened bytes
 returns c = from_start (says (line_declare_fun _ _ _) (c.put_word-a.ensures then (c.put_at-b.ensures then (c.put_at-c.ensures then (c.put_list-d.ensures then (c.put_at-e.ensures then (c.put_at-f.ensures then c.put_at.ensures)))))))

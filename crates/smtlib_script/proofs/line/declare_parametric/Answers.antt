@@ -7,7 +7,6 @@ use Rattle.smtlib_script.specs.Opened.{opened}
 use Rattle.smtlib_script.proofs.Lines.{line_parametric}
 use Rattle.smtlib_script.proofs.line.declare_parametric.Goals as goal
 
--- TODO NOTE 12 arguments, 9 goals
 pub returns : goal.returns
 unfolding opened bytes
 returns c = from_start (says (line_parametric _ _ _ c.requires) (c.put_word-a.ensures then (c.put_at-b.ensures then (c.put_at-c.ensures then (c.put_list-d.ensures then (c.put_at-e.ensures then (c.put_constructors-f.ensures then c.put_at.ensures)))))))

@@ -7,7 +7,6 @@ use Rattle.smtlib_script.specs.Opened.{opened}
 use Rattle.smtlib_script.proofs.Lines.{line_plain}
 use Rattle.smtlib_script.proofs.line.declare_plain.Goals as goal
 
--- TODO NOTE 9 arguments, 7 goals
 pub returns : goal.returns
 unfolding opened bytes
 returns c = from_start (says (line_plain _ _) (c.put_word-a.ensures then (c.put_at-b.ensures then (c.put_at-c.ensures then (c.put_constructors-d.ensures then c.put_at.ensures)))))

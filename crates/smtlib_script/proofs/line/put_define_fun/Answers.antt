@@ -5,7 +5,6 @@ use Rattle.script_spec.specs.Base.{bytes}
 use Rattle.smtlib_script.specs.Opened.{opened}
 use Rattle.smtlib_script.proofs.line.put_define_fun.Goals as goal
 
--- TODO NOTE 4 arguments, 3 goals
 pub returns : goal.returns
 unfolding opened bytes
 returns c = c.put_at.ensures

@@ -5,7 +5,6 @@ use Rattle.script_spec.specs.Base.{bytes}
 use Rattle.smtlib_script.specs.Opened.{opened}
 use Rattle.smtlib_script.proofs.line.put_word.Goals as goal
 
--- TODO NOTE 39 arguments, 32 goals
 pub returns-in-Comment : goal.returns-in-Comment
 unfolding opened bytes
 returns-in-Comment c = rw (c.in-Comment.is) c.put_at.ensures

@@ -9,7 +9,6 @@ use Rattle.smtlib_script.specs.Arguments.{argument}
 use Rattle.smtlib_script.proofs.Lists.{text_at, pair}
 use Rattle.smtlib_script.proofs.list.put_argument.Goals as goal
 
--- TODO NOTE 11 arguments, 9 goals
 pub returns : goal.returns
 unfolding listed bytes
 returns c = says (ap argument (pair (text_at c.args.names.now c.args.i) (text_at c.args.sorts.now c.args.i))) (c.put_at-a.ensures then (c.put_two-b.ensures then c.put_at.ensures))

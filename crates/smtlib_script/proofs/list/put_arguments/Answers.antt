@@ -6,7 +6,6 @@ use Rattle.script_spec.specs.Command.{listed}
 use Rattle.write_bytes.proofs.Laws.{◌then◌}
 use Rattle.smtlib_script.proofs.list.put_arguments.Goals as goal
 
--- TODO NOTE 7 arguments, 5 goals
 pub returns : goal.returns
 unfolding listed bytes
 returns c = c.put_at-a.ensures then (c.put_spaced_arguments-b.ensures then c.put_at.ensures)

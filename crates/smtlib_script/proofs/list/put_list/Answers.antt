@@ -6,7 +6,6 @@ use Rattle.script_spec.specs.Command.{listed, spaced}
 use Rattle.write_bytes.proofs.Laws.{◌then◌}
 use Rattle.smtlib_script.proofs.list.put_list.Goals as goal
 
--- TODO NOTE 8 arguments, 5 goals
 pub returns : goal.returns
 unfolding listed spaced bytes
 returns c = c.put_at-a.ensures then (c.put_joined-b.ensures then c.put_at.ensures)

@@ -16,7 +16,6 @@ use Rattle.smtlib_script.proofs.list.put_spaced_arguments.Goals as goal
 
 -- TODO invariant-loop has 12 parameters, wanted 11: ['l.initial.out', 'l.at', 'l.limit', 'l.names', 'l.sorts', 'l.n', 'l.initial.place', 'l.initial.i', 'l.out', 'l.place', 'l.i']
 -- TODO decreases-loop has 12 parameters, wanted 11: ['l.initial.out', 'l.at', 'l.limit', 'l.names', 'l.sorts', 'l.n', 'l.initial.place', 'l.initial.i', 'l.out', 'l.place', 'l.i']
--- TODO NOTE 15 arguments, 14 goals
 pub returns-then-n-eq0 : goal.returns-then-n-eq0
 returns-then-n-eq0 c = says (arguments_none (c.args.names).now (c.args.sorts).now (omega (arith, c.smaller-n.ensures, c.if-n-eq0.true))) nothing
 

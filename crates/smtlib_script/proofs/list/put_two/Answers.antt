@@ -6,7 +6,6 @@ use Rattle.script_spec.specs.Command.{spaced}
 use Rattle.write_bytes.proofs.Laws.{◌then◌}
 use Rattle.smtlib_script.proofs.list.put_two.Goals as goal
 
--- TODO NOTE 6 arguments, 5 goals
 pub returns : goal.returns
 unfolding spaced joined bytes
 returns c = c.put_at-a.ensures then (c.put_at-b.ensures then c.put_at.ensures)

@@ -5,9 +5,8 @@ use Rattle.walk_names.proofs.Running.{advances_refused}
 use Rattle.walk_new.proofs.Defining.{defines}
 use Rattle.walk_new.proofs.applications.define_comparison.Goals as goal
 
--- TODO Rest-from at After-past_line
 pub returns-then-p-ne0 : goal.returns-then-p-ne0
 returns-then-p-ne0 c = advances_refused c.if-p-ne0.true
 
 pub returns : goal.returns
-returns c = defines c.if-p-ne0.false c.enter-q.ensures c.Rest-from.ensures c.room-room.ensures c.put_comparison-length.ensures c.past_line.ensures
+returns c = defines c.if-p-ne0.false c.enter-q.ensures c.rest_from-from.ensures c.room-room.ensures c.put_comparison-length.ensures c.past_line.ensures

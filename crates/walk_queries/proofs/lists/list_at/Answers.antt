@@ -5,22 +5,23 @@ use native.Mathlib.Omega.{arith}
 use borrow.Author.Rules.{rules}
 use Rattle.walk_queries.proofs.lists.list_at.Goals as goal
 
--- TODO fits2 at After-wide2
--- TODO need overflow-add-set is not asked: let F = c.before.before.before.before.before.before.before.before.before.fits2.ensures c.before.before.before.before.before.before.before.before.if2.true in omega (arith, F.small)
--- TODO need overflow-add-result is not asked: let F = c.before.before.before.before.before.before.before.before.before.before.before.before.fits2.ensures c.before.before.before.before.before.before.before.before.before.before.before.if2.true in o
--- TODO fits2 at After-slice_known4
--- TODO fits2 at After-slice_known5
 pub returns-then-among-lt-ENOUGH : goal.returns-then-among-lt-ENOUGH
 returns-then-among-lt-ENOUGH c = too_few c.no_list.ensures
 
 pub fill_rows-requires : goal.fill_rows-requires
-fill_rows-requires c = let F = c.fits2.ensures c.if-fits.true in omega (arith, F.room, (c.wide.ensures).0, (c.wide-then-fits.ensures).0)
+fill_rows-requires c = let F = c.fits.ensures c.if-fits.true in omega (arith, F.room, (c.wide.ensures).0, (c.wide-then-fits.ensures).0)
+
+pub overflow_add-next : goal.overflow_add-next
+overflow_add-next c = let F = c.fits.ensures c.if-fits.true in omega (arith, F.small)
+
+pub overflow_add-result : goal.overflow_add-result
+overflow_add-result c = let F = c.fits.ensures c.if-fits.true in omega (arith, F.small)
 
 pub returns-then-fill_rows : goal.returns-then-fill_rows
-returns-then-fill_rows c = list_made c.fits2.ensures c.if-fits.true (c.wide.ensures).0 (c.wide-then-fits.ensures).0 c.fill_rows.ensures c.rows_of-rows.ensures c.if-fill_rows.true c.set.ensures
+returns-then-fill_rows c = list_made c.fits.ensures c.if-fits.true (c.wide.ensures).0 (c.wide-then-fits.ensures).0 c.fill_rows.ensures c.rows_of-rows.ensures c.if-fill_rows.true c.set.ensures
 
 pub returns-then-fits : goal.returns-then-fits
-returns-then-fits c = not_filled c.fits2.ensures c.if-fits.true (c.wide.ensures).0 (c.wide-then-fits.ensures).0 c.fill_rows.ensures c.no_list-then-fits.ensures
+returns-then-fits c = not_filled c.fits.ensures c.if-fits.true (c.wide.ensures).0 (c.wide-then-fits.ensures).0 c.fill_rows.ensures c.no_list-then-fits.ensures
 
 pub returns : goal.returns
 returns c = too_few c.no_list-2.ensures

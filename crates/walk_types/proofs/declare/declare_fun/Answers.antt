@@ -5,9 +5,8 @@ use Rattle.walk_types.proofs.Entering.{declares_fun}
 use borrow.Author.Rules.{rules}
 use Rattle.walk_types.proofs.declare.declare_fun.Goals as goal
 
--- TODO Rest-from at After-past_line
 pub returns-then-p-ne0 : goal.returns-then-p-ne0
 returns-then-p-ne0 c = advances_refused c.if-p-ne0.true
 
 pub returns : goal.returns
-returns c = declares_fun _ c.if-p-ne0.false _ (c.wide.ensures).0 c.more-name.ensures c.set.ensures c.named-q.ensures c.Rest-from.ensures c.room-room.ensures c.put_fun_declaration-length.ensures c.past_line.ensures
+returns c = declares_fun _ c.if-p-ne0.false _ (c.wide.ensures).0 c.more-name.ensures c.set.ensures c.named-q.ensures c.rest_from-from.ensures c.room-room.ensures c.put_fun_declaration-length.ensures c.past_line.ensures

@@ -6,12 +6,11 @@ use Rattle.walk_types.proofs.Entering.{passes_type, declares_type}
 use borrow.Author.Rules.{rules}
 use Rattle.walk_types.proofs.declare.declare_type.Goals as goal
 
--- TODO Rest-from at After-past_line
 pub returns-then-p-ne0 : goal.returns-then-p-ne0
 returns-then-p-ne0 c = advances_refused c.if-p-ne0.true
 
 pub returns-then-not-is_datatype : goal.returns-then-not-is_datatype
-returns-then-not-is_datatype c = passes_type c.is_datatype.ensures c.if-p-ne0.false (not-true _ c.if-not-is_datatype.true)
+returns-then-not-is_datatype c = passes_type c.is_datatype.ensures c.if-p-ne0.false c.if-not-is_datatype.true
 
 pub returns : goal.returns
-returns c = declares_type c.is_datatype.ensures c.if-p-ne0.false _ (c.wide.ensures).0 (not-false _ c.if-not-is_datatype.false) c.more-name.ensures c.set.ensures c.named-q.ensures c.Rest-from.ensures c.room-room.ensures c.put_type_lines-length.ensures c.past_line.ensures
+returns c = declares_type c.is_datatype.ensures c.if-p-ne0.false _ (c.wide.ensures).0 c.if-not-is_datatype.false c.more-name.ensures c.set.ensures c.named-q.ensures c.rest_from-from.ensures c.room-room.ensures c.put_type_lines-length.ensures c.past_line.ensures

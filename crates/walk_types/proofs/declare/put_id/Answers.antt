@@ -5,9 +5,8 @@ use Rattle.walk_types.proofs.Entering.{writes_id}
 use borrow.Author.Rules.{rules}
 use Rattle.walk_types.proofs.declare.put_id.Goals as goal
 
--- TODO Rest-from at After-past_line
 pub returns-then-p-ne0 : goal.returns-then-p-ne0
 returns-then-p-ne0 c = advances_refused c.if-p-ne0.true
 
 pub returns : goal.returns
-returns c = writes_id _ c.if-p-ne0.false c.Rest-from.ensures c.room-room.ensures c.put_fun_comment-length.ensures c.past_line.ensures
+returns c = writes_id _ c.if-p-ne0.false c.rest_from-from.ensures c.room-room.ensures c.put_fun_comment-length.ensures c.past_line.ensures

@@ -5,7 +5,6 @@ use Rattle.write_atoms.proofs.QueryLaws.{call_false, call_named}
 use borrow.Author.Rules.{rules}
 use Rattle.write_atoms.proofs.atoms.put_call.Goals as goal
 
--- TODO NOTE 9 arguments, 8 goals
 pub returns-in-Falsehood : goal.returns-in-Falsehood
 unfolding bytes
 returns-in-Falsehood c = call_false c.negation_of.ensures c.in-Falsehood.is c.put_at.ensures

@@ -5,10 +5,15 @@ use Rattle.write_atoms.proofs.QueryLaws.{entity_past, entity_by_name, entity_str
 use borrow.Author.Rules.{rules}
 use Rattle.write_atoms.proofs.atoms.put_entity.Goals as goal
 
--- TODO NOTE 14 arguments, 13 goals
--- TODO argument 1 is for no known goal: entity_past c.before.is-past.ensures c.if1.true
--- TODO argument 10 is for no known goal: entity_by_name c.before.before.before.before.before.before.find-member.ensures c.before.before.before.before.enum_told.given.1 c.before.before.put-term-name.ensures
--- TODO argument 11 is for no known goal: entity_stranger c.before.before.find-member.ensures c.enum-told2.given.1
+pub returns-then-is_past : goal.returns-then-is_past
+returns-then-is_past c = entity_past c.is_past.ensures c.if-is_past.true
+
+pub returns-in-NoEnum : goal.returns-in-NoEnum
+returns-in-NoEnum c = entity_by_name c.find_member.ensures c.in-NoEnum.is c.put_term_name.ensures
+
+pub returns-in-NotMember : goal.returns-in-NotMember
+returns-in-NotMember c = entity_stranger c.find_member.ensures c.in-NotMember.is
+
 pub returns-in-At : goal.returns-in-At
 unfolding bytes
 returns-in-At c = entity_member c.find_member.ensures c.in-At.is c.put_numbered.ensures

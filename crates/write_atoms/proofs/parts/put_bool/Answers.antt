@@ -6,7 +6,6 @@ use Rattle.write_atoms.specs.Parts.{truth}
 use borrow.Author.Rules.{rules}
 use Rattle.write_atoms.proofs.parts.put_bool.Goals as goal
 
--- TODO NOTE 8 arguments, 6 goals
 pub returns-then-b : goal.returns-then-b
 unfolding bytes truth
 returns-then-b c = says (rw c.if-b.true) c.put_at.ensures

@@ -9,7 +9,6 @@ use Rattle.write_atoms.proofs.SymbolLaws.{symbol_is, symbol_later}
 use borrow.Author.Rules.{rules}
 use Rattle.write_atoms.proofs.symbols.put_bvsdiv_to_bvsrem.Goals as goal
 
--- TODO NOTE 38 arguments, 31 goals
 pub returns-in-Bvsdiv : goal.returns-in-Bvsdiv
 unfolding bytes symbol_of symbol op_of plain_name
 returns-in-Bvsdiv c = symbol_is (rw c.in-Bvsdiv.is) c.put_at.ensures

@@ -9,7 +9,6 @@ use Rattle.write_atoms.proofs.SymbolLaws.{symbol_is, symbol_later}
 use borrow.Author.Rules.{rules}
 use Rattle.write_atoms.proofs.symbols.put_bvssubo_to_eq.Goals as goal
 
--- TODO NOTE 38 arguments, 31 goals
 pub returns-in-Bvssubo : goal.returns-in-Bvssubo
 unfolding bytes symbol_of symbol op_of plain_name
 returns-in-Bvssubo c = symbol_is (rw c.in-Bvssubo.is) c.put_at.ensures

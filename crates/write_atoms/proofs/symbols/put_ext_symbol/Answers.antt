@@ -7,7 +7,6 @@ use Rattle.read_operator.specs.Operators.{ext_of}
 use borrow.Author.Rules.{rules}
 use Rattle.write_atoms.proofs.symbols.put_ext_symbol.Goals as goal
 
--- TODO NOTE 50 arguments, 40 goals
 pub returns-in-DatetimeOfBitVec : goal.returns-in-DatetimeOfBitVec
 unfolding bytes ext_op_name ext_of
 returns-in-DatetimeOfBitVec c = says (rw c.in-DatetimeOfBitVec.is) c.put_at.ensures

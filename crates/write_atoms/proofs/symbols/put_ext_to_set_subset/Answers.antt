@@ -8,7 +8,6 @@ use Rattle.write_atoms.proofs.SymbolLaws.{symbol_is, symbol_none}
 use borrow.Author.Rules.{rules}
 use Rattle.write_atoms.proofs.symbols.put_ext_to_set_subset.Goals as goal
 
--- TODO NOTE 40 arguments, 33 goals
 pub returns-in-Ext : goal.returns-in-Ext
 unfolding bytes symbol_of symbol op_of plain_name
 returns-in-Ext c = symbol_is (rw c.in-Ext.is) c.put_ext_symbol.ensures

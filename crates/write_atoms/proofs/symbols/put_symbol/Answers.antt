@@ -11,7 +11,6 @@ use native.Mathlib.Omega.{arith}
 use borrow.Author.Rules.{rules}
 use Rattle.write_atoms.proofs.symbols.put_symbol.Goals as goal
 
--- TODO NOTE 38 arguments, 31 goals
 pub returns-in-And : goal.returns-in-And
 unfolding bytes symbol_of symbol op_of plain_name
 returns-in-And c = says (rw c.in-And.is) c.put_at.ensures

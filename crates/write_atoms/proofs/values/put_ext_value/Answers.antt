@@ -7,7 +7,6 @@ use Rattle.write_atoms.proofs.ValueLaws.{decimal_pieces, datetime_pieces, durati
 use borrow.Author.Rules.{rules}
 use Rattle.write_atoms.proofs.values.put_ext_value.Goals as goal
 
--- TODO NOTE 23 arguments, 20 goals
 pub returns-in-V4 : goal.returns-in-V4
 unfolding bytes value_of
 returns-in-V4 c = says (rw c.in-V4.is) c.put_v4.ensures

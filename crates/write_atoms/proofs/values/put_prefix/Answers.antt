@@ -6,7 +6,6 @@ use Rattle.write_atoms.proofs.ValueLaws.{prefix_none, prefix_some}
 use borrow.Author.Rules.{rules}
 use Rattle.write_atoms.proofs.values.put_prefix.Goals as goal
 
--- TODO NOTE 13 arguments, 10 goals
 pub returns-then-p-eq-NO_PREFIX : goal.returns-then-p-eq-NO_PREFIX
 unfolding bytes
 returns-then-p-eq-NO_PREFIX c = says (prefix_none _ _ c.if-p-eq-NO_PREFIX.true) (c.put_at-a.ensures then c.put_bitvec_sort-b.ensures then c.put_at.ensures)

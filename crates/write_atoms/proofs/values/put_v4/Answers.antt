@@ -6,7 +6,6 @@ use Rattle.write_atoms.proofs.ValueLaws.{v4_pieces}
 use borrow.Author.Rules.{rules}
 use Rattle.write_atoms.proofs.values.put_v4.Goals as goal
 
--- TODO NOTE 8 arguments, 7 goals
 pub returns : goal.returns
 unfolding bytes
 returns c = says (v4_pieces _ _) (c.put_at-a.ensures then c.put_bitvec-b.ensures then c.put_byte-c.ensures then c.put_prefix-d.ensures then c.put_byte.ensures)

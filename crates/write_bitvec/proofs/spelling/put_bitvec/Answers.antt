@@ -6,7 +6,6 @@ use Rattle.write_bytes.proofs.Laws.{◌then◌, says}
 use Rattle.write_bitvec.proofs.Spellings.{bit_vec_pieces}
 use Rattle.write_bitvec.proofs.spelling.put_bitvec.Goals as goal
 
--- TODO NOTE 8 arguments, 7 goals
 pub returns : goal.returns
 unfolding bytes
 returns c = says (bit_vec_pieces _ _) (c.put_at-a.ensures then c.put_decimal128-b.ensures then c.put_byte-c.ensures then c.put_decimal-d.ensures then c.put_byte.ensures)

@@ -5,7 +5,6 @@ use Rattle.write_terms.proofs.ApplicationLaws.{spells_comparison}
 use borrow.Author.Rules.{rules}
 use Rattle.write_terms.proofs.applications.put_comparison.Goals as goal
 
--- TODO NOTE 8 arguments, 7 goals
 pub returns : goal.returns
 unfolding bytes
 returns c = spells_comparison _ c.put_at-a.ensures c.put_arguments-b.ensures c.put_byte-d.ensures c.put_int_min-e.ensures c.put_byte.ensures

@@ -7,9 +7,12 @@ use native.Mathlib.Omega.{arith}
 use borrow.Author.Rules.{rules}
 use Rattle.write_terms.proofs.applications.put_selector.Goals as goal
 
--- TODO NOTE 14 arguments, 13 goals
--- TODO argument 0 is for no known goal: selector_none c.if1.true
--- TODO argument 2 is for no known goal: selector_past c.before.is-past.ensures c.if2.true
+pub returns-then-c-eq0 : goal.returns-then-c-eq0
+returns-then-c-eq0 c = selector_none c.if-c-eq0.true
+
+pub returns-then-is_past : goal.returns-then-is_past
+returns-then-is_past c = selector_past c.is_past.ensures c.if-is_past.true
+
 pub returns-in-At : goal.returns-in-At
 unfolding bytes
 returns-in-At c = selector_of _ c.part_of-name.ensures (selector_at (omega (arith, c.if-c-eq0.false)) c.take_child-child.ensures (c.get-t.ensures ∙ (rw (c.wide-number.ensures).0)) c.index_of_attr.ensures c.in-At.is c.put_numbered.ensures)

@@ -6,7 +6,6 @@ use Rattle.write_terms.proofs.HeadLaws.{zero_extend_pieces}
 use borrow.Author.Rules.{rules}
 use Rattle.write_terms.proofs.applications.put_zero_extend.Goals as goal
 
--- TODO NOTE 6 arguments, 5 goals
 pub returns : goal.returns
 unfolding bytes
 returns c = says (zero_extend_pieces _) (c.put_at-a.ensures then c.put_decimal-b.ensures then c.put_byte.ensures)

@@ -5,7 +5,6 @@ use Rattle.write_terms.proofs.ArgumentLaws.{closed_none, closed_some}
 use borrow.Author.Rules.{rules}
 use Rattle.write_terms.proofs.arguments.put_closed.Goals as goal
 
--- TODO NOTE 8 arguments, 7 goals
 pub returns-then-c-eq0 : goal.returns-then-c-eq0
 unfolding bytes
 returns-then-c-eq0 c = closed_none c.if-c-eq0.true c.put_at.ensures

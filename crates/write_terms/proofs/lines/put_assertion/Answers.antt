@@ -6,8 +6,9 @@ use Rattle.write_terms.proofs.LineLaws.{assertion_past, spells_assertion}
 use borrow.Author.Rules.{rules}
 use Rattle.write_terms.proofs.lines.put_assertion.Goals as goal
 
--- TODO NOTE 7 arguments, 6 goals
--- TODO argument 0 is for no known goal: assertion_past c.if1.true
+pub returns-then-room-eq0 : goal.returns-then-room-eq0
+returns-then-room-eq0 c = assertion_past c.if-room-eq0.true
+
 pub returns : goal.returns
 unfolding bytes opened
 returns c = spells_assertion c.put_word-a.ensures c.put_atom-b.ensures c.put_at.ensures

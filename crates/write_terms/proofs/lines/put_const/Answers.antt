@@ -6,8 +6,9 @@ use Rattle.write_terms.proofs.LineLaws.{spells_const, const_past}
 use borrow.Author.Rules.{rules}
 use Rattle.write_terms.proofs.lines.put_const.Goals as goal
 
--- TODO NOTE 9 arguments, 8 goals
--- TODO argument 0 is for no known goal: const_past c.if1.true
+pub returns-then-room-eq0 : goal.returns-then-room-eq0
+returns-then-room-eq0 c = const_past c.if-room-eq0.true
+
 pub returns : goal.returns
 unfolding bytes opened
 returns c = spells_const c.put_word-a.ensures c.put_term_name-b.ensures c.put_byte-c.ensures c.put_term_sort-d.ensures c.put_at.ensures

@@ -4,7 +4,6 @@ use Rattle.script_spec.specs.Base.{bytes}
 use borrow.Author.Rules.{rules}
 use Rattle.write_terms.proofs.lines.put_end.Goals as goal
 
--- TODO NOTE 4 arguments, 3 goals
 pub returns : goal.returns
 unfolding bytes
 returns c = c.put_at.ensures

@@ -6,7 +6,6 @@ use Rattle.write_terms.proofs.LineLaws.{spells_head}
 use borrow.Author.Rules.{rules}
 use Rattle.write_terms.proofs.lines.put_head.Goals as goal
 
--- TODO NOTE 8 arguments, 7 goals
 pub returns : goal.returns
 unfolding bytes opened
 returns c = spells_head c.put_define_fun-a.ensures c.put_term_name-b.ensures c.put_at-c.ensures c.put_term_sort-d.ensures c.put_byte.ensures

@@ -4,7 +4,5 @@ use Rattle.write_terms.proofs.LineLaws.{spells_named}
 use borrow.Author.Rules.{rules}
 use Rattle.write_terms.proofs.lines.put_named.Goals as goal
 
--- TODO Rest-from at After-past_line
--- TODO put_Const at After-past_line
 pub returns : goal.returns
-returns c = spells_named c.put_id-at.ensures c.Rest-from.ensures c.room-left.ensures c.put_Const.ensures c.past_line.ensures
+returns c = spells_named c.put_id-at.ensures c.rest_from-from.ensures c.room-left.ensures c.put_const-length.ensures c.past_line.ensures

@@ -5,7 +5,6 @@ use Rattle.write_terms.proofs.ValueLaws.{spells_constant}
 use borrow.Author.Rules.{rules}
 use Rattle.write_terms.proofs.values.put_constant.Goals as goal
 
--- TODO NOTE 8 arguments, 7 goals
 pub returns : goal.returns
 unfolding bytes
 returns c = spells_constant c.put_at-a.ensures c.put_at-b.ensures c.put_byte-c.ensures c.put_term_sort-d.ensures c.put_byte.ensures

@@ -5,7 +5,6 @@ use Rattle.write_terms.proofs.ValueLaws.{set_none, spells_set}
 use borrow.Author.Rules.{rules}
 use Rattle.write_terms.proofs.values.put_set.Goals as goal
 
--- TODO NOTE 13 arguments, 10 goals
 pub returns-then-c-eq0 : goal.returns-then-c-eq0
 unfolding bytes
 returns-then-c-eq0 c = set_none c.if-c-eq0.true c.put_constant.ensures

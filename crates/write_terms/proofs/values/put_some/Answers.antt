@@ -5,7 +5,6 @@ use Rattle.write_terms.proofs.ValueLaws.{spells_some}
 use borrow.Author.Rules.{rules}
 use Rattle.write_terms.proofs.values.put_some.Goals as goal
 
--- TODO NOTE 6 arguments, 5 goals
 pub returns : goal.returns
 unfolding bytes
 returns c = spells_some c.put_at-a.ensures c.put_atom-b.ensures c.put_byte.ensures

@@ -5,7 +5,6 @@ use Rattle.write_text.proofs.CommentLaws.{◌also◌}
 use borrow.Author.Rules.{rules}
 use Rattle.write_types.proofs.comments.put_next.Goals as goal
 
--- TODO NOTE 5 arguments, 4 goals
 pub returns : goal.returns
 unfolding bytes
 returns c = c.put_comment_text-text.ensures also c.put_comment_text.ensures

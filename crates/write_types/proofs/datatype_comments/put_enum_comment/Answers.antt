@@ -10,7 +10,6 @@ use Rattle.write_text.proofs.CommentLaws.{◌also◌}
 use borrow.Author.Rules.{rules}
 use Rattle.write_types.proofs.datatype_comments.put_enum_comment.Goals as goal
 
--- TODO NOTE 11 arguments, 9 goals
 pub returns-then-room-eq0 : goal.returns-then-room-eq0
 returns-then-room-eq0 c = rw c.if-room-eq0.true (line_past (line_some _))
 

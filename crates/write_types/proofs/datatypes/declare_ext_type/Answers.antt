@@ -7,7 +7,6 @@ use Rattle.write_types.proofs.MemberLaws.{datatype_pieces}
 use borrow.Author.Rules.{rules}
 use Rattle.write_types.proofs.datatypes.declare_ext_type.Goals as goal
 
--- TODO NOTE 7 arguments, 6 goals
 pub returns-then-room-eq0 : goal.returns-then-room-eq0
 returns-then-room-eq0 c = rw c.if-room-eq0.true (line_past (line_some _))
 

@@ -9,7 +9,6 @@ use Rattle.write_types.proofs.MemberLaws.{entity_pieces}
 use borrow.Author.Rules.{rules}
 use Rattle.write_types.proofs.datatypes.put_entity_declaration.Goals as goal
 
--- TODO NOTE 13 arguments, 10 goals
 pub returns-then-room-eq0 : goal.returns-then-room-eq0
 returns-then-room-eq0 c = rw c.if-room-eq0.true (line_past (line_some _))
 

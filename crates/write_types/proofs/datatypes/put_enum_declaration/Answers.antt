@@ -7,8 +7,9 @@ use Rattle.write_types.proofs.MemberLaws.{spells_enum, enum_past}
 use borrow.Author.Rules.{rules}
 use Rattle.write_types.proofs.datatypes.put_enum_declaration.Goals as goal
 
--- TODO NOTE 10 arguments, 8 goals
--- TODO argument 0 is for no known goal: enum_past c.if1.true
+pub returns-then-room-eq0 : goal.returns-then-room-eq0
+returns-then-room-eq0 c = enum_past c.if-room-eq0.true
+
 pub returns : goal.returns
 unfolding bytes entity_symbol opened
 returns c = spells_enum c.put_word-a.ensures c.put_name-b.ensures c.put_at-c.ensures c.put_lines-d.ensures c.put_at.ensures

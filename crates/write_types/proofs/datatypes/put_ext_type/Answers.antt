@@ -8,7 +8,6 @@ use Rattle.index_entry.specs.Types.{ext_type_said}
 use borrow.Author.Rules.{rules}
 use Rattle.write_types.proofs.datatypes.put_ext_type.Goals as goal
 
--- TODO NOTE 20 arguments, 16 goals
 pub returns-in-IPAddr : goal.returns-in-IPAddr
 unfolding bytes joined spaced constructor_list ext_name ext_constructors ext_type_said
 returns-in-IPAddr c = says (rw c.in-IPAddr.is) c.put_at.ensures

@@ -5,7 +5,6 @@ use Rattle.write_types.proofs.MemberLaws.{lines_none, lines_some}
 use borrow.Author.Rules.{rules}
 use Rattle.write_types.proofs.datatypes.put_lines.Goals as goal
 
--- TODO NOTE 7 arguments, 6 goals
 pub returns-then-n-eq0 : goal.returns-then-n-eq0
 unfolding bytes
 returns-then-n-eq0 c = lines_none c.if-n-eq0.true c.put_at.ensures

@@ -7,7 +7,6 @@ use Rattle.write_types.proofs.MemberLaws.{member_pieces}
 use borrow.Author.Rules.{rules}
 use Rattle.write_types.proofs.datatypes.put_member.Goals as goal
 
--- TODO NOTE 9 arguments, 7 goals
 pub returns : goal.returns
 unfolding bytes entity_symbol
 returns c = says (member_pieces _ _) (c.put_at-a.ensures then c.put_name-b.ensures then c.put_at-c.ensures then c.put_decimal-d.ensures then c.put_byte.ensures)

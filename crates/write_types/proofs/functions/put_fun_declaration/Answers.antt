@@ -7,8 +7,9 @@ use Rattle.write_types.proofs.FunctionLaws.{spells_fun, fun_past}
 use borrow.Author.Rules.{rules}
 use Rattle.write_types.proofs.functions.put_fun_declaration.Goals as goal
 
--- TODO NOTE 15 arguments, 12 goals
--- TODO argument 0 is for no known goal: fun_past c.if1.true
+pub returns-then-room-eq0 : goal.returns-then-room-eq0
+returns-then-room-eq0 c = fun_past c.if-room-eq0.true
+
 pub shape_of-rest : goal.shape_of-rest
 shape_of-rest c = (c.put_at.auto).0 ∙ (c.put_sort-f.auto).1.1.1.0 ∙ (c.put_at-e.auto).0 ∙ (c.put_sort-d.auto).1.1.1.0 ∙ (c.put_at-c.auto).0 ∙ (c.put_name-b.auto).0 ∙ (c.put_word-a.auto).0
 

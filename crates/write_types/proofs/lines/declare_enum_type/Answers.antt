@@ -5,6 +5,5 @@ use Rattle.write_types.proofs.LineLaws.{enum_lines}
 use borrow.Author.Rules.{rules}
 use Rattle.write_types.proofs.lines.declare_enum_type.Goals as goal
 
--- TODO Rest-from at After-past_line
 pub returns : goal.returns
-returns c = enum_lines (c.get-offset.ensures ∙ (rw (c.wide.ensures).0)) c.enum_at-e.ensures c.body_at-body.ensures c.put_enum_comment-at.ensures c.Rest-from.ensures c.room-left.ensures c.put_enum_declaration-length.ensures c.past_line.ensures
+returns c = enum_lines (c.get-offset.ensures ∙ (rw (c.wide.ensures).0)) c.enum_at-e.ensures c.body_at-body.ensures c.put_enum_comment-at.ensures c.rest_from-from.ensures c.room-left.ensures c.put_enum_declaration-length.ensures c.past_line.ensures

@@ -4,6 +4,5 @@ use Rattle.write_types.proofs.LineLaws.{record_lines_are}
 use borrow.Author.Rules.{rules}
 use Rattle.write_types.proofs.lines.declare_record_type.Goals as goal
 
--- TODO Rest-from at After-past_line
 pub returns : goal.returns
-returns c = record_lines_are c.put_record_comment-at.ensures c.Rest-from.ensures c.room-left.ensures c.put_record_declaration-length.ensures c.past_line.ensures
+returns c = record_lines_are c.put_record_comment-at.ensures c.rest_from-from.ensures c.room-left.ensures c.put_record_declaration-length.ensures c.past_line.ensures

@@ -9,7 +9,6 @@ use Rattle.write_text.proofs.CommentLaws.{◌also◌}
 use borrow.Author.Rules.{rules}
 use Rattle.write_types.proofs.records.put_record_comment.Goals as goal
 
--- TODO NOTE 10 arguments, 8 goals
 pub returns-then-room-eq0 : goal.returns-then-room-eq0
 returns-then-room-eq0 c = rw c.if-room-eq0.true (line_past (line_some _))
 

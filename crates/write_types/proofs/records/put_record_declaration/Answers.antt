@@ -7,8 +7,9 @@ use Rattle.write_types.proofs.RecordLaws.{spells_record, record_past}
 use borrow.Author.Rules.{rules}
 use Rattle.write_types.proofs.records.put_record_declaration.Goals as goal
 
--- TODO NOTE 11 arguments, 9 goals
--- TODO argument 0 is for no known goal: record_past c.if1.true
+pub returns-then-room-eq0 : goal.returns-then-room-eq0
+returns-then-room-eq0 c = record_past c.if-room-eq0.true
+
 pub returns : goal.returns
 unfolding bytes record_name opened
 returns c = spells_record c.put_word-a.ensures c.put_name-b.ensures c.put_at-c.ensures c.put_name-d.ensures c.put_spaced_parts-e.ensures c.put_at.ensures

@@ -7,7 +7,6 @@ use Rattle.write_types.specs.Records.{record_name}
 use borrow.Author.Rules.{rules}
 use Rattle.write_types.proofs.records.put_selector.Goals as goal
 
--- TODO NOTE 8 arguments, 6 goals
 pub returns : goal.returns
 unfolding bytes attribute_name record_name
 returns c = c.put_at-a.ensures then c.put_name-b.ensures then c.put_at-c.ensures then c.put_decimal.ensures

@@ -7,7 +7,6 @@ use Rattle.index_entry.specs.Types.{ext_type_said}
 use borrow.Author.Rules.{rules}
 use Rattle.write_types.proofs.sorts.put_ext_name.Goals as goal
 
--- TODO NOTE 20 arguments, 16 goals
 pub returns-in-IPAddr : goal.returns-in-IPAddr
 unfolding bytes ext_name ext_type_said
 returns-in-IPAddr c = says (rw c.in-IPAddr.is) c.put_at.ensures

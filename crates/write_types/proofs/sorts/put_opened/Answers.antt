@@ -6,7 +6,6 @@ use Rattle.write_types.specs.Sorts.{opened_part}
 use borrow.Author.Rules.{rules}
 use Rattle.write_types.proofs.sorts.put_opened.Goals as goal
 
--- TODO NOTE 8 arguments, 6 goals
 pub returns-then-set : goal.returns-then-set
 unfolding bytes opened_part
 returns-then-set c = says (rw c.if-set.true) c.put_at.ensures

@@ -6,7 +6,6 @@ use Rattle.write_types.specs.Sorts.{plain_sort}
 use borrow.Author.Rules.{rules}
 use Rattle.write_types.proofs.sorts.put_plain_sort.Goals as goal
 
--- TODO NOTE 31 arguments, 30 goals
 pub returns-in-Bool : goal.returns-in-Bool
 unfolding bytes plain_sort
 returns-in-Bool c = says (rw c.in-Bool.is) c.put_truth.ensures

@@ -8,11 +8,13 @@ use Rattle.index_compare.specs.Machine.{remaining, ahead}
 use Rattle.index_compare.proofs.Steps.{word_value, word_short, word_fits, reference_short, reference_at}
 use Rattle.index_compare.proofs.segments.Walk.reference.Goals as goal
 
--- TODO need overflow-add-self is not asked: let s = c.before.before.before.before.before in
---     let read_word = c.before.before.before.read_word in
---     omega (arith, word_fits s.args.self.at s.args.body.now (word_value (drop s.args.self.at s.ar
 pub returns-in_default : goal.returns-in_default
 returns-in_default c = reference_short _ _ _ (word_short (drop c.args.self.at c.args.body.now) c.read_word.result c.read_word.ensures c.in_default.is)
+
+pub overflow_add-self : goal.overflow_add-self
+overflow_add-self c =
+    let read_word = c.read_word in
+    omega (arith, word_fits c.args.self.at c.args.body.now (word_value (drop c.args.self.at c.args.body.now) read_word.result read_word.ensures c.in-Value.is).0)
 
 pub returns-in-TypeKind : goal.returns-in-TypeKind
 unfolding ahead remaining

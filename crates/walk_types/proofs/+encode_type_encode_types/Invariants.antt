@@ -1,0 +1,25 @@
+-- `walk_types::encode_type` and `walk_types::encode_types` meet their contracts: by recursion on the number, which falls from a type to its
+-- parts. The loop's invariant: the parts that are left, after those that were encoded, make all. Assumes nothing.
+use native.Mathlib.Omega.{arith}
+use borrow.Author.Rules.{rules}
+use Prim.Native.Nat.{ℕ, ◌<◌, ◌+◌, ◌*◌}
+use mathlib.Core.Path.{◌≡◌, refl, ◌∙◌}
+use lib.ListN.{length}
+use Rattle.index.specs.Standing.{body_at}
+use Rattle.walk_names.proofs.Running.{advances_refused}
+use Rattle.walk_types.specs.Parts.{parts_in}
+use Rattle.walk_types.proofs.PartLaws.{no_parts_left}
+use Rattle.walk_types.proofs.Walking.{leaves_type, encodes_type, PartsLeft, parts_start, parts_on, parts_end, parts_never}
+use Rattle.walk_types.proofs.+encode_type_encode_types.Given as goal
+
+abbrev pub decreases-encode_type : goal.decreases-encode_type
+decreases-encode_type l = l.t * 2 + 1
+
+abbrev pub decreases-encode_types : goal.decreases-encode_types
+decreases-encode_types l = l.t * 2
+
+abbrev pub encode_types-invariant-loop-left : goal.encode_types-invariant-loop-left
+encode_types-invariant-loop-left l = PartsLeft l.file l.sizes l.t (parts_in (body_at l.file l.offset) l.initial.left) l.initial.work l.initial.out l.initial.q l.work l.out l.q (parts_in (body_at l.file l.offset) l.left) × ((length l.work ≡ length l.initial.work) × (length l.out ≡ length l.initial.out))
+
+abbrev pub encode_types-decreases-loop-left : goal.encode_types-decreases-loop-left
+encode_types-decreases-loop-left l = l.left.left
