@@ -8,4 +8,4 @@ pub returns-in-Refused : goal.returns-in-Refused
 returns-in-Refused c = check_refused _ _ c.fill.ensures (c.in-Refused.is)
 
 pub returns-in-Done : goal.returns-in-Done
-returns-in-Done c = check_accepted _ _ c.fill.ensures (c.in-Done.is) (c.fill.auto).1.0 c.accept.ensures
+returns-in-Done c = check_accepted _ _ c.fill.ensures (c.in-Done.is) c.fill.auto.work c.accept.ensures

@@ -15,22 +15,22 @@ pub returns-then-work-file : goal.returns-then-work-file
 returns-then-work-file c = fills_narrow _ (omega arith) c.if-work-file.true c.refuse-then-work-file.ensures
 
 pub loop-at-init : goal.loop-at-init
-loop-at-init c = going_start _ _ _ c.capacity-rows.ensures (omega arith) (omega (arith, (c.clear_column.auto).0)) c.clear_column.ensures
+loop-at-init c = going_start _ _ _ c.capacity-rows.ensures (omega arith) (omega (arith, c.clear_column.auto.work)) c.clear_column.ensures
 
 pub shape_of-work-in-Bad : goal.shape_of-work-in-Bad
-shape_of-work-in-Bad c = (c.refuse-in-Bad.auto).0 ∙ (c.step.auto).1.0 ∙ (c.loop-at.invariant).same_size ∙ (c.clear_column.auto).0
+shape_of-work-in-Bad c = c.refuse-in-Bad.auto.work ∙ c.step.auto.work ∙ (c.loop-at.invariant).same_size ∙ c.clear_column.auto.work
 
 pub returns-in-Bad : goal.returns-in-Bad
-returns-in-Bad c = going_bad c.loop-at.invariant c.step.ensures _ (sym (c.clear_column.auto).0) c.loop-at-test.true c.in-Bad.is (c.step.auto).1.0 c.next_place.ensures c.refuse-in-Bad.ensures
+returns-in-Bad c = going_bad c.loop-at.invariant c.step.ensures _ (sym c.clear_column.auto.work) c.loop-at-test.true c.in-Bad.is c.step.auto.work c.next_place.ensures c.refuse-in-Bad.ensures
 
 pub loop-at-smaller : goal.loop-at-smaller
 loop-at-smaller c = omega (arith, going_further c.loop-at.invariant c.step.ensures c.in-To.is)
 
 pub loop-at-preserved : goal.loop-at-preserved
-loop-at-preserved c = going_on c.loop-at.invariant c.step.ensures c.in-To.is (c.step.auto).1.0
+loop-at-preserved c = going_on c.loop-at.invariant c.step.ensures c.in-To.is c.step.auto.work
 
 pub shape_of-work : goal.shape_of-work
-shape_of-work c = (c.loop-at.invariant).same_size ∙ (c.clear_column.auto).0
+shape_of-work c = (c.loop-at.invariant).same_size ∙ c.clear_column.auto.work
 
 pub returns : goal.returns
-returns c = going_end c.loop-at.invariant _ (sym (c.clear_column.auto).0) (omega arith)
+returns c = going_end c.loop-at.invariant _ (sym c.clear_column.auto.work) (omega arith)

@@ -39,4 +39,4 @@ unfolding sought_of
 returns-in-XR c = sym (ap sought_of c.in-XR.is)
 
 pub returns-in_default : goal.returns-in_default
-returns-in_default c = sought_none _ c.in_default.keys9
+returns-in_default c = sought_none _ c.in_default.in_default-own.keys9

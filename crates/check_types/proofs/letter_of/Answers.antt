@@ -39,4 +39,4 @@ unfolding type_letter
 returns-in-TR c = sym (ap type_letter c.in-TR.is)
 
 pub returns-in_default : goal.returns-in_default
-returns-in_default c = letter_none _ c.in_default.keys9
+returns-in_default c = letter_none _ c.in_default.in_default-own.keys9

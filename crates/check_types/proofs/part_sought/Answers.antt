@@ -10,4 +10,4 @@ unfolding part_at
 returns-in-TO c = record { go = λ m. c.first_reference.ensures }
 
 pub returns-in_default : goal.returns-in_default
-returns-in_default c = part_none _ c.in_default.keys2
+returns-in_default c = part_none _ c.in_default.in_default-own.keys2

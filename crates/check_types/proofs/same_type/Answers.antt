@@ -31,4 +31,4 @@ pub returns-in-TR : goal.returns-in-TR
 returns-in-TR c = λ W. same_records W c.kind_at.ensures (sym c.letter_of.ensures ∙ c.if-letter_of.false ∙ c.letter_of-2.ensures) (λ i. omega (arith, c.type_inv.file i)) c.in-TR.is c.same_listed_type.ensures
 
 pub returns-in_default : goal.returns-in_default
-returns-in_default c = λ W. no_such W c.kind_at.ensures c.in_default.keys8
+returns-in_default c = λ W. no_such W c.kind_at.ensures c.in_default.in_default-own.keys8

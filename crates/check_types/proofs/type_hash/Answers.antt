@@ -27,4 +27,4 @@ pub returns-in-TR : goal.returns-in-TR
 returns-in-TR c = λ W. record_hashed W (λ i. omega (arith, c.type_inv.file i)) c.in-TR.is c.listed_hash.ensures
 
 pub returns-in_default : goal.returns-in_default
-returns-in_default c = λ W. no_such W c.in_default.keys8
+returns-in_default c = λ W. no_such W c.in_default.in_default-own.keys8

@@ -11,4 +11,4 @@ unfolding part_at
 returns-in-XV c = λ M. reference_sought _ _ _ _ M (λ i. omega (arith, c.type_inv.file i)) c.in-XV.keys1 c.first_reference-first.ensures
 
 pub returns-in_default : goal.returns-in_default
-returns-in_default c = λ M. listed_sought _ _ _ _ M c.in_default.keys2 (c.find.ensures M)
+returns-in_default c = λ M. listed_sought _ _ _ _ M c.in_default.in_default-own.keys2 (c.find.ensures M)

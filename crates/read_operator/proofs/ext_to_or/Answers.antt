@@ -28,4 +28,4 @@ returns-in-24 c = reads_chosen _ 24 c.in-24.is refl (reads_pure _)
 
 pub returns-in_default : goal.returns-in_default
 unfolding op_told op_of operators at plain ext_operator record_get_operand string_like uninterpreted zero_extend
-returns-in_default c = reads_chosen _ 25 (past_last 21 4 _ (c.requires).0 (c.requires).1 c.in_default.rest) refl (reads_pure _)
+returns-in_default c = reads_chosen _ 25 (past_last 21 4 _ (c.requires).0 (c.requires).1 c.in_default.in_default-own.rest) refl (reads_pure _)

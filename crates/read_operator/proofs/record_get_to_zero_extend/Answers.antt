@@ -40,4 +40,4 @@ returns-in-32 c = reads_chosen _ 32 c.in-32.is refl c.zero_extend.ensures
 
 pub returns-in_default : goal.returns-in_default
 unfolding op_told operators
-returns-in_default c = chosen_refused _ _ (past 26 7 _ c.requires c.in_default.rest)
+returns-in_default c = chosen_refused _ _ (past 26 7 _ c.requires c.in_default.in_default-own.rest)

@@ -21,4 +21,4 @@ unfolding operators at uninterpreted
 returns-in-31 c = chosen_again _ 31 (uninterpreted _) c.in-31.is refl c.uuf_again.ensures
 
 pub returns-in_default : goal.returns-in_default
-returns-in_default c = other_again _ _ (c.in_default.rest).1 c.record_get_to_zero_extend.ensures
+returns-in_default c = other_again _ _ (c.in_default.in_default-own.rest).1 c.record_get_to_zero_extend.ensures

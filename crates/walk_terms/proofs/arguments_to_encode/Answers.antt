@@ -12,4 +12,4 @@ pub returns-in-Falsehood : goal.returns-in-Falsehood
 returns-in-Falsehood c = arguments_none c.negation_of.ensures c.in-Falsehood.is refl
 
 pub returns-in_default : goal.returns-in_default
-returns-in_default c = arguments_all c.negation_of.ensures c.in_default.keys2 c.arguments-in_default.ensures
+returns-in_default c = arguments_all c.negation_of.ensures c.in_default.in_default-own.keys2 c.arguments-in_default.ensures

@@ -17,4 +17,4 @@ pub returns-in-82 : goal.returns-in-82
 returns-in-82 c = encode_record (rw (← (c.wide.ensures).0) c.get-offset.ensures) c.letter_at.ensures c.in-82.is c.body_at-in-82.ensures c.record_children.ensures
 
 pub returns-in_default : goal.returns-in_default
-returns-in_default c = let r = c.in_default.rest in encode_leaf (rw (← (c.wide.ensures).0) c.get-offset.ensures) c.letter_at.ensures r.0.0.0.1 r.0.0.1 r.0.1 r.1
+returns-in_default c = let r = c.in_default.in_default-own.rest in encode_leaf (rw (← (c.wide.ensures).0) c.get-offset.ensures) c.letter_at.ensures r.0.0.0.1 r.0.0.1 r.0.1 r.1

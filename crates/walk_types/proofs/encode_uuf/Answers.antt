@@ -13,7 +13,7 @@ pub returns-then-name-ne0 : goal.returns-then-name-ne0
 returns-then-name-ne0 c = leaves_fun _ c.if-p-ne0.false c.fun_name-name.ensures c.if-name-ne0.true
 
 pub shape_of-out : goal.shape_of-out
-shape_of-out c = (c.declare_fun.auto).1.1.1.0 ∙ (c.encode_type-c.auto).1.1.1.0 ∙ (c.encode_type-b.auto).1.1.1.0 ∙ (c.put_id-a.auto).1.1.1.0
+shape_of-out c = c.declare_fun.auto.out ∙ c.encode_type-c.auto.out ∙ c.encode_type-b.auto.out ∙ c.put_id-a.auto.out
 
 pub returns : goal.returns
 returns c = encodes_fun _ c.if-p-ne0.false c.fun_name-name.ensures c.if-name-ne0.false c.fun_at-fun.ensures c.put_id-a.ensures c.encode_type-b.ensures c.encode_type-c.ensures c.declare_fun.ensures

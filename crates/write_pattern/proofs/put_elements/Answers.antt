@@ -31,7 +31,7 @@ pub loop-cursor-preserved : goal.loop-cursor-preserved
 unfolding number_told
 loop-cursor-preserved c =
     let e = element_at (tells (ap number_told c.in-Value.is) c.u32_le.ensures) in
-    (along_step c.loop-cursor.invariant.0 (collect_next _ _ _ e.value) (c.put_byte-place.ensures then c.put_element-place.ensures), c.put_element-place.auto.0 ∙ c.put_byte-place.auto.0 ∙ c.loop-cursor.invariant.1)
+    (along_step c.loop-cursor.invariant.0 (collect_next _ _ _ e.value) (c.put_byte-place.ensures then c.put_element-place.ensures), c.put_element-place.auto.out ∙ c.put_byte-place.auto.out ∙ c.loop-cursor.invariant.1)
 
 pub shape_of-out-in-Bad : goal.shape_of-out-in-Bad
 shape_of-out-in-Bad c = c.loop-cursor.invariant.1

@@ -33,7 +33,7 @@ pub slice_bounds-put_at-end : goal.slice_bounds-put_at-end
 slice_bounds-put_at-end c = omega (arith, c.run_end-to.ensures.start, c.run_end-to.ensures.inside)
 
 pub shape_of-out-then-s-to : goal.shape_of-out-then-s-to
-shape_of-out-then-s-to c = c.put_at-place.auto.0 ∙ c.loop-at.invariant.2
+shape_of-out-then-s-to c = c.put_at-place.auto.out ∙ c.loop-at.invariant.2
 
 pub returns-then-s-to : goal.returns-then-s-to
 returns-then-s-to c = along_end (along_step c.loop-at.invariant.0 (blanked_passed c.run_end-to.ensures) c.put_at-place.ensures) (blanked_end _ _ c.if-s-to.true)
@@ -42,4 +42,4 @@ pub loop-at-smaller : goal.loop-at-smaller
 loop-at-smaller c = omega (arith, c.run_end-to.ensures.start, c.if-s-to.false)
 
 pub loop-at-preserved : goal.loop-at-preserved
-loop-at-preserved c = (along_step (along_step c.loop-at.invariant.0 (blanked_passed c.run_end-to.ensures) c.put_at-place.ensures) (blanked_byte _ _ c.blank.ensures c.if-s-to.false) c.put_byte-place.ensures, omega (arith, c.if-s-to.false), c.put_byte-place.auto.0 ∙ c.put_at-place.auto.0 ∙ c.loop-at.invariant.2)
+loop-at-preserved c = (along_step (along_step c.loop-at.invariant.0 (blanked_passed c.run_end-to.ensures) c.put_at-place.ensures) (blanked_byte _ _ c.blank.ensures c.if-s-to.false) c.put_byte-place.ensures, omega (arith, c.if-s-to.false), c.put_byte-place.auto.out ∙ c.put_at-place.auto.out ∙ c.loop-at.invariant.2)

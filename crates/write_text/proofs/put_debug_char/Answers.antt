@@ -26,4 +26,4 @@ pub returns-in-0 : goal.returns-in-0
 returns-in-0 c = says (debug_letters.5 ∙ sym (ap debug_char c.in-0.is)) c.put_at-in-0.ensures
 
 pub returns-in_default : goal.returns-in_default
-returns-in_default c = let r = c.in_default.rest in says (debug_shown _ r.0.0.0.0.0.1 r.0.0.0.0.1 r.0.0.0.1 r.0.0.1 r.0.1 r.1) c.put_shown.ensures
+returns-in_default c = let r = c.in_default.in_default-own.rest in says (debug_shown _ r.0.0.0.0.0.1 r.0.0.0.0.1 r.0.0.0.1 r.0.0.1 r.0.1 r.1) c.put_shown.ensures

@@ -41,16 +41,16 @@ loop-at-smaller c = let p = next_point c.next.ensures c.in-Point.is in omega (ar
 pub loop-at-preserved : goal.loop-at-preserved
 loop-at-preserved c =
     let p = next_point c.next.ensures c.in-Point.is in
-    (along_step (along_step c.loop-at.invariant.0 (points_passed _ c.run_end-to.ensures) c.put_at-place.ensures) (points_next _ p) c.put_point-place.ensures, p.inside, c.put_point-place.auto.0 ∙ c.put_at-place.auto.0 ∙ c.loop-at.invariant.2)
+    (along_step (along_step c.loop-at.invariant.0 (points_passed _ c.run_end-to.ensures) c.put_at-place.ensures) (points_next _ p) c.put_point-place.ensures, p.inside, c.put_point-place.auto.out ∙ c.put_at-place.auto.out ∙ c.loop-at.invariant.2)
 
 pub shape_of-out-in-Malformed : goal.shape_of-out-in-Malformed
-shape_of-out-in-Malformed c = c.put_at-place.auto.0 ∙ c.loop-at.invariant.2
+shape_of-out-in-Malformed c = c.put_at-place.auto.out ∙ c.loop-at.invariant.2
 
 pub returns-in-Malformed : goal.returns-in-Malformed
 returns-in-Malformed c = along_end (along_step c.loop-at.invariant.0 (points_passed _ c.run_end-to.ensures) c.put_at-place.ensures) (points_none _ _ (next_malformed _ _ c.next.ensures c.in-Malformed.is).1)
 
 pub shape_of-out-in-End : goal.shape_of-out-in-End
-shape_of-out-in-End c = c.put_at-place.auto.0 ∙ c.loop-at.invariant.2
+shape_of-out-in-End c = c.put_at-place.auto.out ∙ c.loop-at.invariant.2
 
 pub returns-in-End : goal.returns-in-End
 returns-in-End c = along_end (along_step c.loop-at.invariant.0 (points_passed _ c.run_end-to.ensures) c.put_at-place.ensures) (points_none _ _ (next_end _ _ c.next.ensures c.in-End.is).1)

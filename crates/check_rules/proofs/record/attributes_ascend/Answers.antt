@@ -8,4 +8,4 @@ pub returns-in-TR : goal.returns-in-TR
 returns-in-TR c = ascends_record _ _ c.kind_at.ensures c.in-TR.is c.body_at.ensures c.list_ascends.ensures
 
 pub returns-in_default : goal.returns-in_default
-returns-in_default c = ascends_other _ _ c.kind_at.ensures c.in_default.keys2
+returns-in_default c = ascends_other _ _ c.kind_at.ensures c.in_default.in_default-own.keys2

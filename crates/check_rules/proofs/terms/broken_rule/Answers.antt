@@ -31,4 +31,4 @@ pub returns-else-byte_at-eq-RECORD_GET : goal.returns-else-byte_at-eq-RECORD_GET
 returns-else-byte_at-eq-RECORD_GET c = leaves (λ M. app_broken _ _ _ _ _ M c.in-XA.is c.if-depth-ne0.false (c.byte_at.ensures ∙ ap (λ (s : List ℕ). get_or s 4 0) c.body_at-in-XA.ensures) c.if-byte_at-eq-RECORD_GET.false)
 
 pub returns-in_default : goal.returns-in_default
-returns-in_default c = leaves (λ M. no_rule _ _ _ _ _ M c.in_default.keys4)
+returns-in_default c = leaves (λ M. no_rule _ _ _ _ _ M c.in_default.in_default-own.keys4)

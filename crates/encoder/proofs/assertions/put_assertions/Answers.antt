@@ -16,7 +16,7 @@ pub returns-then-is_past : goal.returns-then-is_past
 returns-then-is_past c = asserting_past _ _ _ _ c.loop-i.invariant c.is_past.ensures c.if-is_past.true
 
 pub loop-i-preserved : goal.loop-i-preserved
-loop-i-preserved c = asserting_on _ _ _ _ c.loop-i.invariant c.loop-i-test.true c.get-n.ensures c.rest_from-from.ensures c.room-room.ensures c.put_assertion-length.ensures (c.put_assertion-length.auto).1.1.1.0 c.past_line-to.ensures
+loop-i-preserved c = asserting_on _ _ _ _ c.loop-i.invariant c.loop-i-test.true c.get-n.ensures c.rest_from-from.ensures c.room-room.ensures c.put_assertion-length.ensures c.put_assertion-length.auto.rest c.past_line-to.ensures
 
 pub shape_of-out : goal.shape_of-out
 shape_of-out c = c.loop-i.invariant.size

@@ -10,7 +10,7 @@ pub loop-i-init : goal.loop-i-init
 loop-i-init c = encoding_start _ _ _ _ _
 
 pub loop-i-preserved : goal.loop-i-preserved
-loop-i-preserved c = encoding_on _ _ c.loop-i.invariant c.loop-i-test.true c.get-n.ensures c.encode_term-q.ensures (c.encode_term-q.auto).1.1.1.0
+loop-i-preserved c = encoding_on _ _ c.loop-i.invariant c.loop-i-test.true c.get-n.ensures c.encode_term-q.ensures c.encode_term-q.auto.out
 
 pub shape_of-work : goal.shape_of-work
 shape_of-work c = c.loop-i.invariant.kept.size

@@ -24,4 +24,4 @@ returns-in-1 c = truth_known 1 _ (tells (ap number_told c.in-Value.is) c.byte.en
 
 pub returns-in_default : goal.returns-in_default
 unfolding number_told
-returns-in_default c = truth_unknown (tells (ap number_told c.in-Value.is) c.byte.ensures) (past 0 2 _ zero-le c.in_default.rest)
+returns-in_default c = truth_unknown (tells (ap number_told c.in-Value.is) c.byte.ensures) (past 0 2 _ zero-le c.in_default.in_default-own.rest)

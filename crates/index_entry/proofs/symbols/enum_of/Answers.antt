@@ -8,4 +8,4 @@ pub returns-in-EN : goal.returns-in-EN
 returns-in-EN c = enum_is c.in-EN.is c.past_text-end.ensures c.number_at-members.ensures c.past-from.ensures
 
 pub returns-in_default : goal.returns-in_default
-returns-in_default c = no_enums _ c.in_default.keys2
+returns-in_default c = no_enums _ c.in_default.in_default-own.keys2

@@ -8,4 +8,4 @@ pub returns-in-UF : goal.returns-in-UF
 returns-in-UF c = fun_is c.past-next.result c.in-UF.is c.past_text-end.ensures c.number_at-argument.ensures c.past-next.ensures c.number_at-result.ensures
 
 pub returns-in_default : goal.returns-in_default
-returns-in_default c = no_funs _ c.in_default.keys2
+returns-in_default c = no_funs _ c.in_default.in_default-own.keys2

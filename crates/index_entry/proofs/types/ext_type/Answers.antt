@@ -33,4 +33,4 @@ returns-in-3 c = ext_known 3 _ (tells (ap number_told c.in-Value.is) c.byte.ensu
 
 pub returns-in_default : goal.returns-in_default
 unfolding number_told
-returns-in_default c = ext_unknown (tells (ap number_told c.in-Value.is) c.byte.ensures) (past 0 4 _ zero-le c.in_default.rest)
+returns-in_default c = ext_unknown (tells (ap number_told c.in-Value.is) c.byte.ensures) (past 0 4 _ zero-le c.in_default.in_default-own.rest)

@@ -39,4 +39,4 @@ unfolding bytes
 returns-in-82 c = under c.in-82.is (type_record c.number_at-in-82.ensures)
 
 pub returns-in_default : goal.returns-in_default
-returns-in_default c = let r = c.in_default.rest in no_types r.0.0.0.0.0.0.0.1 r.0.0.0.0.0.0.1 r.0.0.0.0.0.1 r.0.0.0.0.1 r.0.0.0.1 r.0.0.1 r.0.1 r.1
+returns-in_default c = let r = c.in_default.in_default-own.rest in no_types r.0.0.0.0.0.0.0.1 r.0.0.0.0.0.0.1 r.0.0.0.0.0.1 r.0.0.0.0.1 r.0.0.0.1 r.0.0.1 r.0.1 r.1

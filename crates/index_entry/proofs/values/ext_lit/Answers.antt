@@ -39,4 +39,4 @@ returns-in-4 c = value_bits 4 DurationV _ (tells (ap number_told c.in-Value.is) 
 
 pub returns-in_default : goal.returns-in_default
 unfolding number_told
-returns-in_default c = value_unknown (tells (ap number_told c.in-Value.is) c.byte.ensures) (past 0 5 _ zero-le c.in_default.rest)
+returns-in_default c = value_unknown (tells (ap number_told c.in-Value.is) c.byte.ensures) (past 0 5 _ zero-le c.in_default.in_default-own.rest)

@@ -11,4 +11,4 @@ unfolding reader_of reader_for mark is_some
 returns-in-Unknown c = record { is = λ e. rw c.in-Unknown.is }
 
 pub returns-in_default : goal.returns-in_default
-returns-in_default c = record { is = known_kind _ c.in_default.keys2 }
+returns-in_default c = record { is = known_kind _ c.in_default.in_default-own.keys2 }

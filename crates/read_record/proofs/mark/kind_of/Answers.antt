@@ -39,4 +39,4 @@ returns-in_default-b-3 c = record { is = unmarked _ (simp (c.in-73.is, ne_eqb _ 
 
 pub returns-in_default : goal.returns-in_default
 unfolding MarkedAs mark names any same bytes
-returns-in_default c = record { is = unmarked _ (simp (ne_eqb _ _ (c.in_default.rest.0.0.0.0.1), ne_eqb _ _ (c.in_default.rest.0.0.0.1), ne_eqb _ _ (c.in_default.rest.0.0.1), ne_eqb _ _ (c.in_default.rest.0.1), ne_eqb _ _ (c.in_default.rest.1))) }
+returns-in_default c = record { is = unmarked _ (simp (ne_eqb _ _ (c.in_default.in_default-own.rest.0.0.0.0.1), ne_eqb _ _ (c.in_default.in_default-own.rest.0.0.0.1), ne_eqb _ _ (c.in_default.in_default-own.rest.0.0.1), ne_eqb _ _ (c.in_default.in_default-own.rest.0.1), ne_eqb _ _ (c.in_default.in_default-own.rest.1))) }

@@ -40,4 +40,4 @@ returns-in-82 c = record { is = rw c.in-82.is }
 
 pub returns-in_default : goal.returns-in_default
 unfolding MarkedAs mark names any same bytes
-returns-in_default c = record { is = unmarked _ (simp (ne_eqb _ _ (c.in_default.rest.0.0.0.0.0.0.0.1), ne_eqb _ _ (c.in_default.rest.0.0.0.0.0.0.1), ne_eqb _ _ (c.in_default.rest.0.0.0.0.0.1), ne_eqb _ _ (c.in_default.rest.0.0.0.0.1), ne_eqb _ _ (c.in_default.rest.0.0.0.1), ne_eqb _ _ (c.in_default.rest.0.0.1), ne_eqb _ _ (c.in_default.rest.0.1), ne_eqb _ _ (c.in_default.rest.1))) }
+returns-in_default c = record { is = unmarked _ (simp (ne_eqb _ _ (c.in_default.in_default-own.rest.0.0.0.0.0.0.0.1), ne_eqb _ _ (c.in_default.in_default-own.rest.0.0.0.0.0.0.1), ne_eqb _ _ (c.in_default.in_default-own.rest.0.0.0.0.0.1), ne_eqb _ _ (c.in_default.in_default-own.rest.0.0.0.0.1), ne_eqb _ _ (c.in_default.in_default-own.rest.0.0.0.1), ne_eqb _ _ (c.in_default.in_default-own.rest.0.0.1), ne_eqb _ _ (c.in_default.in_default-own.rest.0.1), ne_eqb _ _ (c.in_default.in_default-own.rest.1))) }

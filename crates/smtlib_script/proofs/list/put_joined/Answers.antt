@@ -18,7 +18,7 @@ pub loop-i-init : goal.loop-i-init
 loop-i-init c = (along_start, refl)
 
 pub shape_of-out-then-is_past : goal.shape_of-out-then-is_past
-shape_of-out-then-is_past c = c.loop-i.invariant.1 ∙ c.put_at-place.auto.0
+shape_of-out-then-is_past c = c.loop-i.invariant.1 ∙ c.put_at-place.auto.out
 
 pub returns-then-is_past : goal.returns-then-is_past
 returns-then-is_past c =
@@ -29,10 +29,10 @@ pub loop-i-preserved : goal.loop-i-preserved
 loop-i-preserved c =
     let texts = (c.args.texts).now in
     let l = (c).loop in
-    (along_step l.inv.0 (separated_more _ (map (λ x. x.now) texts) l.i (simp length-map c.loop-i-test.true)) (c.put_at-after.ensures then says (text_at texts l.i) c.put_at-place-in-loop-i.ensures), c.put_at-place-in-loop-i.auto.0 ∙ c.put_at-after.auto.0 ∙ l.inv.1)
+    (along_step l.inv.0 (separated_more _ (map (λ x. x.now) texts) l.i (simp length-map c.loop-i-test.true)) (c.put_at-after.ensures then says (text_at texts l.i) c.put_at-place-in-loop-i.ensures), c.put_at-place-in-loop-i.auto.out ∙ c.put_at-after.auto.out ∙ l.inv.1)
 
 pub shape_of-out : goal.shape_of-out
-shape_of-out c = c.loop-i.invariant.1 ∙ c.put_at-place.auto.0
+shape_of-out c = c.loop-i.invariant.1 ∙ c.put_at-place.auto.out
 
 pub returns : goal.returns
 returns c =

@@ -24,7 +24,7 @@ unfolding bytes
 loop-i-init c = (along_start, refl, c.smaller-n.ensures, refl)
 
 pub shape_of-out-then-is_past : goal.shape_of-out-then-is_past
-shape_of-out-then-is_past c = c.loop-i.invariant.1 ∙ c.put_argument-place.auto.0
+shape_of-out-then-is_past c = c.loop-i.invariant.1 ∙ c.put_argument-place.auto.out
 
 pub returns-then-is_past : goal.returns-then-is_past
 unfolding spaced
@@ -40,10 +40,10 @@ loop-i-preserved c =
     let names = (c.args.names).now in
     let sorts = (c.args.sorts).now in
     let h : l.i < min (length names) (length sorts) = omega (arith, l.inv.2, c.loop-i-test.true) in
-    (along_step l.inv.0 (separated_more _ (arguments (zip (map (λ x. x.now) names) (map (λ x. x.now) sorts))) l.i (arguments_more names sorts l.i h)) (says l.inv.3 c.put_at-after.ensures then says (argument_at names sorts l.i h) c.put_argument-place-in-loop-i.ensures), c.put_argument-place-in-loop-i.auto.0 ∙ c.put_at-after.auto.0 ∙ l.inv.1, l.inv.2, l.inv.3)
+    (along_step l.inv.0 (separated_more _ (arguments (zip (map (λ x. x.now) names) (map (λ x. x.now) sorts))) l.i (arguments_more names sorts l.i h)) (says l.inv.3 c.put_at-after.ensures then says (argument_at names sorts l.i h) c.put_argument-place-in-loop-i.ensures), c.put_argument-place-in-loop-i.auto.out ∙ c.put_at-after.auto.out ∙ l.inv.1, l.inv.2, l.inv.3)
 
 pub shape_of-out : goal.shape_of-out
-shape_of-out c = c.loop-i.invariant.1 ∙ c.put_argument-place.auto.0
+shape_of-out c = c.loop-i.invariant.1 ∙ c.put_argument-place.auto.out
 
 pub returns : goal.returns
 unfolding spaced

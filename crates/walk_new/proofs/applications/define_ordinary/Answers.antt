@@ -14,4 +14,4 @@ pub returns-in-Uuf : goal.returns-in-Uuf
 returns-in-Uuf c = ordinary_uuf _ _ _ c.in-Uuf.is c.encode_uuf-q.ensures c.define_applied-in-Uuf.ensures
 
 pub returns-in_default : goal.returns-in_default
-returns-in_default c = ordinary_other _ _ _ c.in_default.keys4 c.define_applied-in_default.ensures
+returns-in_default c = ordinary_other _ _ _ c.in_default.in_default-own.keys4 c.define_applied-in_default.ensures

@@ -9,7 +9,7 @@ pub loop-t-init : goal.loop-t-init
 loop-t-init c = types_start _
 
 pub loop-t-preserved : goal.loop-t-preserved
-loop-t-preserved c = types_more c.loop-t.invariant c.loop-t-test.true c.list_type-next.ensures (c.list_type-next.auto).1.0
+loop-t-preserved c = types_more c.loop-t.invariant c.loop-t-test.true c.list_type-next.ensures c.list_type-next.auto.work
 
 pub returns : goal.returns
 returns c = types_end c.loop-t.invariant c.loop-t-test.false

@@ -9,7 +9,7 @@ pub loop-t-init : goal.loop-t-init
 loop-t-init c = noted_start _
 
 pub loop-t-preserved : goal.loop-t-preserved
-loop-t-preserved c = noted_more c.loop-t.invariant c.loop-t-test.true c.note_enum.ensures (c.note_enum.auto).1.0
+loop-t-preserved c = noted_more c.loop-t.invariant c.loop-t-test.true c.note_enum.ensures c.note_enum.auto.work
 
 pub returns : goal.returns
 returns c = noted_end c.loop-t.invariant c.loop-t-test.false

@@ -8,4 +8,4 @@ pub returns-in-Entity : goal.returns-in-Entity
 returns-in-Entity c = entity_enum (rw (← (c.wide-at.ensures).0) c.get-offset.ensures) c.type_at.ensures c.in-Entity.is (c.wide-at.ensures).0 c.get.ensures
 
 pub returns-in_default : goal.returns-in_default
-returns-in_default c = not_entity (rw (← (c.wide-at.ensures).0) c.get-offset.ensures) c.type_at.ensures c.in_default.keys2
+returns-in_default c = not_entity (rw (← (c.wide-at.ensures).0) c.get-offset.ensures) c.type_at.ensures c.in_default.in_default-own.keys2

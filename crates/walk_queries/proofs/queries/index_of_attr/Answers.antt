@@ -11,4 +11,4 @@ pub returns-in-Nowhere : goal.returns-in-Nowhere
 returns-in-Nowhere c = attribute_missing (rw (← (c.wide.ensures).0) c.get-offset.ensures) c.type_at.ensures c.in-Record.is (c.wide-in-Record.ensures).0 c.get-list.ensures c.body_at.ensures c.find.ensures c.in-Nowhere.is
 
 pub returns-in_default : goal.returns-in_default
-returns-in_default c = not_record (rw (← (c.wide.ensures).0) c.get-offset.ensures) c.type_at.ensures c.in_default.keys2
+returns-in_default c = not_record (rw (← (c.wide.ensures).0) c.get-offset.ensures) c.type_at.ensures c.in_default.in_default-own.keys2

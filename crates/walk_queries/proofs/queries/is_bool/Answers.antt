@@ -8,4 +8,4 @@ pub returns-in-Bool : goal.returns-in-Bool
 returns-in-Bool c = is_bool c.type_at.ensures c.in-Bool.is
 
 pub returns-in_default : goal.returns-in_default
-returns-in_default c = not_bool c.type_at.ensures c.in_default.keys2
+returns-in_default c = not_bool c.type_at.ensures c.in_default.in_default-own.keys2

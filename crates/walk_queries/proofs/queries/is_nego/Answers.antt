@@ -8,4 +8,4 @@ pub returns-in-Bvnego : goal.returns-in-Bvnego
 returns-in-Bvnego c = is_nego c.in-Bvnego.is
 
 pub returns-in_default : goal.returns-in_default
-returns-in_default c = not_nego c.in_default.keys2
+returns-in_default c = not_nego c.in_default.in_default-own.keys2

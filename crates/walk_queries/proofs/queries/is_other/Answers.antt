@@ -8,4 +8,4 @@ pub returns-in-65 : goal.returns-in-65
 returns-in-65 c = record_other c.body_at.ensures c.is_other_code.ensures
 
 pub returns-in_default : goal.returns-in_default
-returns-in_default c = letter_other c.letter_at.ensures (c.in_default.rest).1
+returns-in_default c = letter_other c.letter_at.ensures (c.in_default.in_default-own.rest).1

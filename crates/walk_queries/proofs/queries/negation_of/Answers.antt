@@ -14,4 +14,4 @@ pub returns-else-is_nego : goal.returns-else-is_nego
 returns-else-is_nego c = of_ordinary (rw (← (c.wide.ensures).0) c.get-offset.ensures) c.term_at.ensures c.in-App.is c.is_nego.ensures c.if-is_nego.false
 
 pub returns-in_default : goal.returns-in_default
-returns-in_default c = of_other (rw (← (c.wide.ensures).0) c.get-offset.ensures) c.term_at.ensures c.in_default.keys2
+returns-in_default c = of_other (rw (← (c.wide.ensures).0) c.get-offset.ensures) c.term_at.ensures c.in_default.in_default-own.keys2

@@ -8,4 +8,4 @@ pub returns-in-BitVec : goal.returns-in-BitVec
 returns-in-BitVec c = over_bits c.type_at.ensures c.in-BitVec.is
 
 pub returns-in_default : goal.returns-in_default
-returns-in_default c = over_other c.type_at.ensures c.in_default.keys2
+returns-in_default c = over_other c.type_at.ensures c.in_default.in_default-own.keys2

@@ -8,4 +8,4 @@ pub returns-in-TE : goal.returns-in-TE
 returns-in-TE c = is_declared (rw (← (c.wide.ensures).0) c.get-offset.ensures) c.kind_at.ensures c.in-TE.keys1
 
 pub returns-in_default : goal.returns-in_default
-returns-in_default c = not_declared (rw (← (c.wide.ensures).0) c.get-offset.ensures) c.kind_at.ensures c.in_default.keys2
+returns-in_default c = not_declared (rw (← (c.wide.ensures).0) c.get-offset.ensures) c.kind_at.ensures c.in_default.in_default-own.keys2

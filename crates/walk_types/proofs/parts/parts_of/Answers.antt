@@ -19,4 +19,4 @@ returns-in-Record c = rw c.in-Record.is
 
 pub returns-in_default : goal.returns-in_default
 unfolding no_parts
-returns-in_default c = says_none _ c.in_default.keys4
+returns-in_default c = says_none _ c.in_default.in_default-own.keys4

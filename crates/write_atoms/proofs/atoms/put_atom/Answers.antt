@@ -14,4 +14,4 @@ pub returns-in-66 : goal.returns-in-66
 returns-in-66 c = marked_leaf (rw (← (c.wide.ensures).0) c.get-offset.ensures) c.letter_at.ensures c.in-66.is c.put_read.ensures
 
 pub returns-in_default : goal.returns-in_default
-returns-in_default c = let r = c.in_default.rest in marked_named (rw (← (c.wide.ensures).0) c.get-offset.ensures) c.letter_at.ensures r.0.1 r.1 c.put_term_name-in_default.ensures
+returns-in_default c = let r = c.in_default.in_default-own.rest in marked_named (rw (← (c.wide.ensures).0) c.get-offset.ensures) c.letter_at.ensures r.0.1 r.1 c.put_term_name-in_default.ensures

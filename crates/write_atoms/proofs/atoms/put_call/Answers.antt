@@ -10,4 +10,4 @@ unfolding bytes
 returns-in-Falsehood c = call_false c.negation_of.ensures c.in-Falsehood.is c.put_at.ensures
 
 pub returns-in_default : goal.returns-in_default
-returns-in_default c = call_named c.negation_of.ensures c.in_default.keys2 c.put_term_name.ensures
+returns-in_default c = call_named c.negation_of.ensures c.in_default.in_default-own.keys2 c.put_term_name.ensures

@@ -42,4 +42,4 @@ returns-in-SetSubset c = symbol_is (rw c.in-SetSubset.is) c.put_at-in-SetSubset.
 
 pub returns-in_default : goal.returns-in_default
 unfolding bytes symbol_of symbol op_of plain_name
-returns-in_default c = symbol_none c.in_default.keys9
+returns-in_default c = symbol_none c.in_default.in_default-own.keys9

@@ -8,3 +8,9 @@ use Prim.Native.Nat.{ℕ, ◌<◌}
 use Rattle.write_bitvec.proofs.decimal.+put_decimal128.Goals as goal
 
 
+
+pub returns : goal.returns
+returns t c =
+    let r = c.by_ten-t.result in
+    says (decimal_next c.args.high c.args.low r.rest.high r.rest.low r.last c.if-high-eq0.false c.by_ten-t.ensures.0 c.by_ten-t.ensures.1 c.by_ten-t.ensures.2)
+    (c.put_decimal128-next.ensures then c.put_decimal-2.ensures)

@@ -16,4 +16,4 @@ pub returns-in-ZeroExtend : goal.returns-in-ZeroExtend
 returns-in-ZeroExtend c = head_extend c.in-ZeroExtend.is c.put_zero_extend.ensures
 
 pub returns-in_default : goal.returns-in_default
-returns-in_default c = head_symbol c.in_default.keys4 c.put_symbol.ensures
+returns-in_default c = head_symbol c.in_default.in_default-own.keys4 c.put_symbol.ensures

@@ -8,4 +8,4 @@ pub returns-in-StringLike : goal.returns-in-StringLike
 returns-in-StringLike c = operator_like c.in-StringLike.is c.put_like.ensures
 
 pub returns-in_default : goal.returns-in_default
-returns-in_default c = operator_applied c.in_default.keys2 c.put_applied.ensures
+returns-in_default c = operator_applied c.in_default.in_default-own.keys2 c.put_applied.ensures

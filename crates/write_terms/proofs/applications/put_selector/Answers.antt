@@ -18,4 +18,4 @@ unfolding bytes
 returns-in-At c = selector_of _ c.part_of-name.ensures (selector_at (omega (arith, c.if-c-eq0.false)) c.take_child-child.ensures (c.get-t.ensures ∙ (rw (c.wide-number.ensures).0)) c.index_of_attr.ensures c.in-At.is c.put_numbered.ensures)
 
 pub returns-in_default : goal.returns-in_default
-returns-in_default c = selector_of _ c.part_of-name.ensures (selector_nowhere (omega (arith, c.if-c-eq0.false)) c.take_child-child.ensures (c.get-t.ensures ∙ (rw (c.wide-number.ensures).0)) c.index_of_attr.ensures c.in_default.keys2)
+returns-in_default c = selector_of _ c.part_of-name.ensures (selector_nowhere (omega (arith, c.if-c-eq0.false)) c.take_child-child.ensures (c.get-t.ensures ∙ (rw (c.wide-number.ensures).0)) c.index_of_attr.ensures c.in_default.in_default-own.keys2)

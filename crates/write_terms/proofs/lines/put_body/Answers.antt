@@ -16,4 +16,4 @@ unfolding bytes
 returns-in-None c = body_none c.term_at-term.ensures c.in-None.is c.put_constant.ensures
 
 pub returns-in_default : goal.returns-in_default
-returns-in_default c = body_atom c.term_at-term.ensures c.in_default.keys4 c.put_atom.ensures
+returns-in_default c = body_atom c.term_at-term.ensures c.in_default.in_default-own.keys4 c.put_atom.ensures

@@ -11,4 +11,4 @@ pub returns-in-Var : goal.returns-in-Var
 returns-in-Var c = variable_named c.term_at-term.ensures c.in-Var.is c.body_at-body.ensures c.part_of-id.ensures c.put_named.ensures
 
 pub returns-in_default : goal.returns-in_default
-returns-in_default c = variable_never c.term_at-term.ensures c.in_default.keys2
+returns-in_default c = variable_never c.term_at-term.ensures c.in_default.in_default-own.keys2

@@ -11,4 +11,4 @@ pub returns-in-NoEnum : goal.returns-in-NoEnum
 returns-in-NoEnum c = entity_constructed c.find_member.ensures c.in-NoEnum.is c.put_constructed.ensures
 
 pub returns-in_default : goal.returns-in_default
-returns-in_default c = entity_atom c.find_member.ensures c.in_default.keys2 c.put_atom.ensures
+returns-in_default c = entity_atom c.find_member.ensures c.in_default.in_default-own.keys2 c.put_atom.ensures

@@ -14,7 +14,7 @@ pub returns-then-room-eq0 : goal.returns-then-room-eq0
 returns-then-room-eq0 c = rw c.if-room-eq0.true (line_past (line_some _))
 
 pub shape_of-rest : goal.shape_of-rest
-shape_of-rest c = c.put_byte.auto.0 ∙ c.put_comment_text-e.auto.0 ∙ c.put_texts-d.auto.0 ∙ c.put_comment_text-c.auto.0 ∙ c.put_comment_text-b.auto.0 ∙ c.put_word-a.auto.0
+shape_of-rest c = c.put_byte.auto.out ∙ c.put_comment_text-e.auto.out ∙ c.put_texts-d.auto.out ∙ c.put_comment_text-c.auto.out ∙ c.put_comment_text-b.auto.out ∙ c.put_word-a.auto.out
 
 pub returns : goal.returns
 unfolding opened bytes entity_comment

@@ -13,7 +13,7 @@ pub returns-then-room-eq0 : goal.returns-then-room-eq0
 returns-then-room-eq0 c = rw c.if-room-eq0.true (line_past (line_some _))
 
 pub shape_of-rest : goal.shape_of-rest
-shape_of-rest c = (c.put_at.auto).0 ∙ (c.put_name-f.auto).0 ∙ (c.put_at-e.auto).0 ∙ (c.put_name-d.auto).0 ∙ (c.put_at-c.auto).0 ∙ (c.put_name-b.auto).0 ∙ (c.put_word-a.auto).0
+shape_of-rest c = c.put_at.auto.out ∙ c.put_name-f.auto.out ∙ c.put_at-e.auto.out ∙ c.put_name-d.auto.out ∙ c.put_at-c.auto.out ∙ c.put_name-b.auto.out ∙ c.put_word-a.auto.out
 
 pub returns : goal.returns
 unfolding bytes entity_symbol opened

@@ -11,7 +11,7 @@ pub returns-then-room-eq0 : goal.returns-then-room-eq0
 returns-then-room-eq0 c = fun_past c.if-room-eq0.true
 
 pub shape_of-rest : goal.shape_of-rest
-shape_of-rest c = (c.put_at.auto).0 ∙ (c.put_sort-f.auto).1.1.1.0 ∙ (c.put_at-e.auto).0 ∙ (c.put_sort-d.auto).1.1.1.0 ∙ (c.put_at-c.auto).0 ∙ (c.put_name-b.auto).0 ∙ (c.put_word-a.auto).0
+shape_of-rest c = c.put_at.auto.out ∙ c.put_sort-f.auto.out ∙ c.put_at-e.auto.out ∙ c.put_sort-d.auto.out ∙ c.put_at-c.auto.out ∙ c.put_name-b.auto.out ∙ c.put_word-a.auto.out
 
 pub returns : goal.returns
 unfolding bytes opened

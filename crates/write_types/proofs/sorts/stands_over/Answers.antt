@@ -15,4 +15,4 @@ pub returns-in-79 : goal.returns-in-79
 returns-in-79 c = over_at (c.get-offset.ensures ∙ (rw (c.wide.ensures).0)) (over_option _ _ c.letter_at.ensures c.in-79.is c.part_at-in-79.ensures)
 
 pub returns-in_default : goal.returns-in_default
-returns-in_default c = over_at (c.get-offset.ensures ∙ (rw (c.wide.ensures).0)) (over_nothing _ _ c.letter_at.ensures (c.in_default.rest).0.1 (c.in_default.rest).1)
+returns-in_default c = over_at (c.get-offset.ensures ∙ (rw (c.wide.ensures).0)) (over_nothing _ _ c.letter_at.ensures (c.in_default.in_default-own.rest).0.1 (c.in_default.in_default-own.rest).1)
