@@ -6,10 +6,6 @@ use Rattle.index.specs.Cells.{store}
 use Rattle.index.proofs.Cells.{placed_as, store_nowhere}
 use Rattle.index.proofs.set.Goals as goal
 
--- TODO well-formed at After-known_told
-pub offset_bounds-work-at : goal.offset_bounds-work-at
-offset_bounds-work-at c = omega (arith, (c.well-formed).0.1, (placed_as c.cell_place.ensures c.in-At.is).0)
-
 pub bounds-work-at : goal.bounds-work-at
 bounds-work-at c = (placed_as c.cell_place.ensures c.in-At.is).0
 
