@@ -2,7 +2,7 @@
 ghost use Rattle.std.specs.Prelude.{◌≡◌, ◌∷◌, map, max, drop};
 ghost use Rattle.index.specs.Rules.{greatest};
 ghost use Rattle.index.specs.Cells.{cell, type_depth};
-ghost use Rattle.index_compare.specs.Segment.{typeRef};
+ghost use Rattle.index_compare.specs.Segment.{type_ref};
 ghost use Rattle.index_compare.specs.Machine.{ahead, items};
 ghost use Rattle.index_compare.specs.declared.segments.Item.TheVariants.{Term};
 ghost use Rattle.index_compare.specs.View.{segments_at, reference_numbers, larger, viewed};
@@ -94,7 +94,7 @@ fn greatest_listed(
     rows: usize,
     kind: u32,
 ) -> u32
-    ensures { result ≡ greatest (reference_numbers kind (map (viewed work.now rows View.Depth) (typeRef t ∷ items Term count (drop from body.now)))) }
+    ensures { result ≡ greatest (reference_numbers kind (map (viewed work.now rows View.Depth) (type_ref t ∷ items Term count (drop from body.now)))) }
 {
     let most = type_depth(t, work, rows, kind);
     greatest_terms(body, from, count, work, rows, kind, most)

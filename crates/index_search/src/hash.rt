@@ -1,7 +1,7 @@
 // A hash of a record: its mark and its body, references by the numbers of first equal records; and of a type that is not at hand.
 ghost use Rattle.std.specs.Prelude.{◌≡◌, ◌+◌, ◌≤◌, ◌<◌, [], ◌∷◌, map, length, take, drop};
 ghost use Rattle.script_spec.specs.Fields.{low};
-ghost use Rattle.index_compare.specs.Segment.{plain, typeRef};
+ghost use Rattle.index_compare.specs.Segment.{plain, type_ref};
 ghost use Rattle.index_compare.specs.declared.segments.Item.TheVariants.{Term};
 ghost use Rattle.index_compare.specs.Machine.{ahead, items};
 ghost use Rattle.index_compare.specs.Printed.{low_bytes};
@@ -133,7 +133,7 @@ fn mix_terms(body: &[u8], from: usize, count: u32, work: &[u32], rows: usize, h:
 // A hash with the segments of an application mixed in: its type, the code of its operator, the count, and its arguments.
 fn mix_applied(body: &[u8], t: u32, count: u32, work: &[u32], rows: usize, h: u32) -> u32
     requires { 9 ≤ length body.now }
-    ensures { result ≡ mixed_segments h (map (viewed work.now rows First) (typeRef t ∷ plain (take 1 (drop 4 body.now)) ∷ plain (take 4 (drop 5 body.now)) ∷ items Term count (drop 9 body.now))) }
+    ensures { result ≡ mixed_segments h (map (viewed work.now rows First) (type_ref t ∷ plain (take 1 (drop 4 body.now)) ∷ plain (take 4 (drop 5 body.now)) ∷ items Term count (drop 9 body.now))) }
 {
     let x = mix_reference(
         h,
@@ -148,7 +148,7 @@ fn mix_applied(body: &[u8], t: u32, count: u32, work: &[u32], rows: usize, h: u3
 // With the segments of a set: its type, the count, and its elements.
 fn mix_listing(body: &[u8], t: u32, count: u32, work: &[u32], rows: usize, h: u32) -> u32
     requires { 8 ≤ length body.now }
-    ensures { result ≡ mixed_segments h (map (viewed work.now rows First) (typeRef t ∷ plain (take 4 (drop 4 body.now)) ∷ items Term count (drop 8 body.now))) }
+    ensures { result ≡ mixed_segments h (map (viewed work.now rows First) (type_ref t ∷ plain (take 4 (drop 4 body.now)) ∷ items Term count (drop 8 body.now))) }
 {
     let x = mix_reference(
         h,
@@ -162,7 +162,7 @@ fn mix_listing(body: &[u8], t: u32, count: u32, work: &[u32], rows: usize, h: u3
 // With the segments of a variable: its text of so many bytes with the count, and its type.
 fn mix_named(body: &[u8], size: usize, t: u32, work: &[u32], rows: usize, h: u32) -> u32
     requires { size ≤ length body.now }
-    ensures { result ≡ mixed_segments h (map (viewed work.now rows First) (plain (take size body.now) ∷ typeRef t ∷ [])) }
+    ensures { result ≡ mixed_segments h (map (viewed work.now rows First) (plain (take size body.now) ∷ type_ref t ∷ [])) }
 {
     let x = mix_plain(h, &body[..size]);
     mix_reference(
@@ -224,7 +224,7 @@ pub fn bare_hash(letter: u8) -> u32
 
 // The hash of a type of this mark over the type with number n.
 pub fn part_hash(letter: u8, n: u32) -> u32
-    ensures { result ≡ type_hash letter (typeRef n ∷ []) }
+    ensures { result ≡ type_hash letter (type_ref n ∷ []) }
 {
     sole_hash(letter, index_compare::compare::TYPE_REF, n)
 }

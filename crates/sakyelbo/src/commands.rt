@@ -120,7 +120,7 @@ pub extern "C" fn sakyelbo_set_option(
 // `(check-sat)`.
 #[unsafe(no_mangle)]
 pub extern "C" fn sakyelbo_check_sat(out: &mut [u8], size: &mut usize) -> u64
-    ensures { WritesCommand command.checkSat
+    ensures { WritesCommand command.check_sat
         out.old out.new size.new result }
 {
     crate::answers::of_command(smtlib_script::commands::check_sat(out), size)
@@ -129,7 +129,7 @@ pub extern "C" fn sakyelbo_check_sat(out: &mut [u8], size: &mut usize) -> u64
 // `(get-model)`.
 #[unsafe(no_mangle)]
 pub extern "C" fn sakyelbo_get_model(out: &mut [u8], size: &mut usize) -> u64
-    ensures { WritesCommand command.getModel
+    ensures { WritesCommand command.get_model
         out.old out.new size.new result }
 {
     crate::answers::of_command(smtlib_script::commands::get_model(out), size)

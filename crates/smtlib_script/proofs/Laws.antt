@@ -5,7 +5,7 @@ use native.Mathlib.Nat.{not-suc-le-zero}
 use native.Mathlib.Numerals.{add-one}
 use native.Mathlib.Omega.{arith}
 use mathlib.Core.Path.{◌≡◌, refl, sym, ap, ◌∙◌}
-use mathlib.Core.Bool.{Bool, true, false, not, ◌&&◌, and_assoc, and_true, true≢false, false≢true}
+use mathlib.Core.Bool.{Bool, true, false, not, ◌&&◌, and_assoc, and-true, true≢false, false≢true}
 use mathlib.Core.List.{List, [], ◌∷◌, ◌++◌, map, zip, zip_with}
 use lib.ListN.{length, take, drop, get_or, drop_of_length-le}
 use lib.Seq.{drop-cons}
@@ -42,11 +42,11 @@ writes {b = b} e h f g = record { leaves = rw (sym e ∙ not_false b h, command_
 
 pub tested_one : {a : Bool} (s : Bytes) → a ≡ is_utf8 s → a ≡ all is_utf8 (s ∷ [])
 unfolding all
-tested_one s e = e ∙ sym (and_true (is_utf8 s))
+tested_one s e = e ∙ sym (and-true (is_utf8 s))
 
 pub tested_two : {a b : Bool} (s t : Bytes) → a ≡ is_utf8 s → b ≡ is_utf8 t → a && b ≡ all is_utf8 (s ∷ t ∷ [])
 unfolding all
-tested_two s t e f = rw (e, f, and_true (is_utf8 t))
+tested_two s t e f = rw (e, f, and-true (is_utf8 t))
 
 all_append : (xs ys : List Bytes) → all is_utf8 (xs ++ ys) ≡ all is_utf8 xs && all is_utf8 ys
 unfolding all

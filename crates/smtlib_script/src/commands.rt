@@ -154,7 +154,7 @@ pub fn set_option(option: &[u8], value: &[u8], out: &mut [u8]) -> WrittenCommand
 
 // `(check-sat)`.
 pub fn check_sat(out: &mut [u8]) -> WrittenCommand
-    ensures { Writes command.checkSat out.old out.new result }
+    ensures { Writes command.check_sat out.old out.new result }
 {
     let room = out.len();
     let length = crate::line::check_sat(out, room);
@@ -163,7 +163,7 @@ pub fn check_sat(out: &mut [u8]) -> WrittenCommand
 
 // `(get-model)`.
 pub fn get_model(out: &mut [u8]) -> WrittenCommand
-    ensures { Writes command.getModel out.old out.new result }
+    ensures { Writes command.get_model out.old out.new result }
 {
     let room = out.len();
     let length = crate::line::get_model(out, room);

@@ -4,7 +4,7 @@
 ghost use Rattle.std.specs.Prelude.{◌≡◌, false};
 ghost use mathlib.Core.List.{[], map, zip};
 ghost use Rattle.script_spec.specs.Base.{empty};
-ghost use Rattle.script_spec.specs.Command.{line, spaced, comment as commented, declare_datatype, declare_const, declare_fun, define_fun, assert_that, set_logic, set_option, checkSat, getModel, reset, exit};
+ghost use Rattle.script_spec.specs.Command.{line, spaced, comment as commented, declare_datatype, declare_const, declare_fun, define_fun, assert_that, set_logic, set_option, check_sat, get_model, reset, exit};
 ghost use Rattle.write_bytes.specs.Writing.{Appends, Wrote};
 ghost use Rattle.smtlib_script.specs.Opened.{opened};
 ghost use Rattle.smtlib_script.specs.declared.line.Word.TheVariants.{DefineFun};
@@ -205,7 +205,7 @@ pub fn set_option(rest: &mut [u8], room: usize, option: &[u8], value: &[u8]) -> 
 
 // `(check-sat)`.
 pub fn check_sat(rest: &mut [u8], room: usize) -> usize
-    ensures { Wrote room rest.old rest.new result (line checkSat) }
+    ensures { Wrote room rest.old rest.new result (line check_sat) }
 {
     if room == 0 {
         return 1;
@@ -215,7 +215,7 @@ pub fn check_sat(rest: &mut [u8], room: usize) -> usize
 
 // `(get-model)`.
 pub fn get_model(rest: &mut [u8], room: usize) -> usize
-    ensures { Wrote room rest.old rest.new result (line getModel) }
+    ensures { Wrote room rest.old rest.new result (line get_model) }
 {
     if room == 0 {
         return 1;

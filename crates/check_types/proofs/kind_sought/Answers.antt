@@ -4,6 +4,7 @@ use mathlib.Core.Path.{sym, ap}
 use Rattle.check_types.specs.Sought.{sought_of}
 use Rattle.check_types.proofs.TermTypes.{sought_none}
 use borrow.Author.Rules.{rules}
+use borrow.Enum.Refused.{opened}
 use Rattle.check_types.proofs.kind_sought.Goals as goal
 
 pub returns-in-XB : goal.returns-in-XB
@@ -39,4 +40,4 @@ unfolding sought_of
 returns-in-XR c = sym (ap sought_of c.in-XR.is)
 
 pub returns-in_default : goal.returns-in_default
-returns-in_default c = sought_none _ c.in_default.in_default-own.keys9
+returns-in_default c = sought_none _ (opened c.in_default.in_default-own.keys9)

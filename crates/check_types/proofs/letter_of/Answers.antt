@@ -4,6 +4,7 @@ use mathlib.Core.Path.{sym, ap}
 use Rattle.check_types.specs.Sought.{type_letter}
 use Rattle.check_types.proofs.TermTypes.{letter_none}
 use borrow.Author.Rules.{rules}
+use borrow.Enum.Refused.{opened}
 use Rattle.check_types.proofs.letter_of.Goals as goal
 
 pub returns-in-TB : goal.returns-in-TB
@@ -39,4 +40,4 @@ unfolding type_letter
 returns-in-TR c = sym (ap type_letter c.in-TR.is)
 
 pub returns-in_default : goal.returns-in_default
-returns-in_default c = letter_none _ c.in_default.in_default-own.keys9
+returns-in_default c = letter_none _ (opened c.in_default.in_default-own.keys9)

@@ -3,6 +3,7 @@
 use Rattle.check_types.specs.Sought.{part_at}
 use Rattle.check_types.proofs.TermTypes.{part_none}
 use borrow.Author.Rules.{rules}
+use borrow.Enum.Refused.{opened}
 use Rattle.check_types.proofs.part_sought.Goals as goal
 
 pub returns-in-TO : goal.returns-in-TO
@@ -10,4 +11,4 @@ unfolding part_at
 returns-in-TO c = record { go = λ m. c.first_reference.ensures }
 
 pub returns-in_default : goal.returns-in_default
-returns-in_default c = part_none _ c.in_default.in_default-own.keys2
+returns-in_default c = part_none _ (opened c.in_default.in_default-own.keys2)

@@ -4,6 +4,7 @@ use mathlib.Core.Path.{sym, ◌∙◌}
 use native.Mathlib.Omega.{arith}
 use Rattle.check_types.proofs.Same.{other_letter, no_such, same_bools, same_strings, same_widths, same_codes, same_options, same_sets, same_records}
 use borrow.Author.Rules.{rules}
+use borrow.Enum.Refused.{opened}
 use Rattle.check_types.proofs.same_type.Goals as goal
 
 pub returns-then-letter_of : goal.returns-then-letter_of
@@ -31,4 +32,4 @@ pub returns-in-TR : goal.returns-in-TR
 returns-in-TR c = λ W. same_records W c.kind_at.ensures (sym c.letter_of.ensures ∙ c.if-letter_of.false ∙ c.letter_of-2.ensures) (λ i. omega (arith, c.type_inv.file i)) c.in-TR.is c.same_listed_type.ensures
 
 pub returns-in_default : goal.returns-in_default
-returns-in_default c = λ W. no_such W c.kind_at.ensures c.in_default.in_default-own.keys8
+returns-in_default c = λ W. no_such W c.kind_at.ensures (opened c.in_default.in_default-own.keys8)

@@ -3,6 +3,7 @@
 use native.Mathlib.Omega.{arith}
 use Rattle.check_types.proofs.Hashes.{no_such, bool_hashed, string_hashed, width_hashed, code_hashed, option_hashed, set_hashed, record_hashed}
 use borrow.Author.Rules.{rules}
+use borrow.Enum.Refused.{opened}
 use Rattle.check_types.proofs.type_hash.Goals as goal
 
 pub returns-in-TB : goal.returns-in-TB
@@ -27,4 +28,4 @@ pub returns-in-TR : goal.returns-in-TR
 returns-in-TR c = λ W. record_hashed W (λ i. omega (arith, c.type_inv.file i)) c.in-TR.is c.listed_hash.ensures
 
 pub returns-in_default : goal.returns-in_default
-returns-in_default c = λ W. no_such W c.in_default.in_default-own.keys8
+returns-in_default c = λ W. no_such W (opened c.in_default.in_default-own.keys8)

@@ -4,6 +4,7 @@ use native.Mathlib.Omega.{arith}
 use Rattle.check_types.specs.Sought.{part_at}
 use Rattle.check_types.proofs.Search.{reference_sought, listed_sought}
 use borrow.Author.Rules.{rules}
+use borrow.Enum.Refused.{opened}
 use Rattle.check_types.proofs.type_of.Goals as goal
 
 pub returns-in-XV : goal.returns-in-XV
@@ -11,4 +12,4 @@ unfolding part_at
 returns-in-XV c = λ M. reference_sought _ _ _ _ M (λ i. omega (arith, c.type_inv.file i)) c.in-XV.keys1 c.first_reference-first.ensures
 
 pub returns-in_default : goal.returns-in_default
-returns-in_default c = λ M. listed_sought _ _ _ _ M c.in_default.in_default-own.keys2 (c.find.ensures M)
+returns-in_default c = λ M. listed_sought _ _ _ _ M (opened c.in_default.in_default-own.keys2) (c.find.ensures M)

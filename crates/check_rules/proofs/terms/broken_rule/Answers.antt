@@ -7,6 +7,7 @@ use lib.ListN.{get_or}
 use Rattle.check_rules.proofs.TermLaws.{no_rule, set_kept, set_broken, record_kept, record_broken, app_arguments, app_get, app_broken}
 use Rattle.check_rules.proofs.Decided.{leaves, leaves_so}
 use borrow.Author.Rules.{rules}
+use borrow.Enum.Refused.{opened}
 use Rattle.check_rules.proofs.terms.broken_rule.Goals as goal
 
 pub returns-then-list_differs : goal.returns-then-list_differs
@@ -31,4 +32,4 @@ pub returns-else-byte_at-eq-RECORD_GET : goal.returns-else-byte_at-eq-RECORD_GET
 returns-else-byte_at-eq-RECORD_GET c = leaves (λ M. app_broken _ _ _ _ _ M c.in-XA.is c.if-depth-ne0.false (c.byte_at.ensures ∙ ap (λ (s : List ℕ). get_or s 4 0) c.body_at-in-XA.ensures) c.if-byte_at-eq-RECORD_GET.false)
 
 pub returns-in_default : goal.returns-in_default
-returns-in_default c = leaves (λ M. no_rule _ _ _ _ _ M c.in_default.in_default-own.keys4)
+returns-in_default c = leaves (λ M. no_rule _ _ _ _ _ M (opened c.in_default.in_default-own.keys4))

@@ -19,7 +19,7 @@ returns-in-78 c = record { is = rw (c.in-69.is, c.in-78.is) }
 
 pub returns-in_default-b : goal.returns-in_default-b
 unfolding MarkedAs mark names any same bytes
-returns-in_default-b c = record { is = unmarked _ (simp (c.in-69.is, ne_eqb _ _ (c.in_default-b.rest.1))) }
+returns-in_default-b c = record { is = unmarked _ (simp (c.in-69.is, ne_eqb _ _ (c.in_default-b.in_default-b-own.rest.1))) }
 
 pub returns-in-70 : goal.returns-in-70
 unfolding MarkedAs mark bytes
@@ -27,7 +27,7 @@ returns-in-70 c = record { is = rw (c.in-85.is, c.in-70.is) }
 
 pub returns-in_default-b-2 : goal.returns-in_default-b-2
 unfolding MarkedAs mark names any same bytes
-returns-in_default-b-2 c = record { is = unmarked _ (simp (c.in-85.is, ne_eqb _ _ (c.in_default-b-2.rest.1))) }
+returns-in_default-b-2 c = record { is = unmarked _ (simp (c.in-85.is, ne_eqb _ _ (c.in_default-b-2.in_default-b-2-own.rest.1))) }
 
 pub returns-in-78-b : goal.returns-in-78-b
 unfolding MarkedAs mark bytes
@@ -35,7 +35,7 @@ returns-in-78-b c = record { is = rw (c.in-73.is, c.in-78-b.is) }
 
 pub returns-in_default-b-3 : goal.returns-in_default-b-3
 unfolding MarkedAs mark names any same bytes
-returns-in_default-b-3 c = record { is = unmarked _ (simp (c.in-73.is, ne_eqb _ _ (c.in_default-b-3.rest.1))) }
+returns-in_default-b-3 c = record { is = unmarked _ (simp (c.in-73.is, ne_eqb _ _ (c.in_default-b-3.in_default-b-3-own.rest.1))) }
 
 pub returns-in_default : goal.returns-in_default
 unfolding MarkedAs mark names any same bytes

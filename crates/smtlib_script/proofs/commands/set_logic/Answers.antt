@@ -3,12 +3,14 @@
 use borrow.Author.Rules.{rules}
 use Rattle.script_spec.specs.Command.{given}
 use Rattle.smtlib_script.proofs.Laws.{refuses, writes, tested_one}
+use mathlib.Core.Bool.{not}
+use mathlib.Core.Path.{ap}
 use Rattle.smtlib_script.proofs.commands.set_logic.Goals as goal
 
 pub returns-then-not-is_utf8 : goal.returns-then-not-is_utf8
 unfolding given
-returns-then-not-is_utf8 c = refuses (tested_one _ c.is_utf8.ensures) c.if-not-is_utf8.true c.refuse_text.ensures
+returns-then-not-is_utf8 c = refuses (tested_one _ c.is_utf8.ensures) (ap not c.if-not-is_utf8.true) c.refuse_text.ensures
 
 pub returns : goal.returns
 unfolding given
-returns c = writes (tested_one _ c.is_utf8.ensures) c.if-not-is_utf8.false c.set_logic-length.ensures c.finish.ensures
+returns c = writes (tested_one _ c.is_utf8.ensures) (ap not c.if-not-is_utf8.false) c.set_logic-length.ensures c.finish.ensures

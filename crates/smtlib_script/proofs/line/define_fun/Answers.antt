@@ -8,8 +8,9 @@ use Rattle.smtlib_script.specs.Opened.{opened}
 use Rattle.smtlib_script.proofs.Lines.{line_define_fun}
 use Rattle.smtlib_script.proofs.line.define_fun.Goals as goal
 
--- TODO argument 0 is for no known goal (free ['returns-then-room-eq0']): rw c.if1.true (line_past (line_some _))
--- TODO argument 11 is for no known goal (free ['returns-then-room-eq0']): c.before.before.put-at4.auto.0 ∙ c.before.before.before.before.before.before.before.put_two.auto.0 ∙ c.before.before.before.before.before.before.before.before.before.before.before.put-at3.auto.0 ∙ c.before.before.before.before.before.before.before.before.before.before.before.before.before.before.bef
+pub returns-then-room-eq0 : goal.returns-then-room-eq0
+returns-then-room-eq0 c = rw c.if-room-eq0.true (line_past (line_some _))
+
 pub returns : goal.returns
 unfolding opened bytes
 returns c = from_start (says (line_define_fun _ _ _ _) (c.put_word-a.ensures then (c.put_at-b.ensures then (c.put_at-c.ensures then (c.put_arguments-d.ensures then (c.put_at-e.ensures then (c.put_two-f.ensures then c.put_at.ensures)))))))

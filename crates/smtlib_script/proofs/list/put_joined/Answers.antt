@@ -28,8 +28,8 @@ returns-then-is_past c =
 pub loop-i-preserved : goal.loop-i-preserved
 loop-i-preserved c =
     let texts = (c.args.texts).now in
-    let l = (c).loop in
-    (along_step l.inv.0 (separated_more _ (map (λ x. x.now) texts) l.i (simp length-map c.loop-i-test.true)) (c.put_at-after.ensures then says (text_at texts l.i) c.put_at-place-in-loop-i.ensures), c.put_at-place-in-loop-i.auto.out ∙ c.put_at-after.auto.out ∙ l.inv.1)
+    let l = c.loop-i in
+    (along_step l.invariant.0 (separated_more _ (map (λ x. x.now) texts) l.i (simp length-map c.loop-i-test.true)) (c.put_at-after.ensures then says (text_at texts l.i) c.put_at-place-in-loop-i.ensures), c.put_at-place-in-loop-i.auto.out ∙ c.put_at-after.auto.out ∙ l.invariant.1)
 
 pub shape_of-out : goal.shape_of-out
 shape_of-out c = c.loop-i.invariant.1 ∙ c.put_at-place.auto.out

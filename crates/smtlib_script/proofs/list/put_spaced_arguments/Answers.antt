@@ -14,14 +14,12 @@ use Rattle.smtlib_script.specs.Arguments.{arguments}
 use Rattle.smtlib_script.proofs.Lists.{separated, separated_more, separated_none, joined_first, arguments_none, arguments_more, arguments_all, argument_at}
 use Rattle.smtlib_script.proofs.list.put_spaced_arguments.Goals as goal
 
--- TODO invariant-loop has 12 parameters, wanted 11: ['l.initial.out', 'l.at', 'l.limit', 'l.names', 'l.sorts', 'l.n', 'l.initial.place', 'l.initial.i', 'l.out', 'l.place', 'l.i']
--- TODO decreases-loop has 12 parameters, wanted 11: ['l.initial.out', 'l.at', 'l.limit', 'l.names', 'l.sorts', 'l.n', 'l.initial.place', 'l.initial.i', 'l.out', 'l.place', 'l.i']
 pub returns-then-n-eq0 : goal.returns-then-n-eq0
 returns-then-n-eq0 c = says (arguments_none (c.args.names).now (c.args.sorts).now (omega (arith, c.smaller-n.ensures, c.if-n-eq0.true))) nothing
 
 pub loop-i-init : goal.loop-i-init
 unfolding bytes
-loop-i-init c = (along_start, refl, c.smaller-n.ensures, refl)
+loop-i-init c = (along_start, refl, c.smaller-n.ensures)
 
 pub shape_of-out-then-is_past : goal.shape_of-out-then-is_past
 shape_of-out-then-is_past c = c.loop-i.invariant.1 ∙ c.put_argument-place.auto.out
@@ -36,11 +34,11 @@ returns-then-is_past c =
 
 pub loop-i-preserved : goal.loop-i-preserved
 loop-i-preserved c =
-    let l = (c).loop in
+    let l = c.loop-i in
     let names = (c.args.names).now in
     let sorts = (c.args.sorts).now in
-    let h : l.i < min (length names) (length sorts) = omega (arith, l.inv.2, c.loop-i-test.true) in
-    (along_step l.inv.0 (separated_more _ (arguments (zip (map (λ x. x.now) names) (map (λ x. x.now) sorts))) l.i (arguments_more names sorts l.i h)) (says l.inv.3 c.put_at-after.ensures then says (argument_at names sorts l.i h) c.put_argument-place-in-loop-i.ensures), c.put_argument-place-in-loop-i.auto.out ∙ c.put_at-after.auto.out ∙ l.inv.1, l.inv.2, l.inv.3)
+    let h : l.i < min (length names) (length sorts) = omega (arith, l.invariant.2, c.loop-i-test.true) in
+    (along_step l.invariant.0 (separated_more _ (arguments (zip (map (λ x. x.now) names) (map (λ x. x.now) sorts))) l.i (arguments_more names sorts l.i h)) (c.put_at-after.ensures then says (argument_at names sorts l.i h) c.put_argument-place-in-loop-i.ensures), c.put_argument-place-in-loop-i.auto.out ∙ c.put_at-after.auto.out ∙ l.invariant.1, l.invariant.2)
 
 pub shape_of-out : goal.shape_of-out
 shape_of-out c = c.loop-i.invariant.1 ∙ c.put_argument-place.auto.out
@@ -48,8 +46,8 @@ shape_of-out c = c.loop-i.invariant.1 ∙ c.put_argument-place.auto.out
 pub returns : goal.returns
 unfolding spaced
 returns c =
-    let l = (c).loop in
+    let l = c.loop-i in
     let names = (c.args.names).now in
     let sorts = (c.args.sorts).now in
     let some : 0 < min (length names) (length sorts) = omega (arith, c.smaller-n.ensures, c.if-n-eq0.false) in
-    says (joined_first _ (arguments (zip (map (λ x. x.now) names) (map (λ x. x.now) sorts))) (arguments_more names sorts 0 some)) (says (argument_at names sorts 0 some) c.put_argument-place.ensures then along_end l.inv.0 (separated_none _ (arguments (zip (map (λ x. x.now) names) (map (λ x. x.now) sorts))) _ (arguments_all names sorts l.i (omega (arith, l.inv.2, c.loop-i-test.false)))))
+    says (joined_first _ (arguments (zip (map (λ x. x.now) names) (map (λ x. x.now) sorts))) (arguments_more names sorts 0 some)) (says (argument_at names sorts 0 some) c.put_argument-place.ensures then along_end l.invariant.0 (separated_none _ (arguments (zip (map (λ x. x.now) names) (map (λ x. x.now) sorts))) _ (arguments_all names sorts l.i (omega (arith, l.invariant.2, c.loop-i-test.false)))))

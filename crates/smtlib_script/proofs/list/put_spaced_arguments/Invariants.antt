@@ -16,8 +16,8 @@ use Rattle.smtlib_script.proofs.list.put_spaced_arguments.Given as goal
 
 abbrev pub invariant-loop-i : goal.invariant-loop-i
 invariant-loop-i l =
-    Along l.limit l.initial.out l.initial.place l.place l.i (separated (bytes " ") (drop i (arguments (zip (map (λ x. x.now) l.names) (map (λ x. x.now) l.sorts))))) (separated (bytes " ") (drop 1 (arguments (zip (map (λ x. x.now) l.names) (map (λ x. x.now) l.sorts)))))
-    × (length l.place ≡ length l.initial.out) × (l.n ≡ min (length l.names) (length l.sorts)) × (l.out ≡ bytes " ")
+    Along l.limit l.initial.out l.initial.place l.out l.place (separated (bytes " ") (drop l.i (arguments (zip (map (λ x. x.now) l.names) (map (λ x. x.now) l.sorts))))) (separated (bytes " ") (drop 1 (arguments (zip (map (λ x. x.now) l.names) (map (λ x. x.now) l.sorts)))))
+    × (length l.out ≡ length l.initial.out) × (l.n ≡ min (length l.names) (length l.sorts))
 
 abbrev pub decreases-loop-i : goal.decreases-loop-i
-decreases-loop-i l = l.n - i
+decreases-loop-i l = l.n - l.i

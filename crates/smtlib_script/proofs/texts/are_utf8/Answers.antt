@@ -9,6 +9,7 @@ use borrow.Author.Rules.{rules}
 use Rattle.script_spec.specs.Utf8.{is_utf8}
 use Rattle.smtlib_script.proofs.Lists.{text_at}
 use Rattle.smtlib_script.proofs.Laws.{Passed, passed_none, passed_next, passed_not, passed_all}
+use mathlib.Core.Bool.{not}
 use Rattle.smtlib_script.proofs.texts.are_utf8.Goals as goal
 
 pub loop-i-init : goal.loop-i-init
@@ -17,12 +18,12 @@ loop-i-init c = passed_none
 pub returns-then-not-is_utf8 : goal.returns-then-not-is_utf8
 returns-then-not-is_utf8 c =
     let texts = (c.args.texts).now in
-    passed_not (simp length-map (omega arith)) (c.is_utf8.ensures ∙ ap is_utf8 (text_at texts c.loop-i.i)) c.if-not-is_utf8.true c.loop-i.invariant
+    passed_not (simp length-map (omega arith)) (c.is_utf8.ensures ∙ ap is_utf8 (text_at texts c.loop-i.i)) (ap not c.if-not-is_utf8.true) c.loop-i.invariant
 
 pub loop-i-preserved : goal.loop-i-preserved
 loop-i-preserved c =
     let texts = (c.args.texts).now in
-    passed_next (simp length-map (omega arith)) (c.is_utf8.ensures ∙ ap is_utf8 (text_at texts c.loop-i.i)) c.if-not-is_utf8.false c.loop-i.invariant
+    passed_next (simp length-map (omega arith)) (c.is_utf8.ensures ∙ ap is_utf8 (text_at texts c.loop-i.i)) (ap not c.if-not-is_utf8.false) c.loop-i.invariant
 
 pub returns : goal.returns
 returns c = passed_all (simp length-map (omega arith)) c.loop-i.invariant

@@ -2,6 +2,7 @@
 -- Assumes nothing.
 use borrow.Author.Rules.{rules}
 use Rattle.walk_new.proofs.OperatorLaws.{ordinary_get, ordinary_pattern, ordinary_uuf, ordinary_other}
+use borrow.Enum.Refused.{opened}
 use Rattle.walk_new.proofs.applications.define_ordinary.Goals as goal
 
 pub returns-in-RecordGet : goal.returns-in-RecordGet
@@ -14,4 +15,4 @@ pub returns-in-Uuf : goal.returns-in-Uuf
 returns-in-Uuf c = ordinary_uuf _ _ _ c.in-Uuf.is c.encode_uuf-q.ensures c.define_applied-in-Uuf.ensures
 
 pub returns-in_default : goal.returns-in_default
-returns-in_default c = ordinary_other _ _ _ c.in_default.in_default-own.keys4 c.define_applied-in_default.ensures
+returns-in_default c = ordinary_other _ _ _ (opened c.in_default.in_default-own.keys4) c.define_applied-in_default.ensures

@@ -2,10 +2,11 @@
 -- Assumes nothing.
 use Rattle.walk_queries.proofs.MemberLaws.{entity_enum, not_entity}
 use borrow.Author.Rules.{rules}
+use borrow.Enum.Refused.{opened}
 use Rattle.walk_queries.proofs.queries.enum_of.Goals as goal
 
 pub returns-in-Entity : goal.returns-in-Entity
 returns-in-Entity c = entity_enum (rw (← (c.wide-at.ensures).0) c.get-offset.ensures) c.type_at.ensures c.in-Entity.is (c.wide-at.ensures).0 c.get.ensures
 
 pub returns-in_default : goal.returns-in_default
-returns-in_default c = not_entity (rw (← (c.wide-at.ensures).0) c.get-offset.ensures) c.type_at.ensures c.in_default.in_default-own.keys2
+returns-in_default c = not_entity (rw (← (c.wide-at.ensures).0) c.get-offset.ensures) c.type_at.ensures (opened c.in_default.in_default-own.keys2)

@@ -3,6 +3,7 @@
 use Rattle.walk_types.specs.Parts.{no_parts, one_part, parts_said}
 use Rattle.walk_types.proofs.PartLaws.{says_none}
 use borrow.Author.Rules.{rules}
+use borrow.Enum.Refused.{opened}
 use Rattle.walk_types.proofs.parts.parts_of.Goals as goal
 
 pub returns-in-Option : goal.returns-in-Option
@@ -19,4 +20,4 @@ returns-in-Record c = rw c.in-Record.is
 
 pub returns-in_default : goal.returns-in_default
 unfolding no_parts
-returns-in_default c = says_none _ c.in_default.in_default-own.keys4
+returns-in_default c = says_none _ (opened c.in_default.in_default-own.keys4)

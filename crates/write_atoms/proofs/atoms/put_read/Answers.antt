@@ -2,6 +2,7 @@
 -- Assumes nothing.
 use Rattle.write_atoms.proofs.AtomLaws.{atom_bool, atom_bits, atom_string, atom_entity, atom_named}
 use borrow.Author.Rules.{rules}
+use borrow.Enum.Refused.{opened}
 use Rattle.write_atoms.proofs.atoms.put_read.Goals as goal
 
 pub returns-in-BoolLit : goal.returns-in-BoolLit
@@ -17,4 +18,4 @@ pub returns-in-Entity : goal.returns-in-Entity
 returns-in-Entity c = atom_entity c.term_at-term.ensures c.in-Entity.is c.body_at-body-in-Entity.ensures c.part_of-id.ensures c.put_entity.ensures
 
 pub returns-in_default : goal.returns-in_default
-returns-in_default c = atom_named c.term_at-term.ensures c.in_default.in_default-own.keys5 c.put_term_name.ensures
+returns-in_default c = atom_named c.term_at-term.ensures (opened c.in_default.in_default-own.keys5) c.put_term_name.ensures

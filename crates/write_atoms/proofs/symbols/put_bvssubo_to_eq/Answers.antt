@@ -7,6 +7,7 @@ use Rattle.read_operator.specs.Operators.{op_of}
 use Rattle.write_atoms.specs.Symbols.{symbol, symbol_of}
 use Rattle.write_atoms.proofs.SymbolLaws.{symbol_is, symbol_later}
 use borrow.Author.Rules.{rules}
+use borrow.Enum.Refused.{opened}
 use Rattle.write_atoms.proofs.symbols.put_bvssubo_to_eq.Goals as goal
 
 pub returns-in-Bvssubo : goal.returns-in-Bvssubo
@@ -39,4 +40,4 @@ returns-in-Eq c = symbol_is (rw c.in-Eq.is) c.put_at-in-Eq.ensures
 
 pub returns-in_default : goal.returns-in_default
 unfolding all
-returns-in_default c = symbol_later 14 21 (0 ∷ 1 ∷ 2 ∷ 3 ∷ 4 ∷ 5 ∷ 6 ∷ 7 ∷ 8 ∷ 9 ∷ 10 ∷ 11 ∷ 12 ∷ 13 ∷ 21 ∷ 22 ∷ 23 ∷ 24 ∷ 25 ∷ 26 ∷ 27 ∷ 28 ∷ 29 ∷ 30 ∷ 31 ∷ 32 ∷ []) c.in_default.in_default-own.keys8 tt c.put_ext_to_set_subset.ensures
+returns-in_default c = symbol_later 14 21 (0 ∷ 1 ∷ 2 ∷ 3 ∷ 4 ∷ 5 ∷ 6 ∷ 7 ∷ 8 ∷ 9 ∷ 10 ∷ 11 ∷ 12 ∷ 13 ∷ 21 ∷ 22 ∷ 23 ∷ 24 ∷ 25 ∷ 26 ∷ 27 ∷ 28 ∷ 29 ∷ 30 ∷ 31 ∷ 32 ∷ []) (opened c.in_default.in_default-own.keys8) tt c.put_ext_to_set_subset.ensures

@@ -6,6 +6,7 @@ use Rattle.read_operator.specs.Operators.{op_of}
 use Rattle.write_atoms.specs.Symbols.{symbol, symbol_of}
 use Rattle.write_atoms.proofs.SymbolLaws.{symbol_is, symbol_none}
 use borrow.Author.Rules.{rules}
+use borrow.Enum.Refused.{opened}
 use Rattle.write_atoms.proofs.symbols.put_ext_to_set_subset.Goals as goal
 
 pub returns-in-Ext : goal.returns-in-Ext
@@ -42,4 +43,4 @@ returns-in-SetSubset c = symbol_is (rw c.in-SetSubset.is) c.put_at-in-SetSubset.
 
 pub returns-in_default : goal.returns-in_default
 unfolding bytes symbol_of symbol op_of plain_name
-returns-in_default c = symbol_none c.in_default.in_default-own.keys9
+returns-in_default c = symbol_none (opened c.in_default.in_default-own.keys9)

@@ -9,6 +9,7 @@ use Rattle.write_atoms.specs.Symbols.{symbol, symbol_of}
 use Rattle.write_atoms.proofs.SymbolLaws.{symbol_later}
 use native.Mathlib.Omega.{arith}
 use borrow.Author.Rules.{rules}
+use borrow.Enum.Refused.{opened}
 use Rattle.write_atoms.proofs.symbols.put_symbol.Goals as goal
 
 pub returns-in-And : goal.returns-in-And
@@ -41,4 +42,4 @@ returns-in-Bvsaddo c = says (rw c.in-Bvsaddo.is) c.put_at-in-Bvsaddo.ensures
 
 pub returns-in_default : goal.returns-in_default
 unfolding all
-returns-in_default c = (symbol_later 0 7 (7 ∷ 8 ∷ 9 ∷ 10 ∷ 11 ∷ 12 ∷ 13 ∷ 14 ∷ 15 ∷ 16 ∷ 17 ∷ 18 ∷ 19 ∷ 20 ∷ 21 ∷ 22 ∷ 23 ∷ 24 ∷ 25 ∷ 26 ∷ 27 ∷ 28 ∷ 29 ∷ 30 ∷ 31 ∷ 32 ∷ []) c.in_default.in_default-own.keys8 tt c.put_bvsdiv_to_bvsrem.ensures).go (omega arith)
+returns-in_default c = (symbol_later 0 7 (7 ∷ 8 ∷ 9 ∷ 10 ∷ 11 ∷ 12 ∷ 13 ∷ 14 ∷ 15 ∷ 16 ∷ 17 ∷ 18 ∷ 19 ∷ 20 ∷ 21 ∷ 22 ∷ 23 ∷ 24 ∷ 25 ∷ 26 ∷ 27 ∷ 28 ∷ 29 ∷ 30 ∷ 31 ∷ 32 ∷ []) (opened c.in_default.in_default-own.keys8) tt c.put_bvsdiv_to_bvsrem.ensures).go (omega arith)

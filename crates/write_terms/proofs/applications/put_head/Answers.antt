@@ -3,6 +3,7 @@
 use Rattle.script_spec.specs.Base.{bytes}
 use Rattle.write_terms.proofs.HeadLaws.{head_selector, head_function, head_extend, head_symbol}
 use borrow.Author.Rules.{rules}
+use borrow.Enum.Refused.{opened}
 use Rattle.write_terms.proofs.applications.put_head.Goals as goal
 
 pub returns-in-RecordGet : goal.returns-in-RecordGet
@@ -16,4 +17,4 @@ pub returns-in-ZeroExtend : goal.returns-in-ZeroExtend
 returns-in-ZeroExtend c = head_extend c.in-ZeroExtend.is c.put_zero_extend.ensures
 
 pub returns-in_default : goal.returns-in_default
-returns-in_default c = head_symbol c.in_default.in_default-own.keys4 c.put_symbol.ensures
+returns-in_default c = head_symbol (opened c.in_default.in_default-own.keys4) c.put_symbol.ensures

@@ -5,6 +5,7 @@ use Rattle.script_spec.specs.Base.{bytes}
 use Rattle.write_terms.proofs.HeadLaws.{selector_of, selector_none, selector_past, selector_at, selector_nowhere}
 use native.Mathlib.Omega.{arith}
 use borrow.Author.Rules.{rules}
+use borrow.Enum.Refused.{opened}
 use Rattle.write_terms.proofs.applications.put_selector.Goals as goal
 
 pub returns-then-c-eq0 : goal.returns-then-c-eq0
@@ -18,4 +19,4 @@ unfolding bytes
 returns-in-At c = selector_of _ c.part_of-name.ensures (selector_at (omega (arith, c.if-c-eq0.false)) c.take_child-child.ensures (c.get-t.ensures ∙ (rw (c.wide-number.ensures).0)) c.index_of_attr.ensures c.in-At.is c.put_numbered.ensures)
 
 pub returns-in_default : goal.returns-in_default
-returns-in_default c = selector_of _ c.part_of-name.ensures (selector_nowhere (omega (arith, c.if-c-eq0.false)) c.take_child-child.ensures (c.get-t.ensures ∙ (rw (c.wide-number.ensures).0)) c.index_of_attr.ensures c.in_default.in_default-own.keys2)
+returns-in_default c = selector_of _ c.part_of-name.ensures (selector_nowhere (omega (arith, c.if-c-eq0.false)) c.take_child-child.ensures (c.get-t.ensures ∙ (rw (c.wide-number.ensures).0)) c.index_of_attr.ensures (opened c.in_default.in_default-own.keys2))

@@ -3,6 +3,7 @@
 use Rattle.script_spec.specs.Base.{bytes}
 use Rattle.write_terms.proofs.BodyLaws.{body_entity, body_value, body_none, body_atom}
 use borrow.Author.Rules.{rules}
+use borrow.Enum.Refused.{opened}
 use Rattle.write_terms.proofs.lines.put_body.Goals as goal
 
 pub returns-in-Entity : goal.returns-in-Entity
@@ -16,4 +17,4 @@ unfolding bytes
 returns-in-None c = body_none c.term_at-term.ensures c.in-None.is c.put_constant.ensures
 
 pub returns-in_default : goal.returns-in_default
-returns-in_default c = body_atom c.term_at-term.ensures c.in_default.in_default-own.keys4 c.put_atom.ensures
+returns-in_default c = body_atom c.term_at-term.ensures (opened c.in_default.in_default-own.keys4) c.put_atom.ensures
