@@ -19,13 +19,13 @@ pub loop-left-init : goal.loop-left-init
 loop-left-init c = refl
 
 pub returns-in_default : goal.returns-in_default
-returns-in_default c = mixed_none c.args.work.now c.args.rows c.loop-left.x (terms_short c.args.body.now c.loop-left.at c.loop-left.false (word_short (drop c.loop-left.at c.args.body.now) c.read_word.result c.read_word.ensures c.in_default.is)) ∙ c.loop-left.invariant
+returns-in_default c = mixed_none c.args.work.now c.args.rows c.loop-left.x (terms_short c.args.body.now c.loop-left.at c.loop-left.left (word_short (drop c.loop-left.at c.args.body.now) c.read_word.result c.read_word.ensures c.in_default.is)) ∙ c.loop-left.invariant
 
 pub overflow_add-at : goal.overflow_add-at
 overflow_add-at c = omega (arith, word_fits c.loop-left.at c.args.body.now (word_value (drop c.loop-left.at c.args.body.now) c.read_word.result c.read_word.ensures c.in-Value.is).0)
 
 pub loop-left-preserved : goal.loop-left-preserved
-loop-left-preserved c = mixed_turn c.args.work.now c.args.rows c.loop-left.x c.mix_reference-x.ensures c.get.ensures (terms_next c.args.body.now c.loop-left.at c.loop-left.false (omega (arith, c.loop-left-test.true)) (word_value (drop c.loop-left.at c.args.body.now) c.read_word.result c.read_word.ensures c.in-Value.is)) ∙ c.loop-left.invariant
+loop-left-preserved c = mixed_turn c.args.work.now c.args.rows c.loop-left.x c.mix_reference-x.ensures c.get.ensures (terms_next c.args.body.now c.loop-left.at c.loop-left.left (omega (arith, c.loop-left-test.true)) (word_value (drop c.loop-left.at c.args.body.now) c.read_word.result c.read_word.ensures c.in-Value.is)) ∙ c.loop-left.invariant
 
 pub returns : goal.returns
-returns c = mixed_none c.args.work.now c.args.rows c.loop-left.x (terms_none (drop c.loop-left.at c.args.body.now) c.loop-left.false (omega arith)) ∙ c.loop-left.invariant
+returns c = mixed_none c.args.work.now c.args.rows c.loop-left.x (terms_none (drop c.loop-left.at c.args.body.now) c.loop-left.left (omega arith)) ∙ c.loop-left.invariant

@@ -33,6 +33,7 @@ returns-then-is_past c =
     says (joined_first _ (arguments (zip (map (λ x. x.now) names) (map (λ x. x.now) sorts))) (arguments_more names sorts 0 some)) (says (argument_at names sorts 0 some) c.put_argument-place.ensures then along_past c.loop-i.invariant.0 c.is_past.ensures c.if-is_past.true)
 
 pub loop-i-preserved : goal.loop-i-preserved
+unfolding bytes
 loop-i-preserved c =
     let l = c.loop-i in
     let names = (c.args.names).now in
