@@ -5,7 +5,7 @@ use mathlib.Core.Logic.{◌⊎◌, inl, inr, ⊎_elim}
 use Prim.Native.Nat.{ℕ}
 use native.Mathlib.Omega.{arith}
 use mathlib.Core.Bool.{Bool, true, false}
-use mathlib.Core.List.{List, map, map_map}
+use mathlib.Core.List.{List, map, map-map}
 use mathlib.Core.Option.{some}
 use lib.Dec.{eqb, eqb→eq}
 use borrow.Author.Tests.{eq-eqb}
@@ -95,7 +95,7 @@ module _ {file : Bytes} {work : List ℕ} {k o : ℕ} {f : TermFile} {t : TypeMa
   pub seeks_settled : map (cell work k type_first) (map (cell work k term_type) S.refs) ≡ map (cell work k term_type) S.refs
   unfolding InRange earlier
   seeks_settled =
-      map_map (cell work k type_first) (cell work k term_type) S.refs
+      map-map (cell work k type_first) (cell work k term_type) S.refs
       ∙ map_agree (λ n h. let row = S.index.term_row n h in (S.index.type_row _ row.type_below).first ∙ row.type_first_is) S.refs S.in_range.1
 
 -- ---- records
