@@ -75,5 +75,5 @@ module _ {file : Bytes} {work : List ℕ} {k t o : ℕ} {r : TypeEntry} (place_i
 pub members_here : {file : Bytes} {work : List ℕ} {k e o : ℕ} {body : Bytes} {x : Enum} → o ≡ cell work k enum_offset e → EnumAt file o x → body ≡ body_at file o
     → (f : TermFile) → Rows file f work k → e < length (enums f) → (get_or (enums f) e ([], [])).1 ≡ texts 0 x.members (drop x.from body)
 members_here {file} {e = e} {x = x} place_is E b f I l =
-    let said = E.go (get_or (enums f) e ([], [])).0 (get_or (enums f) e ([], [])).1 (rw place_is (I.Enum-Row e l).stands) in
+    let said = E.go (get_or (enums f) e ([], [])).0 (get_or (enums f) e ([], [])).1 (rw place_is (I.enum_row e l).stands) in
     sym said.members_are ∙ ap (λ (s : Bytes). texts 0 x.members (drop x.from s)) (sym b)
