@@ -22,8 +22,8 @@ decreases-encode_terms l = l.n * 3
 abbrev pub decreases-encode_unnamed : goal.decreases-encode_unnamed
 decreases-encode_unnamed l = l.n * 3 + 1
 
-abbrev pub encode_terms-invariant-loop-left : goal.encode_terms-invariant-loop-left
-encode_terms-invariant-loop-left l = TermsLeft l.file l.sizes l.n l.initial.work l.initial.out l.initial.q l.work l.out l.q (children_in (body_at l.file l.offset) l.left) × ((length l.work ≡ length l.initial.work) × (length l.out ≡ length l.initial.out))
+abbrev pub invariant-encode_terms-loop-left : goal.invariant-encode_terms-loop-left
+invariant-encode_terms-loop-left l = TermsLeft l.file l.sizes l.n l.initial.work l.initial.out l.initial.q l.work l.out l.q (children_in (body_at l.file l.offset) l.left) × ((length l.work ≡ length l.initial.work) × (length l.out ≡ length l.initial.out))
 
-abbrev pub encode_terms-decreases-loop-left : goal.encode_terms-decreases-loop-left
-encode_terms-decreases-loop-left l = l.left.left
+abbrev pub decreases-encode_terms-loop-left : goal.decreases-encode_terms-loop-left
+decreases-encode_terms-loop-left l = l.left.left

@@ -18,8 +18,8 @@ decreases-encode_type l = l.t * 2 + 1
 abbrev pub decreases-encode_types : goal.decreases-encode_types
 decreases-encode_types l = l.t * 2
 
-abbrev pub encode_types-invariant-loop-left : goal.encode_types-invariant-loop-left
-encode_types-invariant-loop-left l = PartsLeft l.file l.sizes l.t (parts_in (body_at l.file l.offset) l.initial.left) l.initial.work l.initial.out l.initial.q l.work l.out l.q (parts_in (body_at l.file l.offset) l.left) × ((length l.work ≡ length l.initial.work) × (length l.out ≡ length l.initial.out))
+abbrev pub invariant-encode_types-loop-left : goal.invariant-encode_types-loop-left
+invariant-encode_types-loop-left l = PartsLeft l.file l.sizes l.t (parts_in (body_at l.file l.offset) l.initial.left) l.initial.work l.initial.out l.initial.q l.work l.out l.q (parts_in (body_at l.file l.offset) l.left) × ((length l.work ≡ length l.initial.work) × (length l.out ≡ length l.initial.out))
 
-abbrev pub encode_types-decreases-loop-left : goal.encode_types-decreases-loop-left
-encode_types-decreases-loop-left l = l.left.left
+abbrev pub decreases-encode_types-loop-left : goal.decreases-encode_types-loop-left
+decreases-encode_types-loop-left l = l.left.left

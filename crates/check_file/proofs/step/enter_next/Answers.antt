@@ -6,7 +6,7 @@ use borrow.Author.Rules.{rules}
 use Rattle.check_file.proofs.step.enter_next.Goals as goal
 
 pub returns-in-TB : goal.returns-in-TB
-returns-in-TB c = over_as (λ x. marked_type x _ c.in-TB.keys1) c.next_type.ensures
+returns-in-TB c = over_as (λ x. marked_type x _ c.in-TB.in-TB-own.keys1) c.next_type.ensures
 
 pub returns-in-EN : goal.returns-in-EN
 returns-in-EN c = over_as (λ x e. marked_enum x e c.in-EN.is) c.next_enum.ensures
@@ -15,7 +15,7 @@ pub returns-in-UF : goal.returns-in-UF
 returns-in-UF c = over_as (λ x e. marked_fun x e c.in-UF.is) c.next_fun.ensures
 
 pub returns-in-XV : goal.returns-in-XV
-returns-in-XV c = over_as (λ x e. (marked_term x _ c.in-XV.keys4 e, e)) c.next_term.ensures
+returns-in-XV c = over_as (λ x e. (marked_term x _ c.in-XV.in-XV-own.keys4 e, e)) c.next_term.ensures
 
 pub returns-in-IN : goal.returns-in-IN
 returns-in-IN c = over_as (λ x e. marked_input x e c.in-IN.is) c.next_input.ensures
