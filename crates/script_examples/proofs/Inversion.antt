@@ -106,6 +106,7 @@ module _ (e : Enums) (ν : Names) where
 
 term_any : (t : Tm) (ts : List Tm) → Memᴰ (term t) (map term ts) → T (any (eq_tm t) ts)
 unfolding any
+term_any t [] x' = elim x' [ ]
 term_any t (u ∷ ts) (Memᴰ.head p) = or_left (eq_tm t u) (any (eq_tm t) ts) (let q : t ≡ u = cc in subst (λ (x : Tm). T (eq_tm t x)) q (eq_tm_refl t))
 term_any t (u ∷ ts) (Memᴰ.tail m) = or_right (eq_tm t u) (any (eq_tm t) ts) (term_any t ts m)
 
@@ -117,6 +118,7 @@ distinct_apart (t ∷ ts) d =
     new (λ m. T_not (any (eq_tm t) ts) q.0 (term_any t ts m)) (distinct_apart ts q.1)
 
 every_term : (P : Thing → Type 0) (ts : List Tm) → Every (λ t. P (term t)) ts → (th : Thing) → Memᴰ th (map term ts) → P th
+every_term P [] _ th x3 = elim x3 [ ]
 every_term P (t ∷ ts) (also p ps) th (Memᴰ.head q) = subst P (sym q) p
 every_term P (t ∷ ts) (also p ps) th (Memᴰ.tail m) = every_term P ts ps th m
 
