@@ -36,4 +36,4 @@ pub returns-in-Unreadable : goal.returns-in-Unreadable
 returns-in-Unreadable c = new_unreadable _ c.wide.ensures.0 c.get-offset.ensures c.term_at.ensures c.in-Unreadable.is
 
 pub returns-in_default : goal.returns-in_default
-returns-in_default c = new_defined _ c.wide.ensures.0 c.get-offset.ensures c.term_at.ensures (opened c.in_default.in_default-own.keys11) c.define_term.ensures
+returns-in_default c = new_defined _ c.wide.ensures.0 c.get-offset.ensures c.term_at.ensures c.in_default.in_default-own.keys11 c.define_term.ensures
