@@ -13,22 +13,14 @@ use Rattle.index_entry.proofs.ChildLaws.{no_children}
 use Rattle.walk_terms.proofs.Walking.{leaves_term, encodes_term, TermsLeft, terms_start, terms_on, terms_end, terms_never}
 use Rattle.walk_terms.proofs.+encode_term_encode_terms_encode_unnamed.Goals as goal
 
--- TODO pre at After-encode_unnamed-arg2
--- TODO pre at After-encode_terms-arg2
 pub encode_term-returns-then-p-ne0 : goal.encode_term-returns-then-p-ne0
 encode_term-returns-then-p-ne0 t c = advances_refused c.if-p-ne0.true
 
 pub encode_term-returns-then-term_name-ne0 : goal.encode_term-returns-then-term_name-ne0
 encode_term-returns-then-term_name-ne0 t c = leaves_term _ c.if-p-ne0.false c.term_name.ensures c.if-term_name-ne0.true
 
-pub encode_term-encode_unnamed-requires : goal.encode_term-encode_unnamed-requires
-encode_term-encode_unnamed-requires t c = omega (arith, c)
-
 pub encode_term-returns : goal.encode_term-returns
 encode_term-returns t c = (c.encode_unnamed.ensures).go c.if-p-ne0.false (sym c.term_name.ensures ∙ c.if-term_name-ne0.false)
-
-pub encode_unnamed-encode_terms-q-requires : goal.encode_unnamed-encode_terms-q-requires
-encode_unnamed-encode_terms-q-requires t c = omega (arith, c)
 
 pub encode_unnamed-returns : goal.encode_unnamed-returns
 encode_unnamed-returns t c = record { go = λ z h. encodes_term _ z refl h c.encode_own_type-typed.ensures c.encode_terms-q.ensures c.encode_new.ensures }
