@@ -1,5 +1,5 @@
-/* The functions of libsakyelbo.a, which `rt staticlib sakyelbo` writes to target/staticlib. Each meets its contract in
- * crates/sakyelbo/src, for every call that keeps the rules below.
+/* The functions of libsakyelbo.a, which `tools/library` writes to target/staticlib. Each meets its contract in
+ * crates/sakyelbo_c/src, for every call that keeps the rules below.
  *
  * Answers. Each function answers 0 for acceptance, or a refusal's number times 2^32 plus the place of its record, counted from 0:
  * SAKYELBO_NUMBER and SAKYELBO_PLACE take it apart. No refusal has the number 0, so 0 is always acceptance.

@@ -1,4 +1,4 @@
-//! Finds the static library where `rt staticlib sakyelbo` writes it.
+//! Finds the static library where `tools/library` writes it.
 use std::path::PathBuf;
 use std::process::exit;
 
@@ -7,7 +7,7 @@ fn main() {
     let archive = folder.join("libsakyelbo.a");
     println!("cargo:rerun-if-changed={}", archive.display());
     if !archive.is_file() {
-        eprintln!("there is no {}: run `rt staticlib sakyelbo` in the root of the repository", archive.display());
+        eprintln!("there is no {}: run `tools/library` in the root of the repository", archive.display());
         exit(1);
     }
     println!("cargo:rustc-link-search=native={}", folder.display());

@@ -3,34 +3,40 @@ mod cases;
 mod commands;
 
 use cases::path;
-use commands::{folder, only, run, script, Ran};
+use commands::{only, run, script, Ran};
 use std::env;
 use std::fs;
+use std::ops::Deref;
 use std::path::{Path, PathBuf};
-use std::process::Command;
+use std::process::{self, Command};
 use std::sync::Mutex;
 use std::thread;
 
 /// Held by each test, since a script can't run while a program that another one starts has it open for writing.
 static ALONE: Mutex<()> = Mutex::new(());
 
-/// Notes what it is asked for. Where it fails to build the library, half of it is left; `edit` has a source changed meanwhile.
-const RT: &str = r#"cat >stolen
+/// Notes what it is asked for, and keeps its work beside the sources. Where it fails to build the library, half of it is left; `edit` has a
+/// source changed meanwhile.
+const RT: &str = r#"cd ../..
+cat >stolen
 echo "$@" >>asked
 case $1 in
 check)
+    echo "rt: chose --jobs 2 for write_bytes"
     echo "fn write_bytes::put_at: proved"
-    echo "rt: write_bytes proved (7 s)"
-    echo "rt: write_text proved (unchanged since it was last proved)"
-    [ ! -e fails/check ] || { echo "rt: write_types NOT PROVED (exit 1, 3 s)"; exit 1; }
-    [ ! -e edit ] || { rm edit; sleep 0.1; echo >>crates/index; }
+    sleep 0.1
+    mkdir -p crates/index/out
+    echo work >crates/index/out/kept
+    echo "logic=proved functions=1"
+    [ ! -e fails/check ] || { echo "rt: chose --jobs 2 for write_types"; echo "logic=not-proved"; exit 1; }
+    [ ! -e edit ] || { rm edit; sleep 0.1; echo >>crates/index/src/lib.rt; }
     ;;
-staticlib)
-    echo "fn sakyelbo::sakyelbo_check: proved" >&2
-    mkdir -p target/staticlib
-    echo half >target/staticlib/libsakyelbo.a
-    [ ! -e fails/staticlib ] || exit 3
-    echo whole >>target/staticlib/libsakyelbo.a
+lib)
+    echo "fn sakyelbo_c::sakyelbo_check: proved" >&2
+    mkdir -p crates/sakyelbo_c/out
+    echo half >crates/sakyelbo_c/out/libsakyelbo_c.a
+    [ ! -e fails/lib ] || exit 3
+    echo whole >>crates/sakyelbo_c/out/libsakyelbo_c.a
     ;;
 esac
 "#;
@@ -48,25 +54,56 @@ chmod +x "$target/release/sakyelbo"
 
 /// What the script needs beside rt and cargo, and these scripts.
 const TOOLS: [&str; 14] = [
-    "bash", "cat", "chmod", "dirname", "find", "flock", "mkdir", "mv", "readlink", "rm", "sed", "sleep", "tee", "touch",
+    "bash", "cat", "chmod", "cp", "dirname", "find", "flock", "mkdir", "mv", "readlink", "rm", "sleep", "tee", "touch",
 ];
 
-const PROVING: &str = "sakyelbo: proving the library, which takes some minutes\nsakyelbo: write_bytes proved (7 s)\n";
+const PROVING: &str = "sakyelbo: proving the library, which takes some minutes\nsakyelbo: write_bytes proved (N s)\n";
 
-/// A folder with the script and sources.
-fn repository(name: &str) -> PathBuf {
-    let root = folder(name);
-    for name in ["crates", "fails", "bindings/rust/src"] {
+/// A folder that goes with the test.
+struct Repository(PathBuf);
+
+impl Deref for Repository {
+    type Target = Path;
+
+    fn deref(&self) -> &Path {
+        &self.0
+    }
+}
+
+impl Drop for Repository {
+    fn drop(&mut self) {
+        let _ = fs::remove_dir_all(&self.0);
+    }
+}
+
+/// A folder with the scripts and sources. It has a crates.txt, which `rt ci` refuses anywhere below this repository's own: so it lies outside.
+fn repository(name: &str) -> Repository {
+    let root = env::temp_dir().join(format!("sakyelbo-{name}-{}", process::id()));
+    let _ = fs::remove_dir_all(&root);
+    for name in [
+        "crates/index/src",
+        "crates/index/proofs",
+        "crates/index/specs",
+        "crates/sakyelbo_c/src",
+        "fails",
+        "bindings/rust/src",
+    ] {
         fs::create_dir_all(root.join(name)).unwrap();
     }
-    for name in
-        ["crates.txt", "crates/index", "crates/unused", "bindings/rust/build.rs", "bindings/rust/Cargo.toml"]
-    {
+    for name in [
+        "crates.txt",
+        "crates/index/src/lib.rt",
+        "crates/index/proofs/Unused.antt",
+        "bindings/rust/build.rs",
+        "bindings/rust/Cargo.toml",
+    ] {
         fs::write(root.join(name), "").unwrap();
     }
-    fs::copy(path("sakyelbo"), root.join("sakyelbo")).unwrap();
     only(root.join("tools"), &TOOLS);
-    root
+    for name in ["sakyelbo", "tools/library"] {
+        fs::copy(path(name), root.join(name)).unwrap();
+    }
+    Repository(root)
 }
 
 fn add_rt(root: &Path) {
@@ -82,7 +119,16 @@ fn sakyelbo(root: &Path) -> Ran {
     let path = env::join_paths([root.join("bin"), root.join("tools")]).unwrap();
     let mut command = Command::new(root.join("sakyelbo"));
     command.args(["two words", "", "*"]).env("PATH", path).env("HOME", root.join("home")).current_dir("/");
-    run(&mut command, b"the input")
+    let (status, output, error) = run(&mut command, b"the input");
+    (status, output, error.lines().map(timeless).collect())
+}
+
+/// A line with N for the seconds of a crate.
+fn timeless(line: &str) -> String {
+    match line.split_once(" proved (") {
+        Some((crate_name, _)) => format!("{crate_name} proved (N s)\n"),
+        None => format!("{line}\n"),
+    }
 }
 
 /// What a run says that comes to the program, with these lines of the build.
@@ -107,16 +153,16 @@ fn the_first_build_shows_a_line_a_crate() {
     let all_said = format!("{} has all that rt said\n", log.display());
 
     fs::write(root.join("fails/check"), "").unwrap();
-    let not_proved = "sakyelbo: write_types NOT PROVED (exit 1, 3 s)\nsakyelbo: the library was not proved: ";
+    let not_proved = "sakyelbo: write_types NOT PROVED\nsakyelbo: the library was not proved: ";
     assert_eq!(sakyelbo(&root), failed(&format!("{PROVING}{not_proved}{all_said}")));
     assert!(fs::read_to_string(&log).unwrap().contains("fn write_bytes::put_at: proved\n"));
 
-    fs::rename(root.join("fails/check"), root.join("fails/staticlib")).unwrap();
+    fs::rename(root.join("fails/check"), root.join("fails/lib")).unwrap();
     let not_built = "sakyelbo: building the library\nsakyelbo: the library was not built: ";
     assert_eq!(sakyelbo(&root), failed(&format!("{PROVING}{not_built}{all_said}")));
-    assert!(fs::read_to_string(&log).unwrap().contains("fn sakyelbo::sakyelbo_check: proved\n"));
+    assert!(fs::read_to_string(&log).unwrap().contains("fn sakyelbo_c::sakyelbo_check: proved\n"));
 
-    fs::rename(root.join("fails/staticlib"), root.join("fails/cargo")).unwrap();
+    fs::rename(root.join("fails/lib"), root.join("fails/cargo")).unwrap();
     let no_program = "sakyelbo: building the library\ncargo build\nsakyelbo: the program was not built\n";
     assert_eq!(sakyelbo(&root), failed(&format!("{PROVING}{no_program}")));
 
@@ -126,7 +172,7 @@ fn the_first_build_shows_a_line_a_crate() {
 }
 
 /// A repository with stubs of both commands.
-fn with_commands(name: &str) -> PathBuf {
+fn with_commands(name: &str) -> Repository {
     let root = repository(name);
     add_rt(&root);
     add_cargo(&root);
@@ -147,7 +193,7 @@ fn what_has_changed_is_built_again() {
     built(&all);
     change("crates.txt");
     built(&all);
-    remove("crates/unused");
+    remove("crates/index/proofs/Unused.antt");
     built(&all);
     remove("target/staticlib/libsakyelbo.a");
     built(&all);
@@ -174,11 +220,11 @@ fn two_calls_at_once_build_once() {
     let _alone = ALONE.lock();
     let root = with_commands("at_once");
     let calls = [(); 2].map(|()| {
-        let root = root.clone();
+        let root = root.to_path_buf();
         thread::spawn(move || sakyelbo(&root))
     });
     for call in calls {
         assert_eq!(call.join().unwrap().0, 1);
     }
-    assert_eq!(fs::read_to_string(root.join("asked")).unwrap(), "check smtlib_script encoder\nstaticlib sakyelbo\n");
+    assert_eq!(fs::read_to_string(root.join("asked")).unwrap(), "check\nlib\n");
 }

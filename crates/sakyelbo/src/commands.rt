@@ -4,8 +4,7 @@ ghost use Rattle.script_spec.specs.Command as command;
 ghost use Rattle.sakyelbo.specs.Promise.{WritesCommand};
 
 // `; COMMENT`, on one line: 200 code points of it at most, and spaces for control characters.
-#[unsafe(no_mangle)]
-pub extern "C" fn sakyelbo_comment(comment: &[u8], out: &mut [u8], size: &mut usize) -> u64
+pub fn sakyelbo_comment(comment: &[u8], out: &mut [u8], size: &mut usize) -> u64
     ensures { WritesCommand (command.comment comment.now)
         out.old out.new size.new result }
 {
@@ -13,8 +12,7 @@ pub extern "C" fn sakyelbo_comment(comment: &[u8], out: &mut [u8], size: &mut us
 }
 
 // `(declare-datatype ID (CONSTRUCTORS))`, or `(declare-datatype ID (par (PARAMS) (CONSTRUCTORS)))`.
-#[unsafe(no_mangle)]
-pub extern "C" fn sakyelbo_declare_datatype(
+pub fn sakyelbo_declare_datatype(
     id: &[u8],
     params: &[&[u8]],
     constructors: &[&[u8]],
@@ -31,13 +29,7 @@ pub extern "C" fn sakyelbo_declare_datatype(
 }
 
 // `(declare-const ID SORT)`.
-#[unsafe(no_mangle)]
-pub extern "C" fn sakyelbo_declare_const(
-    id: &[u8],
-    sort: &[u8],
-    out: &mut [u8],
-    size: &mut usize,
-) -> u64
+pub fn sakyelbo_declare_const(id: &[u8], sort: &[u8], out: &mut [u8], size: &mut usize) -> u64
     ensures { WritesCommand (command.declare_const id.now sort.now)
         out.old out.new size.new result }
 {
@@ -45,8 +37,7 @@ pub extern "C" fn sakyelbo_declare_const(
 }
 
 // `(declare-fun ID (ARGS) SORT)`.
-#[unsafe(no_mangle)]
-pub extern "C" fn sakyelbo_declare_fun(
+pub fn sakyelbo_declare_fun(
     id: &[u8],
     args: &[&[u8]],
     sort: &[u8],
@@ -63,8 +54,7 @@ pub extern "C" fn sakyelbo_declare_fun(
 }
 
 // `(define-fun ID (ARGS) SORT BODY)`; an argument is a name of `names` with the sort at its place in `sorts`.
-#[unsafe(no_mangle)]
-pub extern "C" fn sakyelbo_define_fun(
+pub fn sakyelbo_define_fun(
     id: &[u8],
     names: &[&[u8]],
     sorts: &[&[u8]],
@@ -83,8 +73,7 @@ pub extern "C" fn sakyelbo_define_fun(
 }
 
 // `(assert BODY)`.
-#[unsafe(no_mangle)]
-pub extern "C" fn sakyelbo_assert_that(body: &[u8], out: &mut [u8], size: &mut usize) -> u64
+pub fn sakyelbo_assert_that(body: &[u8], out: &mut [u8], size: &mut usize) -> u64
     ensures { WritesCommand (command.assert_that body.now)
         out.old out.new size.new result }
 {
@@ -92,8 +81,7 @@ pub extern "C" fn sakyelbo_assert_that(body: &[u8], out: &mut [u8], size: &mut u
 }
 
 // `(set-logic LOGIC)`.
-#[unsafe(no_mangle)]
-pub extern "C" fn sakyelbo_set_logic(logic: &[u8], out: &mut [u8], size: &mut usize) -> u64
+pub fn sakyelbo_set_logic(logic: &[u8], out: &mut [u8], size: &mut usize) -> u64
     ensures { WritesCommand (command.set_logic logic.now)
         out.old out.new size.new result }
 {
@@ -101,13 +89,7 @@ pub extern "C" fn sakyelbo_set_logic(logic: &[u8], out: &mut [u8], size: &mut us
 }
 
 // `(set-option :OPTION VALUE)`.
-#[unsafe(no_mangle)]
-pub extern "C" fn sakyelbo_set_option(
-    option: &[u8],
-    value: &[u8],
-    out: &mut [u8],
-    size: &mut usize,
-) -> u64
+pub fn sakyelbo_set_option(option: &[u8], value: &[u8], out: &mut [u8], size: &mut usize) -> u64
     ensures { WritesCommand (command.set_option option.now value.now)
         out.old out.new size.new result }
 {
@@ -118,8 +100,7 @@ pub extern "C" fn sakyelbo_set_option(
 }
 
 // `(check-sat)`.
-#[unsafe(no_mangle)]
-pub extern "C" fn sakyelbo_check_sat(out: &mut [u8], size: &mut usize) -> u64
+pub fn sakyelbo_check_sat(out: &mut [u8], size: &mut usize) -> u64
     ensures { WritesCommand command.check_sat
         out.old out.new size.new result }
 {
@@ -127,8 +108,7 @@ pub extern "C" fn sakyelbo_check_sat(out: &mut [u8], size: &mut usize) -> u64
 }
 
 // `(get-model)`.
-#[unsafe(no_mangle)]
-pub extern "C" fn sakyelbo_get_model(out: &mut [u8], size: &mut usize) -> u64
+pub fn sakyelbo_get_model(out: &mut [u8], size: &mut usize) -> u64
     ensures { WritesCommand command.get_model
         out.old out.new size.new result }
 {
@@ -136,8 +116,7 @@ pub extern "C" fn sakyelbo_get_model(out: &mut [u8], size: &mut usize) -> u64
 }
 
 // `(reset)`.
-#[unsafe(no_mangle)]
-pub extern "C" fn sakyelbo_reset(out: &mut [u8], size: &mut usize) -> u64
+pub fn sakyelbo_reset(out: &mut [u8], size: &mut usize) -> u64
     ensures { WritesCommand command.reset
         out.old out.new size.new result }
 {
@@ -145,8 +124,7 @@ pub extern "C" fn sakyelbo_reset(out: &mut [u8], size: &mut usize) -> u64
 }
 
 // `(exit)`.
-#[unsafe(no_mangle)]
-pub extern "C" fn sakyelbo_exit(out: &mut [u8], size: &mut usize) -> u64
+pub fn sakyelbo_exit(out: &mut [u8], size: &mut usize) -> u64
     ensures { WritesCommand command.exit
         out.old out.new size.new result }
 {

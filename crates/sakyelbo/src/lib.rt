@@ -8,21 +8,14 @@ pub mod commands;
 ghost use Rattle.sakyelbo.specs.Promise.{ChecksFile, EncodesFile};
 
 // Checks a file; the memory is all zero afterwards.
-#[unsafe(no_mangle)]
-pub extern "C" fn sakyelbo_check(file: &[u8], work: &mut [u32]) -> u64
+pub fn sakyelbo_check(file: &[u8], work: &mut [u32]) -> u64
     ensures { ChecksFile file.now work.old work.new result }
 {
     answers::of_check(check_file::check(file, work))
 }
 
 // Encodes a file: the script and zeros past it, and its length behind `size`; or zeros alone. The memory is all zero afterwards.
-#[unsafe(no_mangle)]
-pub extern "C" fn sakyelbo_encode(
-    file: &[u8],
-    work: &mut [u32],
-    script: &mut [u8],
-    size: &mut usize,
-) -> u64
+pub fn sakyelbo_encode(file: &[u8], work: &mut [u32], script: &mut [u8], size: &mut usize) -> u64
     ensures { EncodesFile file.now work.old script.old work.new script.new size.new result }
 {
     answers::of_encode(encoder::encode(file, work, script), size)
