@@ -13,7 +13,7 @@ use Rattle.script_spec.specs.Tree.{Tree, node, nil, forest, trees, depth, depths
 use Rattle.script_spec.specs.Tree.{TermMark, Var, BoolLit, BitVecLit, StringLit, Entity, ExtLit, None, Some, Set, Record, App}
 use Rattle.script_spec.specs.Fields.{Entry}
 use Rattle.script_spec.specs.Fields as fields
-use Rattle.script_spec.specs.File.{TermFile, type, types, terms, type_at, term_at, named_mark, named, earlier, distinct, list_rules, rules}
+use Rattle.script_spec.specs.File.{TermFile, types, terms, type_at, term_at, named_mark, named, earlier, distinct, list_rules, rules}
 use Rattle.script_spec.proofs.Laws.{eq_tm_eq, eq_tm_refl}
 use Rattle.index.specs.First.{first_type, first_term, All, Below, MarkInRange, InRange}
 use Rattle.index.specs.Rules.{different, greatest, reference, type_by, type_named, parts, list_rules_by, limits, rules_by}

@@ -1,7 +1,6 @@
 -- `index::cell_place` meets its contract: each test that fails leaves no place, and a place that there is lies in the memory.
 -- Assumes nothing.
 use native.Mathlib.Omega.{arith}
-use borrow.Author.Rules.{rules}
 use Rattle.index.proofs.Cells.{offset_start, offset_end, offset_narrow, offset_no_column, offset_past}
 use Rattle.index.proofs.cell_place.Goals as goal
 

@@ -1,7 +1,6 @@
 -- `index::clear_column` meets its contract: the part that a column has is zeroed.
 -- Assumes nothing.
 use native.Mathlib.Omega.{arith}
-use borrow.Author.Rules.{rules}
 use Rattle.index.proofs.Columns.{emptied_narrow, emptied_no_column, column_fits, emptied_part}
 use Rattle.index.proofs.clear_column.Goals as goal
 

@@ -1,7 +1,5 @@
 -- `index::get` meets its contract: the list has 0 past its end.
 -- Assumes nothing.
-use native.Mathlib.Omega.{arith}
-use borrow.Author.Rules.{rules}
 use Rattle.index.specs.Cells.{cell}
 use Rattle.index.proofs.Cells.{placed_as, read_nowhere}
 use Rattle.index.proofs.get.Goals as goal

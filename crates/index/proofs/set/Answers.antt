@@ -1,7 +1,5 @@
 -- `index::set` meets its contract: a store past the end changes nothing.
 -- Assumes nothing.
-use native.Mathlib.Omega.{arith}
-use borrow.Author.Rules.{rules}
 use Rattle.index.specs.Cells.{store}
 use Rattle.index.proofs.Cells.{placed_as, store_nowhere}
 use Rattle.index.proofs.set.Goals as goal

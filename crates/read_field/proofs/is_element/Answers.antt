@@ -1,6 +1,5 @@
 -- The tests in their order.
 -- Assumes nothing.
-use borrow.Author.Rules.{rules}
 use borrow.Author.Tests.{eq-eqb, ne_eqb, le-leb, lt-leb}
 use Rattle.script_spec.specs.Tree.{wildcard}
 use Rattle.read_field.specs.Reads.{is_element}

@@ -1,7 +1,6 @@
 -- By cases on the answer.
 -- Assumes nothing.
 use mathlib.Core.Path.{ap, sym}
-use borrow.Author.Rules.{rules}
 use Rattle.read_field.specs.Answers.{number_moved}
 use Rattle.read_field.proofs.number_moved.Goals as goal
 

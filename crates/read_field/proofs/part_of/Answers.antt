@@ -1,7 +1,6 @@
 -- The three tests leave an empty part, the rest of the file, and the part as it is asked for.
 -- Assumes nothing.
 use native.Mathlib.Nat.{add-sub_cancel_left}
-use borrow.Author.Rules.{rules}
 use Rattle.read_field.proofs.Laws.{take_past, take_short}
 use Rattle.read_field.proofs.part_of.Goals as goal
 

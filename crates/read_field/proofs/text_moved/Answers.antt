@@ -1,7 +1,6 @@
 -- By cases on the answer.
 -- Assumes nothing.
 use mathlib.Core.Path.{ap, sym}
-use borrow.Author.Rules.{rules}
 use Rattle.read_field.specs.Answers.{text_moved}
 use Rattle.read_field.proofs.text_moved.Goals as goal
 

@@ -2,7 +2,6 @@
 -- Assumes nothing.
 use native.Mathlib.Omega.{arith}
 use Rattle.script_spec.specs.Fields.{low}
-use borrow.Author.Rules.{rules}
 use Rattle.read_field.proofs.word.Goals as goal
 
 pub returns : goal.returns

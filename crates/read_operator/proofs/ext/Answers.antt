@@ -3,7 +3,6 @@
 use mathlib.Core.Path.{refl, ap}
 use native.Mathlib.Nat.{le_trans}
 use lib.Dec.{lit≤}
-use borrow.Author.Rules.{rules}
 use Rattle.script_spec.specs.Fields.{pure, ext_op, coded}
 use Rattle.read_field.proofs.Coded.{reads_chosen, chosen_refused, at_map}
 use Rattle.read_field.proofs.Laws.{reads_stop, reads_next, reads_pure, tells}

@@ -1,6 +1,5 @@
 -- The four ranges of codes.
 -- Assumes nothing.
-use borrow.Author.Rules.{rules}
 use Rattle.read_operator.proofs.operand.Goals as goal
 
 pub returns-then-code-lt-BVSMOD : goal.returns-then-code-lt-BVSMOD

@@ -1,7 +1,6 @@
 -- The four ranges of codes.
 -- Assumes nothing.
 use native.Mathlib.Omega.{arith}
-use borrow.Author.Rules.{rules}
 use Rattle.read_operator.proofs.Again.{again, other_again}
 use Rattle.read_operator.proofs.operand_again.Goals as goal
 

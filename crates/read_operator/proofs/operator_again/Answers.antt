@@ -1,7 +1,6 @@
 -- `read_operator::operator_again` meets its contract: the code is the byte at the cursor, and then comes the operand.
 -- Assumes nothing.
 use native.Mathlib.Omega.{arith}
-use borrow.Author.Rules.{rules}
 use Rattle.script_spec.specs.Fields.{operator, coded}
 use Rattle.read_field.proofs.Laws.{reads_stop, reads_byte, byte_short}
 use Rattle.read_field.specs.Reads.{chosen}

@@ -1,7 +1,6 @@
 -- Each code by its arm; past the last code there is no operator.
 -- Assumes nothing.
 use mathlib.Core.Path.{refl}
-use borrow.Author.Rules.{rules}
 use Rattle.script_spec.specs.Base.{at}
 use Rattle.script_spec.specs.Fields.{operators, plain}
 use Rattle.read_field.proofs.Coded.{reads_chosen, chosen_refused}

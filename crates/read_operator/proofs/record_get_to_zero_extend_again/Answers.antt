@@ -1,7 +1,6 @@
 -- Three codes with operands that are read again; the others do not depend on how many functions there are.
 -- Assumes nothing.
 use mathlib.Core.Path.{refl}
-use borrow.Author.Rules.{rules}
 use Rattle.script_spec.specs.Base.{at}
 use Rattle.script_spec.specs.Fields.{operators}
 use Rattle.read_operator.specs.Operators.{record_get_operand, string_like, uninterpreted}

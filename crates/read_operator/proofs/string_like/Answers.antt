@@ -1,7 +1,6 @@
 -- The count of elements, and the elements.
 -- Assumes nothing.
 use mathlib.Core.Path.{ap}
-use borrow.Author.Rules.{rules}
 use Rattle.script_spec.specs.Fields.{list}
 use Rattle.read_field.proofs.Laws.{reads_stop, reads_next, reads_pure, tells}
 use Rattle.read_field.specs.Answers.{number_told, moved_told}

@@ -1,7 +1,6 @@
 -- The elements, by their count.
 -- Assumes nothing.
 use mathlib.Core.Path.{ap}
-use borrow.Author.Rules.{rules}
 use Rattle.read_field.proofs.Laws.{reads_stop, reads_next, tells}
 use Rattle.read_field.specs.Answers.{number_told, text_told}
 use Rattle.read_operator.specs.Operators.{op_told, op_of}

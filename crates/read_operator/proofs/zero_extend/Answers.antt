@@ -1,7 +1,6 @@
 -- The number of bits.
 -- Assumes nothing.
 use mathlib.Core.Path.{ap}
-use borrow.Author.Rules.{rules}
 use Rattle.read_field.proofs.Laws.{reads_stop, reads_next, reads_pure, tells}
 use Rattle.read_field.specs.Answers.{number_told}
 use Rattle.read_operator.specs.Operators.{op_told, op_of, zero_extend}

@@ -3,8 +3,6 @@
 use mathlib.Core.Path.{sym, ap, ◌∙◌}
 use native.Mathlib.Nat.{add-sub_cancel_left}
 use native.Mathlib.Omega.{arith}
-use borrow.Author.Rules.{rules}
-use borrow.Author.Tests.{not-true, not-false}
 use Rattle.read_record.specs.Bodies.{verdict_as}
 use Rattle.read_record.proofs.Records.{next_short, next_unknown, next_past, next_bad, next_fine}
 use Rattle.read_record.proofs.next_record.Goals as goal

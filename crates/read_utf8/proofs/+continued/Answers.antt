@@ -1,8 +1,6 @@
 -- `read_utf8::continued` meets its contract, by the number of bytes to come: each way through it is a law of `Steps`.
 -- Assumes nothing.
 use native.Mathlib.Omega.{arith}
-use borrow.Author.Rules.{rules}
-use Prim.Native.Nat.{ℕ, ◌<◌}
 use Rattle.read_utf8.proofs.Steps.{follow_done, follow_short, follow_outside, follow_more, small_shift, small_next}
 use Rattle.read_utf8.proofs.Decode.{between_below, between_above, between_in}
 use Rattle.read_utf8.proofs.+continued.Goals as goal

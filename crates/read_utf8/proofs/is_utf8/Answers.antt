@@ -1,11 +1,7 @@
 -- `read_utf8::is_utf8` meets its contract: the rest of the text is UTF-8 exactly if the whole is. The measure is the rest's length.
 -- Assumes nothing.
-use mathlib.Core.Path.{◌≡◌, refl, sym, ◌∙◌}
-use Prim.Native.Nat.{◌-◌}
-use lib.ListN.{length, drop}
+use mathlib.Core.Path.{refl, sym, ◌∙◌}
 use native.Mathlib.Omega.{arith}
-use borrow.Author.Rules.{rules}
-use Rattle.script_spec.specs.Utf8.{is_utf8}
 use Rattle.read_utf8.proofs.Laws.{next_point, next_malformed, next_end}
 use Rattle.read_utf8.proofs.is_utf8.Goals as goal
 

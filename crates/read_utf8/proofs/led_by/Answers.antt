@@ -2,7 +2,6 @@
 -- Assumes nothing.
 use lib.Dec.{eqb}
 use native.Mathlib.Omega.{arith}
-use borrow.Author.Rules.{rules}
 use Rattle.read_utf8.proofs.Steps.{led_low, led_two, led_three, led_four, led_high, small_chosen}
 use Rattle.read_utf8.proofs.led_by.Goals as goal
 

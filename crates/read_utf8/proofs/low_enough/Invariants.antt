@@ -1,15 +1,11 @@
 -- `read_utf8::low_enough` meets its contract: the rest of the text decides, as long as every code point before it passed. The measure
 -- is the rest's length.
 -- Assumes nothing.
-use mathlib.Core.Path.{◌≡◌, refl, sym, ap, ◌∙◌}
+use mathlib.Core.Path.{◌≡◌}
 use Prim.Native.Nat.{◌-◌}
-use borrow.Author.Tests.{not-true, not-false}
 use lib.ListN.{length, drop}
-use native.Mathlib.Omega.{arith}
-use borrow.Author.Rules.{rules}
 use Rattle.script_spec.specs.Walk.{low_enough}
 use Rattle.read_utf8.specs.Decoding.{points}
-use Rattle.read_utf8.proofs.Laws.{next_point, next_malformed, next_end, low_more, low_stop}
 use Rattle.read_utf8.proofs.low_enough.Given as goal
 
 abbrev pub invariant-loop-c : goal.invariant-loop-c

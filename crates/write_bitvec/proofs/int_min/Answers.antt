@@ -1,8 +1,6 @@
 -- `write_bitvec::int_min` meets its contract: the power below the width fits 128 bits.
 -- Assumes nothing.
-use borrow.Author.Rules.{rules}
 use mathlib.Core.Path.{sym, ◌∙◌}
-use borrow.Author.Tests.{not-true, not-false}
 use Rattle.write_bitvec.specs.Vector.{said, int_min}
 use Rattle.write_bitvec.proofs.Vectors.{is_width_range, vector_if_no, vector_if_yes, int_min_value}
 use Rattle.write_bitvec.proofs.int_min.Goals as goal

@@ -1,8 +1,6 @@
 -- `write_bitvec::new` meets its contract: each test decides as the definition's does.
 -- Assumes nothing.
-use borrow.Author.Rules.{rules}
 use mathlib.Core.Path.{refl, sym, ◌∙◌}
-use borrow.Author.Tests.{not-true, not-false}
 use Rattle.write_bitvec.specs.Vector.{said, new_vector}
 use Rattle.write_bitvec.proofs.Vectors.{vector_if_no, vector_if_yes}
 use Rattle.write_bitvec.proofs.new.Goals as goal

@@ -1,10 +1,8 @@
 -- `write_bitvec::of_int` meets its contract: the last bits of two's complement in 128 bits.
 -- Assumes nothing.
-use borrow.Author.Rules.{rules}
 use mathlib.Core.Path.{sym, ap, ◌∙◌}
 use mir.Facts.{to_z-of_z}
 use Rattle.write_bitvec.specs.Value.{twos_complement}
-use borrow.Author.Tests.{not-true, not-false}
 use Rattle.write_bitvec.specs.Vector.{said, of_int}
 use Rattle.write_bitvec.proofs.Vectors.{vector_if_no, vector_if_yes, of_int_value}
 use Rattle.write_bitvec.proofs.of_int.Goals as goal

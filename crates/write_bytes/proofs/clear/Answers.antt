@@ -1,7 +1,6 @@
 -- `write_bytes::clear` meets its contract: the part from the place on is zeroed.
 -- Assumes nothing.
 use Rattle.write_bytes.proofs.Clearing.{cleared_part}
-use borrow.Author.Rules.{rules}
 use Rattle.write_bytes.proofs.clear.Goals as goal
 
 pub returns : goal.returns

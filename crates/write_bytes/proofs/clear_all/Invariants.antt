@@ -1,9 +1,8 @@
 -- `write_bytes::clear_all` meets its contract: the loop keeps `Zeroed`, and its measure is what is left.
 -- Assumes nothing.
-use borrow.Author.Rules.{rules}
 use lib.ListN.{length}
 use Prim.Native.Nat.{◌-◌}
-use Rattle.write_bytes.proofs.Clearing.{Zeroed, zeroed_none, zeroed_suc, zeroed_all}
+use Rattle.write_bytes.proofs.Clearing.{Zeroed}
 use Rattle.write_bytes.proofs.clear_all.Given as goal
 
 abbrev pub invariant-loop-i : goal.invariant-loop-i

@@ -1,9 +1,6 @@
 -- `write_bytes::clear_words` meets its contract: the loop keeps `Zeroed`, and its measure is what is left.
 -- Assumes nothing.
-use borrow.Author.Rules.{rules}
-use lib.ListN.{length}
-use Prim.Native.Nat.{◌-◌}
-use Rattle.write_bytes.proofs.Clearing.{Zeroed, zeroed_none, zeroed_suc, zeroed_all}
+use Rattle.write_bytes.proofs.Clearing.{zeroed_none, zeroed_suc, zeroed_all}
 use Rattle.write_bytes.proofs.clear_words.Goals as goal
 
 pub loop-i-init : goal.loop-i-init

@@ -1,6 +1,5 @@
 -- `write_bytes::copy` meets its contract: either count is the smaller of the two lengths.
 -- Assumes nothing.
-use borrow.Author.Rules.{rules}
 use mathlib.Core.Path.{◌∙◌}
 use native.Mathlib.Omega.{arith}
 use Rattle.write_bytes.proofs.Put.{laid_whole}

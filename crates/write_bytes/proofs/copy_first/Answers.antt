@@ -1,11 +1,10 @@
 -- `write_bytes::copy_first` meets its contract: after i turns i bytes are laid over the buffer. The measure is what is left.
 -- Assumes nothing.
 use borrow.Author.Rules.{rules}
-use lib.ListN.{length, length-set}
+use lib.ListN.{length-set}
 use mathlib.Core.Path.{◌≡◌, refl}
 use native.Mathlib.Numerals.{add-one}
 use native.Mathlib.Omega.{arith}
-use Prim.Native.Nat.{◌≤◌, ◌-◌}
 use Rattle.write_bytes.specs.Writing.{laid}
 use Rattle.write_bytes.proofs.Put.{laid_suc}
 use Rattle.write_bytes.proofs.copy_first.Goals as goal

@@ -1,13 +1,9 @@
 -- `write_bytes::copy_first` meets its contract: after i turns i bytes are laid over the buffer. The measure is what is left.
 -- Assumes nothing.
-use borrow.Author.Rules.{rules}
-use lib.ListN.{length, length-set}
-use mathlib.Core.Path.{◌≡◌, refl}
-use native.Mathlib.Numerals.{add-one}
-use native.Mathlib.Omega.{arith}
+use lib.ListN.{length}
+use mathlib.Core.Path.{◌≡◌}
 use Prim.Native.Nat.{◌≤◌, ◌-◌}
 use Rattle.write_bytes.specs.Writing.{laid}
-use Rattle.write_bytes.proofs.Put.{laid_suc}
 use Rattle.write_bytes.proofs.copy_first.Given as goal
 
 abbrev pub invariant-loop-i : goal.invariant-loop-i

@@ -3,7 +3,6 @@
 use Rattle.write_bytes.proofs.Laws.{finishes_length, finishes_refused}
 use Rattle.write_bytes.specs.Writing.{answer}
 use native.Mathlib.Omega.{arith}
-use borrow.Author.Rules.{rules}
 use Rattle.write_bytes.proofs.finish.Goals as goal
 
 pub returns-then-out-at : goal.returns-then-out-at

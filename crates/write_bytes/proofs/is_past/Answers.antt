@@ -1,7 +1,6 @@
 -- `write_bytes::is_past` meets its contract.
 -- Assumes nothing.
 use borrow.Author.Tests.{lt-ltb, le-ltb}
-use borrow.Author.Rules.{rules}
 use Rattle.write_bytes.proofs.is_past.Goals as goal
 
 pub returns-then-smaller-at : goal.returns-then-smaller-at

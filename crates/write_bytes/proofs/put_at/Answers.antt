@@ -1,7 +1,6 @@
 -- `write_bytes::put_at` meets its contract: what is copied continues what was written before.
 -- Assumes nothing.
 use Rattle.write_bytes.proofs.Put.{put_appends}
-use borrow.Author.Rules.{rules}
 use Rattle.write_bytes.proofs.put_at.Goals as goal
 
 pub returns : goal.returns

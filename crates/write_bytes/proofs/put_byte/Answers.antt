@@ -2,7 +2,6 @@
 -- Assumes nothing.
 use mathlib.Core.Path.{refl}
 use Rattle.write_bytes.proofs.Put.{byte_appends, past_appends}
-use borrow.Author.Rules.{rules}
 use Rattle.write_bytes.proofs.put_byte.Goals as goal
 
 pub returns-then-at-smaller : goal.returns-then-at-smaller

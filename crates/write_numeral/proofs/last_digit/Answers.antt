@@ -2,7 +2,6 @@
 -- Assumes nothing.
 use mathlib.Core.Path.{sym}
 use native.Mathlib.Omega.{arith}
-use borrow.Author.Rules.{rules}
 use Rattle.script_spec.proofs.Numerals.{digit_low, digit_high}
 use Rattle.write_numeral.proofs.Laws.{mod_small}
 use Rattle.write_numeral.proofs.last_digit.Goals as goal

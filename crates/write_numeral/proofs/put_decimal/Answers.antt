@@ -4,7 +4,6 @@ use mathlib.Core.Path.{refl}
 use Rattle.script_spec.specs.Text.{decimal}
 use Rattle.write_bytes.proofs.Laws.{◌then◌, says}
 use Rattle.write_numeral.proofs.Laws.{tenth_of_hundredth, one_digit, two_digits, three_digits, four_digits, five_digits}
-use borrow.Author.Rules.{rules}
 use Rattle.write_numeral.proofs.put_decimal.Goals as goal
 
 pub returns-then-n-lt10 : goal.returns-then-n-lt10

@@ -1,6 +1,5 @@
 -- `write_numeral::put_hex` meets its contract: base sixteen.
 -- Assumes nothing.
-use borrow.Author.Rules.{rules}
 use Rattle.script_spec.specs.Text.{hex}
 use Rattle.write_numeral.proofs.put_hex.Goals as goal
 

@@ -3,9 +3,8 @@
 use lib.ListN.{replicate}
 use mathlib.Core.Path.{refl}
 use native.Mathlib.Omega.{arith}
-use borrow.Author.Rules.{rules}
 use Rattle.write_bytes.proofs.Laws.{says}
-use Rattle.write_numeral.proofs.Laws.{Laid, laid_start, laid_inside, laid_next, laid_end, div_smaller}
+use Rattle.write_numeral.proofs.Laws.{laid_start, laid_inside, laid_next, laid_end, div_smaller}
 use Rattle.write_numeral.proofs.put_numeral.Goals as goal
 
 pub loop-left-init : goal.loop-left-init

@@ -1,11 +1,6 @@
 -- `write_numeral::put_numeral` meets its contract: the loop keeps `Laid`, and what is left falls.
 -- Assumes nothing.
-use lib.ListN.{replicate}
-use mathlib.Core.Path.{refl}
-use native.Mathlib.Omega.{arith}
-use borrow.Author.Rules.{rules}
-use Rattle.write_bytes.proofs.Laws.{says}
-use Rattle.write_numeral.proofs.Laws.{Laid, laid_start, laid_inside, laid_next, laid_end, div_smaller}
+use Rattle.write_numeral.proofs.Laws.{Laid}
 use Rattle.write_numeral.proofs.put_numeral.Given as goal
 
 abbrev pub invariant-loop-left : goal.invariant-loop-left

@@ -2,7 +2,6 @@
 -- Assumes nothing.
 use Rattle.write_bytes.proofs.Laws.{◌then◌, says}
 use Rattle.write_numeral.proofs.Laws.{two_bytes}
-use borrow.Author.Rules.{rules}
 use Rattle.write_numeral.proofs.put_two.Goals as goal
 
 pub returns : goal.returns

@@ -1,6 +1,5 @@
 -- `write_pattern::put_element` meets its contract: the wildcard, or three writes in a row.
 -- Assumes nothing.
-use borrow.Author.Rules.{rules}
 use Rattle.script_spec.specs.Base.{bytes}
 use Rattle.write_bytes.proofs.Laws.{◌then◌, says}
 use Rattle.write_pattern.proofs.Laws.{element_wildcard, element_point}

@@ -1,16 +1,11 @@
 -- `write_pattern::put_elements` meets its contract: each turn writes one of the elements that are to be written, as long as the place is
 -- not past the limit. The measure is the rest's length.
 -- Assumes nothing.
-use mathlib.Core.Path.{◌≡◌, refl, ap, ◌∙◌}
-use Prim.Native.Nat.{◌-◌}
-use lib.ListN.{length, drop}
-use borrow.Author.Rules.{rules}
-use Rattle.script_spec.specs.Base.{collect}
+use mathlib.Core.Path.{refl, ap, ◌∙◌}
 use Rattle.write_bytes.proofs.Laws.{◌then◌}
-use Rattle.write_bytes.proofs.Loop.{Along, along_start, along_step, along_end, along_past}
+use Rattle.write_bytes.proofs.Loop.{along_start, along_step, along_end, along_past}
 use Rattle.read_field.specs.Answers.{number_told}
 use Rattle.read_field.proofs.Laws.{tells}
-use Rattle.write_pattern.specs.Elements.{elements, spaced_element}
 use Rattle.write_pattern.proofs.Laws.{element_at, element_none, collect_next, collect_none}
 use Rattle.write_pattern.proofs.put_elements.Goals as goal
 

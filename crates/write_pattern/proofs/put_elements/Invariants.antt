@@ -1,17 +1,12 @@
 -- `write_pattern::put_elements` meets its contract: each turn writes one of the elements that are to be written, as long as the place is
 -- not past the limit. The measure is the rest's length.
 -- Assumes nothing.
-use mathlib.Core.Path.{◌≡◌, refl, ap, ◌∙◌}
+use mathlib.Core.Path.{◌≡◌}
 use Prim.Native.Nat.{◌-◌}
 use lib.ListN.{length, drop}
-use borrow.Author.Rules.{rules}
 use Rattle.script_spec.specs.Base.{collect}
-use Rattle.write_bytes.proofs.Laws.{◌then◌}
-use Rattle.write_bytes.proofs.Loop.{Along, along_start, along_step, along_end, along_past}
-use Rattle.read_field.specs.Answers.{number_told}
-use Rattle.read_field.proofs.Laws.{tells}
+use Rattle.write_bytes.proofs.Loop.{Along}
 use Rattle.write_pattern.specs.Elements.{elements, spaced_element}
-use Rattle.write_pattern.proofs.Laws.{element_at, element_none, collect_next, collect_none}
 use Rattle.write_pattern.proofs.put_elements.Given as goal
 
 abbrev pub invariant-loop-cursor : goal.invariant-loop-cursor

@@ -1,7 +1,6 @@
 -- `write_pattern::put_pattern` meets its contract: no element, several, or one.
 -- Assumes nothing.
 use mathlib.Core.Path.{ap}
-use borrow.Author.Rules.{rules}
 use Rattle.script_spec.specs.Base.{bytes}
 use Rattle.write_bytes.proofs.Laws.{says}
 use Rattle.read_field.specs.Answers.{number_told}

@@ -1,6 +1,5 @@
 -- `write_pattern::put_several` meets its contract: four writes in a row.
 -- Assumes nothing.
-use borrow.Author.Rules.{rules}
 use Rattle.script_spec.specs.Base.{bytes}
 use Rattle.write_bytes.proofs.Laws.{◌then◌}
 use Rattle.write_pattern.specs.Elements.{several}

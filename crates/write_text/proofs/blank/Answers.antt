@@ -1,7 +1,6 @@
 -- `write_text::blank` meets its contract: by the test.
 -- Assumes nothing.
 use mathlib.Core.Path.{sym, ◌∙◌}
-use borrow.Author.Rules.{rules}
 use Rattle.script_spec.specs.Text.{space_if}
 use Rattle.write_text.proofs.blank.Goals as goal
 

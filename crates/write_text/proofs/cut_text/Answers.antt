@@ -1,11 +1,8 @@
 -- `write_text::cut_text` meets its contract: the text is kept as far as the place reached, and the code points are counted. The measure is what
 -- is left.
 -- Assumes nothing.
-use Prim.Native.Nat.{◌-◌}
-use lib.ListN.{length}
 use native.Mathlib.Omega.{arith}
-use borrow.Author.Rules.{rules}
-use Rattle.write_text.proofs.CutLaws.{begun_one, Kept, kept_none, kept_more, kept_cut, kept_all}
+use Rattle.write_text.proofs.CutLaws.{begun_one, kept_none, kept_more, kept_cut, kept_all}
 use Rattle.write_text.proofs.cut_text.Goals as goal
 
 pub loop-end-init : goal.loop-end-init

@@ -3,9 +3,7 @@
 -- Assumes nothing.
 use Prim.Native.Nat.{◌-◌}
 use lib.ListN.{length}
-use native.Mathlib.Omega.{arith}
-use borrow.Author.Rules.{rules}
-use Rattle.write_text.proofs.CutLaws.{begun_one, Kept, kept_none, kept_more, kept_cut, kept_all}
+use Rattle.write_text.proofs.CutLaws.{Kept}
 use Rattle.write_text.proofs.cut_text.Given as goal
 
 abbrev pub invariant-loop-end : goal.invariant-loop-end

@@ -1,7 +1,6 @@
 -- `write_text::is_over` meets its contract: the first test decides, or else the second.
 -- Assumes nothing.
 use native.Mathlib.Omega.{arith}
-use borrow.Author.Rules.{rules}
 use borrow.Author.Tests.{lt-ltb, le-ltb}
 use Rattle.write_text.specs.Comments.{over}
 use Rattle.write_text.proofs.is_over.Goals as goal

@@ -1,6 +1,5 @@
 -- `write_text::is_stop` meets its contract, test by test.
 -- Assumes nothing.
-use borrow.Author.Rules.{rules}
 use Rattle.write_text.specs.Written.{stops}
 use Rattle.write_text.proofs.Laws.{stops_quote, stops_backslash, stops_else}
 use Rattle.write_text.proofs.is_stop.Goals as goal

@@ -1,14 +1,11 @@
 -- `write_text::put_blanked` meets its contract: each turn writes a run without control characters and the byte after it, as long as the place
 -- is not past the limit. The measure is what is left of the text.
 -- Assumes nothing.
-use mathlib.Core.Path.{◌≡◌, refl, ◌∙◌}
+use mathlib.Core.Path.{◌≡◌}
 use Prim.Native.Nat.{◌-◌, ◌≤◌}
 use lib.ListN.{length, drop}
-use native.Mathlib.Omega.{arith}
-use borrow.Author.Rules.{rules}
 use Rattle.script_spec.specs.Text.{blanked}
-use Rattle.write_bytes.proofs.Loop.{Along, along_start, along_step, along_end, along_past}
-use Rattle.write_text.proofs.Runs.{blanked_passed, blanked_byte, blanked_end}
+use Rattle.write_bytes.proofs.Loop.{Along}
 use Rattle.write_text.proofs.put_blanked.Given as goal
 
 abbrev pub invariant-loop-at : goal.invariant-loop-at

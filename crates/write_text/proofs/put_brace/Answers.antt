@@ -1,6 +1,5 @@
 -- `write_text::put_brace` meets its contract: three writes in a row.
 -- Assumes nothing.
-use borrow.Author.Rules.{rules}
 use Rattle.write_bytes.proofs.Laws.{◌then◌}
 use Rattle.script_spec.specs.Base.{bytes}
 use Rattle.script_spec.specs.Text.{brace}

@@ -2,7 +2,6 @@
 -- Assumes nothing.
 use mathlib.Core.Path.{sym}
 use lib.Seq.{length-take-le}
-use borrow.Author.Rules.{rules}
 use Rattle.write_text.proofs.CommentLaws.{goes_on, comment_over, not_over}
 use Rattle.write_text.proofs.put_comment_text.Goals as goal
 

@@ -2,7 +2,6 @@
 -- Assumes nothing.
 use mathlib.Core.Path.{refl}
 use native.Mathlib.Omega.{arith}
-use borrow.Author.Rules.{rules}
 use Rattle.write_bytes.proofs.Cutting.{cut_short, cut_long}
 use Rattle.write_text.proofs.put_debug.Goals as goal
 

@@ -1,7 +1,6 @@
 -- `write_text::put_debug_char` meets its contract: six code points with a letter of their own, and any other.
 -- Assumes nothing.
 use mathlib.Core.Path.{ap, sym, ◌∙◌}
-use borrow.Author.Rules.{rules}
 use Rattle.script_spec.specs.Text.{debug_char}
 use Rattle.write_bytes.proofs.Laws.{says}
 use Rattle.write_text.proofs.Laws.{debug_letters, debug_shown}

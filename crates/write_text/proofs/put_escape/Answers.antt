@@ -1,6 +1,5 @@
 -- `write_text::put_escape` meets its contract: the quote, the backslash, and any other code point.
 -- Assumes nothing.
-use borrow.Author.Rules.{rules}
 use Rattle.write_bytes.proofs.Laws.{says}
 use Rattle.write_text.proofs.Laws.{escape_quote, escape_backslash, escape_shown}
 use Rattle.write_text.proofs.put_escape.Goals as goal

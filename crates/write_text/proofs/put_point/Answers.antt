@@ -1,6 +1,5 @@
 -- `write_text::put_point` meets its contract: by the way of spelling.
 -- Assumes nothing.
-use borrow.Author.Rules.{rules}
 use Rattle.write_text.specs.Written.{spelling}
 use Rattle.write_text.proofs.put_point.Goals as goal
 

@@ -1,16 +1,10 @@
 -- `write_text::put_points` meets its contract: each turn writes a run of plain bytes and one code point of what is to be written, as long
 -- as the place is not past the limit. The measure is what is left of the text.
 -- Assumes nothing.
-use mathlib.Core.Path.{◌≡◌, refl, ◌∙◌}
-use Prim.Native.Nat.{◌-◌, ◌≤◌}
-use lib.ListN.{length, drop}
+use mathlib.Core.Path.{refl, ◌∙◌}
 use native.Mathlib.Omega.{arith}
-use borrow.Author.Rules.{rules}
-use Rattle.script_spec.specs.Base.{collect}
-use Rattle.write_bytes.proofs.Loop.{Along, along_start, along_step, along_end, along_past}
-use Rattle.read_utf8.specs.Decoding.{points}
+use Rattle.write_bytes.proofs.Loop.{along_start, along_step, along_end, along_past}
 use Rattle.read_utf8.proofs.Laws.{next_point, next_malformed, next_end}
-use Rattle.write_text.specs.Written.{spelling}
 use Rattle.write_text.proofs.Runs.{points_passed, points_next, points_none}
 use Rattle.write_text.proofs.put_points.Goals as goal
 

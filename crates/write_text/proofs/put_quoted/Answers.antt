@@ -1,6 +1,5 @@
 -- `write_text::put_quoted` meets its contract: three writes in a row.
 -- Assumes nothing.
-use borrow.Author.Rules.{rules}
 use Rattle.write_bytes.proofs.Laws.{◌then◌}
 use Rattle.write_text.specs.Written.{quoted}
 use Rattle.write_text.proofs.put_quoted.Goals as goal

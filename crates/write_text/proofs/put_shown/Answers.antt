@@ -2,7 +2,6 @@
 -- Assumes nothing.
 use mathlib.Core.Path.{sym, ◌∙◌}
 use native.Mathlib.Omega.{arith}
-use borrow.Author.Rules.{rules}
 use Rattle.write_bytes.proofs.Laws.{says}
 use Rattle.write_text.proofs.Laws.{printable_small, shown_plain, shown_brace}
 use Rattle.write_text.proofs.put_shown.Goals as goal

@@ -1,12 +1,8 @@
 -- `write_text::run_end` meets its contract: no stop stands before the place reached. The measure is what is left.
 -- Assumes nothing.
-use mathlib.Core.Path.{sym, ◌∙◌}
 use Prim.Native.Nat.{◌-◌, ◌≤◌}
 use lib.ListN.{length}
-use native.Mathlib.Omega.{arith}
-use borrow.Author.Rules.{rules}
 use Rattle.write_text.specs.Written.{stops, Passed}
-use Rattle.write_text.proofs.Runs.{passed_none, passed_more}
 use Rattle.write_text.proofs.run_end.Given as goal
 
 abbrev pub invariant-loop-i : goal.invariant-loop-i

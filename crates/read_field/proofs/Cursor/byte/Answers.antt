@@ -1,7 +1,6 @@
 -- A byte of the body, where one is left.
 -- Assumes nothing.
 use native.Mathlib.Omega.{arith}
-use borrow.Author.Rules.{rules}
 use Rattle.read_field.specs.Answers.{number_told}
 use Rattle.read_field.proofs.Laws.{byte_short, reads_byte}
 use Rattle.read_field.proofs.Cursor.byte.Goals as goal

@@ -1,7 +1,6 @@
 -- A byte below the bound.
 -- Assumes nothing.
 use mathlib.Core.Path.{ap}
-use borrow.Author.Rules.{rules}
 use Rattle.read_field.specs.Answers.{number_told}
 use Rattle.read_field.specs.Reads.{code}
 use Rattle.read_field.proofs.Laws.{reads_stop, reads_next, tells}

@@ -1,7 +1,6 @@
 -- A number that is the wildcard or a code point.
 -- Assumes nothing.
 use mathlib.Core.Path.{ap}
-use borrow.Author.Rules.{rules}
 use Rattle.script_spec.specs.Fields.{element}
 use Rattle.read_field.specs.Answers.{number_told}
 use Rattle.read_field.specs.Reads.{is_element}

@@ -1,7 +1,6 @@
 -- The next bytes of the body, where so many are left.
 -- Assumes nothing.
 use native.Mathlib.Omega.{arith}
-use borrow.Author.Rules.{rules}
 use Rattle.read_field.specs.Answers.{text_told, spanned}
 use Rattle.read_field.proofs.Laws.{part_short, reads_part}
 use Rattle.read_field.proofs.Cursor.part.Goals as goal

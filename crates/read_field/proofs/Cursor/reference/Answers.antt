@@ -1,7 +1,6 @@
 -- A number below the count of earlier records.
 -- Assumes nothing.
 use mathlib.Core.Path.{ap}
-use borrow.Author.Rules.{rules}
 use Rattle.script_spec.specs.Fields.{ref}
 use Rattle.read_field.specs.Answers.{number_told}
 use Rattle.read_field.proofs.Laws.{reads_stop, reads_next, tells}

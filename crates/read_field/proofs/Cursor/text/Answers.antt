@@ -1,7 +1,6 @@
 -- A text: its count, its bytes, and the test that they are UTF-8, each refusal where the definition has it.
 -- Assumes nothing.
 use mathlib.Core.Path.{sym, ◌∙◌, ap}
-use borrow.Author.Rules.{rules}
 use Rattle.script_spec.specs.Fields.{text}
 use Rattle.script_spec.specs.Utf8.{is_utf8}
 use Rattle.read_field.specs.Answers.{number_told, text_told, spanned}

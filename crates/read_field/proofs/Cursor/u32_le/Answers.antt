@@ -3,7 +3,6 @@
 use Rattle.read_field.specs.Answers.{number_told}
 use Rattle.read_field.proofs.Laws.{u32_short, reads_u32}
 use native.Mathlib.Omega.{arith}
-use borrow.Author.Rules.{rules}
 use Rattle.read_field.proofs.Cursor.u32_le.Goals as goal
 
 pub returns-then-left-lt4 : goal.returns-then-left-lt4

@@ -1,7 +1,6 @@
 -- The count, and then the items.
 -- Assumes nothing.
 use mathlib.Core.Path.{ap}
-use borrow.Author.Rules.{rules}
 use Rattle.read_field.specs.Answers.{number_told, moved_told}
 use Rattle.read_field.proofs.Skims.{list_items}
 use Rattle.read_field.proofs.Laws.{reads_alike, reads_stop, reads_next, tells}

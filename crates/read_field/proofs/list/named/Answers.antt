@@ -1,7 +1,6 @@
 -- A text and then a reference.
 -- Assumes nothing.
 use mathlib.Core.Path.{ap}
-use borrow.Author.Rules.{rules}
 use Rattle.script_spec.specs.Fields.{pair}
 use Rattle.read_field.specs.Answers.{text_told, moved_told}
 use Rattle.read_field.specs.Items.{item_reader}

@@ -1,6 +1,5 @@
 -- By cases on what the items are.
 -- Assumes nothing.
-use borrow.Author.Rules.{rules}
 use Rattle.read_field.specs.Items.{item_reader}
 use Rattle.read_field.proofs.Laws.{skims_text, skims_number}
 use Rattle.read_field.proofs.list.next_item.Goals as goal

@@ -1,7 +1,6 @@
 -- The address bytes, and then the prefix.
 -- Assumes nothing.
 use mathlib.Core.Path.{ap}
-use borrow.Author.Rules.{rules}
 use Rattle.script_spec.specs.Fields.{address}
 use Rattle.read_field.proofs.Laws.{reads_stop, reads_next, reads_pure, skims_number, tells}
 use Rattle.read_field.specs.Answers.{text_told, moved_told}

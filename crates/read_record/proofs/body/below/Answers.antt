@@ -1,7 +1,6 @@
 -- The value bytes, and the test of their number by its halves.
 -- Assumes nothing.
 use mathlib.Core.Path.{ap}
-use borrow.Author.Rules.{rules}
 use Rattle.script_spec.specs.Fields.{number}
 use Rattle.read_field.proofs.Laws.{reads_stop, reads_next, reads_pure, reads_skim, reads_ensured, reads_refused, skimmed, tells}
 use Rattle.read_field.specs.Answers.{text_told, moved_told, spanned}

@@ -1,7 +1,6 @@
 -- The width, and then the value.
 -- Assumes nothing.
 use mathlib.Core.Path.{ap}
-use borrow.Author.Rules.{rules}
 use Rattle.read_field.proofs.Laws.{reads_stop, reads_next, tells}
 use Rattle.read_field.specs.Answers.{number_told, moved_told}
 use Rattle.read_record.specs.Fields.{bit_vec_field}

@@ -1,6 +1,5 @@
 -- Each code by the table of values.
 -- Assumes nothing.
-use borrow.Author.Rules.{rules}
 use Rattle.read_field.proofs.Coded.{chosen_refused}
 use Rattle.read_field.proofs.Laws.{skims_text, reads_skim, skimmed}
 use Rattle.read_field.specs.Answers.{moved_told}

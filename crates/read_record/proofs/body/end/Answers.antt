@@ -1,6 +1,5 @@
 -- By how many bytes are left.
 -- Assumes nothing.
-use borrow.Author.Rules.{rules}
 use Rattle.read_record.proofs.Verdicts.{ended_at, ended_before}
 use Rattle.read_record.proofs.body.end.Goals as goal
 

@@ -1,7 +1,6 @@
 -- The reference, and then the mark of the type that it names.
 -- Assumes nothing.
 use mathlib.Core.Path.{ap, sym, ◌∙◌}
-use borrow.Author.Rules.{rules}
 use Rattle.read_field.proofs.Laws.{reads_stop, reads_next, reads_skim, reads_ensured, reads_refused, skimmed, tells}
 use Rattle.read_field.specs.Answers.{number_told, moved_told}
 use Rattle.read_field.specs.Reads.{value, refusal}

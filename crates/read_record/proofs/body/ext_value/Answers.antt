@@ -1,7 +1,6 @@
 -- The code, and then what it says.
 -- Assumes nothing.
 use mathlib.Core.Path.{ap}
-use borrow.Author.Rules.{rules}
 use Rattle.script_spec.specs.Fields.{value, coded}
 use Rattle.read_field.proofs.Laws.{reads_stop, tells}
 use Rattle.read_field.specs.Answers.{number_told, moved_told}

@@ -1,7 +1,6 @@
 -- By cases on the answer.
 -- Assumes nothing.
 use mathlib.Core.Path.{ap, sym}
-use borrow.Author.Rules.{rules}
 use Rattle.read_record.specs.Bodies.{op_moved}
 use Rattle.read_record.proofs.body.op_moved.Goals as goal
 

@@ -1,7 +1,6 @@
 -- The three fields in their order, and the end of the body.
 -- Assumes nothing.
 use mathlib.Core.Path.{refl, ap}
-use borrow.Author.Rules.{rules}
 use Rattle.read_field.proofs.Laws.{reads_stop, reads_next, tells}
 use Rattle.read_field.specs.Answers.{moved_told}
 use Rattle.read_field.specs.Reads.{value, refusal, as_read}

@@ -1,6 +1,5 @@
 -- Each field by its own reader.
 -- Assumes nothing.
-use borrow.Author.Rules.{rules}
 use Rattle.read_field.proofs.Laws.{reads_pure, skims_text, skims_number}
 use Rattle.read_field.specs.Answers.{moved_told}
 use Rattle.read_record.specs.Fields.{field_reader}

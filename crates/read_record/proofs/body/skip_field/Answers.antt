@@ -1,6 +1,5 @@
 -- No field reads nothing; the others are read as they are.
 -- Assumes nothing.
-use borrow.Author.Rules.{rules}
 use Rattle.read_field.proofs.Laws.{reads_pure}
 use Rattle.read_field.specs.Answers.{moved_told}
 use Rattle.read_record.specs.Fields.{field_reader}

@@ -1,6 +1,5 @@
 -- A reference by its own reader; the others are read as they are.
 -- Assumes nothing.
-use borrow.Author.Rules.{rules}
 use Rattle.read_field.proofs.Laws.{skims_number}
 use Rattle.read_field.specs.Answers.{moved_told}
 use Rattle.read_record.specs.Fields.{field_reader}

@@ -1,6 +1,5 @@
 -- Each kind's fields by its arm.
 -- Assumes nothing.
-use borrow.Author.Rules.{rules}
 use Rattle.read_record.proofs.fields.fields_of.Goals as goal
 
 pub returns-in-TB : goal.returns-in-TB

@@ -1,6 +1,5 @@
 -- Every kind but `Unknown` has a mark.
 -- Assumes nothing.
-use borrow.Author.Rules.{rules}
 use Rattle.script_spec.specs.Base.{is_some}
 use Rattle.read_record.specs.Marks.{reader_of, reader_for, mark}
 use Rattle.read_record.proofs.Marked.{known_kind}

@@ -1,6 +1,5 @@
 -- By the first byte, and then by the second.
 -- Assumes nothing.
-use borrow.Author.Rules.{rules}
 use borrow.Author.Tests.{ne_eqb}
 use Rattle.script_spec.specs.Base.{bytes, any, same}
 use Rattle.read_record.specs.Marks.{MarkedAs, mark}

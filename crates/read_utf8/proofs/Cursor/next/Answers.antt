@@ -1,6 +1,5 @@
 -- `read_utf8::Cursor::next` meets its contract: the end, a byte below 128, or a first byte of several.
 -- Assumes nothing.
-use borrow.Author.Rules.{rules}
 use Rattle.read_utf8.proofs.Steps.{first_end, first_ascii, first_led}
 use Rattle.read_utf8.proofs.Cursor.next.Goals as goal
 

@@ -1,6 +1,5 @@
 -- `smtlib_script::commands::comment` meets its contract: the text is tested, the line is written, and the buffer finished.
 -- Assumes nothing.
-use borrow.Author.Rules.{rules}
 use Rattle.script_spec.specs.Command.{given}
 use Rattle.smtlib_script.proofs.Laws.{refuses, writes, tested_one}
 use mathlib.Core.Bool.{not}

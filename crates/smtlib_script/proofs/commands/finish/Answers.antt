@@ -1,7 +1,6 @@
 -- `smtlib_script::commands::finish` meets its contract: the writer's answer, by cases.
 -- Assumes nothing.
 use mathlib.Core.Path.{ap}
-use borrow.Author.Rules.{rules}
 use Rattle.write_bytes.specs.Writing.{answer}
 use Rattle.smtlib_script.specs.Writes.{command_answer}
 use Rattle.smtlib_script.proofs.commands.finish.Goals as goal

@@ -2,7 +2,6 @@
 -- Assumes nothing.
 use mathlib.Core.Path.{refl}
 use mathlib.Core.Bool.{true}
-use borrow.Author.Rules.{rules}
 use Rattle.script_spec.specs.Base.{all}
 use Rattle.script_spec.specs.Command.{given}
 use Rattle.smtlib_script.proofs.Laws.{writes}

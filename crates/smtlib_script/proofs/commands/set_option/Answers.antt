@@ -1,6 +1,5 @@
 -- `smtlib_script::commands::set_option` meets its contract: the texts are tested, the line is written, and the buffer finished.
 -- Assumes nothing.
-use borrow.Author.Rules.{rules}
 use Rattle.script_spec.specs.Command.{given}
 use Rattle.smtlib_script.proofs.Laws.{refuses, writes, tested_two}
 use mathlib.Core.Bool.{not}

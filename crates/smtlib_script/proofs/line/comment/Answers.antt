@@ -1,7 +1,6 @@
 -- `smtlib_script::line::comment` meets its contract: its pieces one after another are the line, which is not empty where there is no room.
 -- Assumes nothing.
 use mathlib.Core.Path.{refl}
-use borrow.Author.Rules.{rules}
 use Rattle.script_spec.specs.Base.{bytes}
 use Rattle.write_bytes.proofs.Laws.{line_past, line_some}
 use Rattle.smtlib_script.specs.Opened.{opened}

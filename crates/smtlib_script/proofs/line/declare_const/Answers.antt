@@ -1,6 +1,5 @@
 -- `smtlib_script::line::declare_const` meets its contract: its pieces one after another are the line, which is not empty where there is no room.
 -- Assumes nothing.
-use borrow.Author.Rules.{rules}
 use Rattle.script_spec.specs.Base.{bytes}
 use Rattle.write_bytes.proofs.Laws.{◌then◌, says, from_start, line_past, line_some}
 use Rattle.smtlib_script.specs.Opened.{opened}

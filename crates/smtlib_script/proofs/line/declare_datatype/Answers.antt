@@ -1,7 +1,6 @@
 -- `smtlib_script::line::declare_datatype` meets its contract: the test of the parameters decides which of the two lines it is.
 -- Assumes nothing.
 use mathlib.Core.Path.{sym, ◌∙◌}
-use borrow.Author.Rules.{rules}
 use Rattle.write_bytes.proofs.Laws.{line_says, line_past, line_some}
 use Rattle.smtlib_script.proofs.Lines.{line_blank}
 use Rattle.smtlib_script.proofs.line.declare_datatype.Goals as goal

@@ -1,6 +1,5 @@
 -- `smtlib_script::line::declare_plain` meets its contract: its pieces one after another are the line.
 -- Assumes nothing.
-use borrow.Author.Rules.{rules}
 use Rattle.script_spec.specs.Base.{bytes}
 use Rattle.write_bytes.proofs.Laws.{◌then◌, says, from_start}
 use Rattle.smtlib_script.specs.Opened.{opened}

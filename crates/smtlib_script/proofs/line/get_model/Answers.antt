@@ -1,6 +1,5 @@
 -- `smtlib_script::line::get_model` meets its contract: its one piece is the line, which is not empty where there is no room.
 -- Assumes nothing.
-use borrow.Author.Rules.{rules}
 use Rattle.script_spec.specs.Base.{bytes}
 use Rattle.script_spec.specs.Command.{line, spelled}
 use Rattle.write_bytes.proofs.Laws.{from_start, line_past, line_some}

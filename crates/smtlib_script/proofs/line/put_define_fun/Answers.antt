@@ -1,6 +1,5 @@
 -- `smtlib_script::line::put_define_fun` meets its contract: the word of a definition.
 -- Assumes nothing.
-use borrow.Author.Rules.{rules}
 use Rattle.script_spec.specs.Base.{bytes}
 use Rattle.smtlib_script.specs.Opened.{opened}
 use Rattle.smtlib_script.proofs.line.put_define_fun.Goals as goal

@@ -1,6 +1,5 @@
 -- `smtlib_script::line::put_word` meets its contract: each arm writes its word.
 -- Assumes nothing.
-use borrow.Author.Rules.{rules}
 use Rattle.script_spec.specs.Base.{bytes}
 use Rattle.smtlib_script.specs.Opened.{opened}
 use Rattle.smtlib_script.proofs.line.put_word.Goals as goal

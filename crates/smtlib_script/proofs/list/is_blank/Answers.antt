@@ -1,7 +1,6 @@
 -- `smtlib_script::list::is_blank` meets its contract: by the number of texts.
 -- Assumes nothing.
 use native.Mathlib.Omega.{arith}
-use borrow.Author.Rules.{rules}
 use Rattle.smtlib_script.proofs.Lines.{blank_none, blank_one, blank_more}
 use Rattle.smtlib_script.proofs.list.is_blank.Goals as goal
 

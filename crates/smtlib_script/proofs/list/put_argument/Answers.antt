@@ -1,7 +1,6 @@
 -- `smtlib_script::list::put_argument` meets its contract: the two texts between parentheses.
 -- Assumes nothing.
 use mathlib.Core.Path.{ap}
-use borrow.Author.Rules.{rules}
 use Rattle.script_spec.specs.Base.{bytes}
 use Rattle.script_spec.specs.Command.{listed}
 use Rattle.write_bytes.proofs.Laws.{◌then◌, says}

@@ -1,6 +1,5 @@
 -- `smtlib_script::list::put_arguments` meets its contract: the joined arguments between parentheses.
 -- Assumes nothing.
-use borrow.Author.Rules.{rules}
 use Rattle.script_spec.specs.Base.{bytes}
 use Rattle.script_spec.specs.Command.{listed}
 use Rattle.write_bytes.proofs.Laws.{◌then◌}

@@ -1,6 +1,5 @@
 -- `smtlib_script::list::put_constructors` meets its contract: the joined texts between parentheses.
 -- Assumes nothing.
-use borrow.Author.Rules.{rules}
 use Rattle.script_spec.specs.Base.{bytes}
 use Rattle.script_spec.specs.Command.{constructor_list}
 use Rattle.write_bytes.proofs.Laws.{◌then◌}

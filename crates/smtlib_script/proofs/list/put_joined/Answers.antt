@@ -1,14 +1,12 @@
 -- `smtlib_script::list::put_joined` meets its contract: before a turn, the texts up to `i` are written; the measure is the number of texts left.
 -- Assumes nothing.
-use Prim.Native.Nat.{◌-◌}
 use native.Mathlib.Omega.{arith}
-use mathlib.Core.Path.{◌≡◌, refl, ◌∙◌}
+use mathlib.Core.Path.{refl, ◌∙◌}
 use mathlib.Core.List.{map}
-use lib.ListN.{length, length-map, drop}
-use borrow.Author.Rules.{rules}
+use lib.ListN.{length-map}
 use Rattle.write_bytes.proofs.Laws.{◌then◌, says, nothing}
-use Rattle.write_bytes.proofs.Loop.{Along, along_start, along_step, along_end, along_past}
-use Rattle.smtlib_script.proofs.Lists.{separated, separated_more, separated_none, joined_first, joined_none, text_at}
+use Rattle.write_bytes.proofs.Loop.{along_start, along_step, along_end, along_past}
+use Rattle.smtlib_script.proofs.Lists.{separated_more, separated_none, joined_first, joined_none, text_at}
 use Rattle.smtlib_script.proofs.list.put_joined.Goals as goal
 
 pub returns-then-texts-eq0 : goal.returns-then-texts-eq0

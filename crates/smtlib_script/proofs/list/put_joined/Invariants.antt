@@ -1,14 +1,11 @@
 -- `smtlib_script::list::put_joined` meets its contract: before a turn, the texts up to `i` are written; the measure is the number of texts left.
 -- Assumes nothing.
 use Prim.Native.Nat.{◌-◌}
-use native.Mathlib.Omega.{arith}
-use mathlib.Core.Path.{◌≡◌, refl, ◌∙◌}
+use mathlib.Core.Path.{◌≡◌}
 use mathlib.Core.List.{map}
-use lib.ListN.{length, length-map, drop}
-use borrow.Author.Rules.{rules}
-use Rattle.write_bytes.proofs.Laws.{◌then◌, says, nothing}
-use Rattle.write_bytes.proofs.Loop.{Along, along_start, along_step, along_end, along_past}
-use Rattle.smtlib_script.proofs.Lists.{separated, separated_more, separated_none, joined_first, joined_none, text_at}
+use lib.ListN.{length, drop}
+use Rattle.write_bytes.proofs.Loop.{Along}
+use Rattle.smtlib_script.proofs.Lists.{separated}
 use Rattle.smtlib_script.proofs.list.put_joined.Given as goal
 
 abbrev pub invariant-loop-i : goal.invariant-loop-i

@@ -1,17 +1,16 @@
 -- `smtlib_script::list::put_spaced_arguments` meets its contract: before a turn, the arguments up to `i` are written; the measure is the number of arguments left.
 -- Assumes nothing.
-use Prim.Native.Nat.{◌-◌, ◌<◌, min}
+use Prim.Native.Nat.{◌<◌, min}
 use native.Mathlib.Omega.{arith}
-use mathlib.Core.Path.{◌≡◌, refl, ◌∙◌}
+use mathlib.Core.Path.{refl, ◌∙◌}
 use mathlib.Core.List.{map, zip}
-use lib.ListN.{length, drop}
-use borrow.Author.Rules.{rules}
+use lib.ListN.{length}
 use Rattle.script_spec.specs.Base.{bytes}
 use Rattle.script_spec.specs.Command.{spaced}
 use Rattle.write_bytes.proofs.Laws.{◌then◌, says, nothing}
-use Rattle.write_bytes.proofs.Loop.{Along, along_start, along_step, along_end, along_past}
+use Rattle.write_bytes.proofs.Loop.{along_start, along_step, along_end, along_past}
 use Rattle.smtlib_script.specs.Arguments.{arguments}
-use Rattle.smtlib_script.proofs.Lists.{separated, separated_more, separated_none, joined_first, arguments_none, arguments_more, arguments_all, argument_at}
+use Rattle.smtlib_script.proofs.Lists.{separated_more, separated_none, joined_first, arguments_none, arguments_more, arguments_all, argument_at}
 use Rattle.smtlib_script.proofs.list.put_spaced_arguments.Goals as goal
 
 pub returns-then-n-eq0 : goal.returns-then-n-eq0

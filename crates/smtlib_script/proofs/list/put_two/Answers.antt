@@ -1,6 +1,5 @@
 -- `smtlib_script::list::put_two` meets its contract: the two texts with a space between them.
 -- Assumes nothing.
-use borrow.Author.Rules.{rules}
 use Rattle.script_spec.specs.Base.{joined, bytes}
 use Rattle.script_spec.specs.Command.{spaced}
 use Rattle.write_bytes.proofs.Laws.{◌then◌}

@@ -1,14 +1,9 @@
 -- `smtlib_script::texts::are_utf8` meets its contract: before a turn, the texts up to `i` are UTF-8; the measure is the number of texts left.
 -- Assumes nothing.
 use Prim.Native.Nat.{◌-◌}
-use native.Mathlib.Omega.{arith}
-use mathlib.Core.Path.{ap, ◌∙◌}
 use mathlib.Core.List.{map}
-use lib.ListN.{length, length-map}
-use borrow.Author.Rules.{rules}
-use Rattle.script_spec.specs.Utf8.{is_utf8}
-use Rattle.smtlib_script.proofs.Lists.{text_at}
-use Rattle.smtlib_script.proofs.Laws.{Passed, passed_none, passed_next, passed_not, passed_all}
+use lib.ListN.{length}
+use Rattle.smtlib_script.proofs.Laws.{Passed}
 use Rattle.smtlib_script.proofs.texts.are_utf8.Given as goal
 
 abbrev pub invariant-loop-i : goal.invariant-loop-i

@@ -3,7 +3,6 @@
 use native.Mathlib.Omega.{arith}
 use mathlib.Core.Path.{sym}
 use lib.Seq.{length-take-le}
-use borrow.Author.Rules.{rules}
 use Rattle.smtlib_script.proofs.Laws.{pairs_left, pairs_right}
 use Rattle.smtlib_script.proofs.texts.pairs_are_utf8.Goals as goal
 

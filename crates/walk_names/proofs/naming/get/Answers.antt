@@ -1,7 +1,6 @@
 -- `walk_names::naming::get` meets its contract: what is at most the greatest depth is no name.
 -- Assumes nothing.
 use Rattle.walk_names.proofs.Names.{no_name, some_name}
-use borrow.Author.Rules.{rules}
 use Rattle.walk_names.proofs.naming.get.Goals as goal
 
 pub returns-then-v-lt-RAISE : goal.returns-then-v-lt-RAISE

@@ -2,7 +2,6 @@
 -- Assumes nothing.
 use Rattle.write_bytes.proofs.Laws.{◌then◌, says, nothing}
 use Rattle.walk_names.proofs.Names.{numbered_none, numbered_some}
-use borrow.Author.Rules.{rules}
 use Rattle.walk_names.proofs.naming.put_name.Goals as goal
 
 pub returns-then-name-eq0 : goal.returns-then-name-eq0

@@ -1,7 +1,6 @@
 -- `walk_names::naming::raised` meets its contract.
 -- Assumes nothing.
 use Rattle.walk_names.proofs.Names.{raised_fits, raised_past}
-use borrow.Author.Rules.{rules}
 use Rattle.walk_names.proofs.naming.raised.Goals as goal
 
 pub returns-then-v-lt-TOO_LARGE : goal.returns-then-v-lt-TOO_LARGE

@@ -1,7 +1,6 @@
 -- `walk_names::naming::set` meets its contract.
 -- Assumes nothing.
 use Rattle.walk_names.proofs.Names.{stored_name}
-use borrow.Author.Rules.{rules}
 use Rattle.walk_names.proofs.naming.set.Goals as goal
 
 pub returns : goal.returns

@@ -2,7 +2,6 @@
 -- Assumes nothing.
 use mathlib.Core.Path.{ap, ◌∙◌}
 use Rattle.walk_names.proofs.Running.{moved_to}
-use borrow.Author.Rules.{rules}
 use Rattle.walk_names.proofs.progress.past_line.Goals as goal
 
 pub returns : goal.returns

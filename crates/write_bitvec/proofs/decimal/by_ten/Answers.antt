@@ -1,6 +1,5 @@
 -- `write_bitvec::decimal::by_ten` meets its contract: the two digits of each half, put together.
 -- Assumes nothing.
-use borrow.Author.Rules.{rules}
 use Rattle.write_bitvec.proofs.Division.{joined_lt, half, tenth}
 use Rattle.write_bitvec.proofs.decimal.by_ten.Goals as goal
 

@@ -1,6 +1,5 @@
 -- `write_bitvec::halves::fits` meets its contract, by three cases of the width.
 -- Assumes nothing.
-use borrow.Author.Rules.{rules}
 use Rattle.write_bitvec.proofs.Powers.{fits_low, fits_not, fits_high, fits_past}
 use Rattle.write_bitvec.proofs.halves.fits.Goals as goal
 

@@ -1,6 +1,5 @@
 -- `write_bitvec::halves::power` meets its contract, by three cases of the exponent.
 -- Assumes nothing.
-use borrow.Author.Rules.{rules}
 use Rattle.write_bitvec.proofs.Powers.{power_low, power_high, power_past}
 use Rattle.write_bitvec.proofs.halves.power.Goals as goal
 

@@ -1,6 +1,5 @@
 -- `write_bitvec::halves::power64` meets its contract: 1 is shifted whole.
 -- Assumes nothing.
-use borrow.Author.Rules.{rules}
 use Rattle.write_bitvec.proofs.Powers.{one_shl}
 use Rattle.write_bitvec.proofs.halves.power64.Goals as goal
 

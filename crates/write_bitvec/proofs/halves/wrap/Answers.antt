@@ -1,6 +1,5 @@
 -- `write_bitvec::halves::wrap` meets its contract, by three cases of the width.
 -- Assumes nothing.
-use borrow.Author.Rules.{rules}
 use Rattle.write_bitvec.proofs.Powers.{wrap_low, wrap_high, wrap_past}
 use Rattle.write_bitvec.proofs.halves.wrap.Goals as goal
 

@@ -1,12 +1,7 @@
 -- `write_bitvec::reading::high_first` meets its contract: the loop keeps `High`, and its measure is what is left.
 -- Assumes nothing.
-use mathlib.Core.Path.{◌≡◌}
-use Prim.Native.Nat.{◌-◌, ◌≤◌, min}
-use lib.ListN.{length}
 use native.Mathlib.Omega.{arith}
-use borrow.Author.Rules.{rules}
-use Rattle.write_bitvec.specs.Value.{of_halves}
-use Rattle.write_bitvec.proofs.Bytes.{High, high_lt, high_start, high_next, high_end}
+use Rattle.write_bitvec.proofs.Bytes.{high_lt, high_start, high_next, high_end}
 use Rattle.write_bitvec.proofs.reading.high_first.Goals as goal
 
 pub loop-i-init : goal.loop-i-init

@@ -3,10 +3,8 @@
 use mathlib.Core.Path.{◌≡◌}
 use Prim.Native.Nat.{◌-◌, ◌≤◌, min}
 use lib.ListN.{length}
-use native.Mathlib.Omega.{arith}
-use borrow.Author.Rules.{rules}
 use Rattle.write_bitvec.specs.Value.{of_halves}
-use Rattle.write_bitvec.proofs.Bytes.{High, high_lt, high_start, high_next, high_end}
+use Rattle.write_bitvec.proofs.Bytes.{High}
 use Rattle.write_bitvec.proofs.reading.high_first.Given as goal
 
 abbrev pub invariant-loop-i : goal.invariant-loop-i

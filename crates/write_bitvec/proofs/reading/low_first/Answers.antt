@@ -2,9 +2,7 @@
 -- Assumes nothing.
 use Prim.Native.Nat.{◌-◌}
 use native.Mathlib.Omega.{arith}
-use borrow.Author.Rules.{rules}
-use Rattle.write_bitvec.specs.Value.{of_halves}
-use Rattle.write_bitvec.proofs.Bytes.{Low, high_lt, low_start, low_next, low_end}
+use Rattle.write_bitvec.proofs.Bytes.{high_lt, low_start, low_next, low_end}
 use Rattle.write_bitvec.proofs.reading.low_first.Goals as goal
 
 pub loop-i-init : goal.loop-i-init

@@ -1,10 +1,7 @@
 -- `write_bitvec::reading::low_first` meets its contract: the loop keeps `Low`, and its measure is what is left.
 -- Assumes nothing.
-use Prim.Native.Nat.{◌-◌}
-use native.Mathlib.Omega.{arith}
-use borrow.Author.Rules.{rules}
 use Rattle.write_bitvec.specs.Value.{of_halves}
-use Rattle.write_bitvec.proofs.Bytes.{Low, high_lt, low_start, low_next, low_end}
+use Rattle.write_bitvec.proofs.Bytes.{Low}
 use Rattle.write_bitvec.proofs.reading.low_first.Given as goal
 
 abbrev pub invariant-loop-i : goal.invariant-loop-i

@@ -1,6 +1,5 @@
 -- `write_bitvec::spelling::put_bitvec` meets its contract: the pieces are the spelling.
 -- Assumes nothing.
-use borrow.Author.Rules.{rules}
 use Rattle.script_spec.specs.Base.{bytes}
 use Rattle.write_bytes.proofs.Laws.{◌then◌, says}
 use Rattle.write_bitvec.proofs.Spellings.{bit_vec_pieces}

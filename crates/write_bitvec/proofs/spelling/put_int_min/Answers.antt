@@ -1,6 +1,5 @@
 -- `write_bitvec::spelling::put_int_min` meets its contract: the power below the width is written.
 -- Assumes nothing.
-use borrow.Author.Rules.{rules}
 use Rattle.write_bytes.proofs.Laws.{says}
 use Rattle.write_bitvec.proofs.Spellings.{bit_vec_power}
 use Rattle.write_bitvec.proofs.spelling.put_int_min.Goals as goal
