@@ -1,6 +1,6 @@
 -- Laws of what is seen of segments, and of the record at an offset.
 -- Assumes nothing.
-use Prim.Native.Nat.{ℕ, zero, ◌+◌}
+use Prim.Native.Nat.{ℕ, ◌+◌}
 use native.Mathlib.Omega.{arith}
 use mathlib.Core.Path.{◌≡◌, refl, sym, ap, ◌∙◌, subst}
 use mathlib.Core.List.{List, [], ◌∷◌, map}

@@ -1,9 +1,8 @@
 -- Each type is what its record has under its mark; no other mark has types.
 -- Assumes nothing.
 use mathlib.Core.Path.{◌≡◌, refl, sym, ap, ◌∙◌, subst}
-use mathlib.Core.Bool.{Bool}
 use mathlib.Core.List.{List, [], ◌∷◌, map}
-use mathlib.Core.Option.{Option, none, some}
+use mathlib.Core.Option.{none, some}
 use Prim.Native.Nat.{ℕ, ◌≤◌}
 use lib.ListN.{take, drop, get_or}
 use Rattle.script_spec.specs.Base.{Bytes, bytes, at, same, lookup, and_then, firsts, seconds}

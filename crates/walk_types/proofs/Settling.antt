@@ -13,7 +13,7 @@ use lib.ListN.{get_or}
 use Rattle.script_spec.specs.Base.{Bytes, bytes, any}
 use Rattle.script_spec.specs.Tree.{Ty, TypeMark, Forest, Enums, node, forest, eq_ty, datatype, datatype_mark, Bool·, String·, BitVec·}
 use Rattle.script_spec.specs.Fields.{type}
-use Rattle.script_spec.specs.File.{TermFile, types, members, type_at}
+use Rattle.script_spec.specs.File.{TermFile, members, type_at}
 use Rattle.script_spec.specs.Walk.{State, Step, went, stopped, declare_type, encode_type, encode_types}
 use Rattle.script_spec.proofs.Laws.{never}
 use Rattle.index.specs.Cells.{cell, type_offset, type_first}

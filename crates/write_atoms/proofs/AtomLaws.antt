@@ -11,7 +11,6 @@ use Rattle.script_spec.specs.Base.{Bytes}
 use Rattle.script_spec.specs.Utf8.{is_utf8}
 use Rattle.script_spec.specs.Tree as tree
 use Rattle.script_spec.specs.Tree.{Tm, Ty, Fun, Enums, Forest, Mark, node, nil, forest, BoolLit, BitVecLit, StringLit}
-use Rattle.script_spec.specs.Fields.{term}
 use Rattle.script_spec.specs.File.{TermFile, term_at, named_mark, members}
 use Rattle.script_spec.specs.Text.{literal}
 use Rattle.script_spec.specs.Spelling.{Names, bit_vec, body_over, body, inlined, atom}

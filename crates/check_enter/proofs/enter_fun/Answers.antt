@@ -1,7 +1,6 @@
 -- The search, and the row.
 -- Assumes nothing.
 use Rattle.check_enter.proofs.Functions.{fun_entered}
-use borrow.Author.Rules.{rules}
 use Rattle.check_enter.proofs.enter_fun.Goals as goal
 
 pub returns : goal.returns

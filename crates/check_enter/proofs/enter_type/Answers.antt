@@ -1,9 +1,7 @@
 -- Rule 9, the count, the depth, and then the row.
 -- Assumes nothing.
-use borrow.Author.Tests.{not-true, not-false}
 use Rattle.check_enter.proofs.Types.{type_unordered, type_many, type_deep, type_entered}
 use native.Mathlib.Omega.{arith}
-use borrow.Author.Rules.{rules}
 use Rattle.check_enter.proofs.enter_type.Goals as goal
 
 pub returns-then-not-attributes_ascend : goal.returns-then-not-attributes_ascend

@@ -1,7 +1,6 @@
 -- The search, and the row.
 -- Assumes nothing.
 use Rattle.check_enter.proofs.Types.{type_row_stored}
-use borrow.Author.Rules.{rules}
 use Rattle.check_enter.proofs.store_type.Goals as goal
 
 pub returns : goal.returns

@@ -1,7 +1,6 @@
 -- `check_types::code_at` meets its contract: the first byte of the body.
 -- Assumes nothing.
 use Rattle.check_types.proofs.Read.{code_first}
-use borrow.Author.Rules.{rules}
 use Rattle.check_types.proofs.code_at.Goals as goal
 
 pub returns : goal.returns

@@ -3,7 +3,6 @@
 use Rattle.check_types.specs.Sought.{Wanted}
 use Rattle.check_types.proofs.TermTypes.{kind_sought}
 use Rattle.check_types.proofs.Probing.{found_from_home}
-use borrow.Author.Rules.{rules}
 use Rattle.check_types.proofs.find.Goals as goal
 
 pub returns : goal.returns

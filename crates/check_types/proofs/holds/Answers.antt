@@ -1,7 +1,6 @@
 -- `check_types::holds` meets its contract: the number, the kind, and then the type.
 -- Assumes nothing.
 use Rattle.check_types.proofs.Probing.{holds_past, holds_other, holds_same}
-use borrow.Author.Rules.{rules}
 use Rattle.check_types.proofs.holds.Goals as goal
 
 pub returns-then-types-n : goal.returns-then-types-n

@@ -1,7 +1,6 @@
 -- `check_types::home` meets its contract: the hash of the type, scaled.
 -- Assumes nothing.
 use Rattle.check_types.proofs.Hashes.{home_found}
-use borrow.Author.Rules.{rules}
 use Rattle.check_types.proofs.home.Goals as goal
 
 pub returns : goal.returns

@@ -3,7 +3,6 @@
 use mathlib.Core.Path.{sym, ap}
 use Rattle.check_types.specs.Sought.{sought_of}
 use Rattle.check_types.proofs.TermTypes.{sought_none}
-use borrow.Author.Rules.{rules}
 use borrow.Enum.Refused.{opened}
 use Rattle.check_types.proofs.kind_sought.Goals as goal
 

@@ -3,7 +3,6 @@
 use mathlib.Core.Path.{sym, ap}
 use Rattle.check_types.specs.Sought.{type_letter}
 use Rattle.check_types.proofs.TermTypes.{letter_none}
-use borrow.Author.Rules.{rules}
 use borrow.Enum.Refused.{opened}
 use Rattle.check_types.proofs.letter_of.Goals as goal
 

@@ -2,7 +2,6 @@
 -- Assumes nothing.
 use Rattle.check_types.specs.Sought.{part_at}
 use Rattle.check_types.proofs.TermTypes.{part_none}
-use borrow.Author.Rules.{rules}
 use borrow.Enum.Refused.{opened}
 use Rattle.check_types.proofs.part_sought.Goals as goal
 

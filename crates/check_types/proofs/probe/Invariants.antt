@@ -1,11 +1,8 @@
 -- `check_types::probe` meets its contract: none of the slots that were passed is empty or has the type that is sought.
 -- Assumes nothing.
 use Prim.Native.Nat.{◌-◌}
-use mathlib.Core.Path.{ap, ◌∙◌}
-use Rattle.index.specs.Cells.{cell, hash}
 use Rattle.check_types.specs.Sought.{Wanted}
-use Rattle.check_types.proofs.Probing.{PassedTypes, passed_start, passed_on, found_empty, found_held, found_nowhere}
-use borrow.Author.Rules.{rules}
+use Rattle.check_types.proofs.Probing.{PassedTypes}
 use Rattle.check_types.proofs.probe.Given as goal
 
 abbrev pub invariant-loop-d : goal.invariant-loop-d

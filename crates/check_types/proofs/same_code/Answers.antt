@@ -1,7 +1,6 @@
 -- The codes.
 -- Assumes nothing.
 use lib.Dec.{eqb}
-use borrow.Author.Rules.{rules}
 use Rattle.check_types.proofs.same_code.Goals as goal
 
 pub returns : goal.returns

@@ -4,7 +4,6 @@ use mathlib.Core.Path.{ap}
 use Prim.Native.Nat.{ℕ}
 use lib.Dec.{eqb}
 use Rattle.check_types.specs.Sought.{part_at}
-use borrow.Author.Rules.{rules}
 use Rattle.check_types.proofs.same_part.Goals as goal
 
 pub returns : goal.returns

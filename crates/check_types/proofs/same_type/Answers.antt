@@ -3,7 +3,6 @@
 use mathlib.Core.Path.{sym, ◌∙◌}
 use native.Mathlib.Omega.{arith}
 use Rattle.check_types.proofs.Same.{other_letter, no_such, same_bools, same_strings, same_widths, same_codes, same_options, same_sets, same_records}
-use borrow.Author.Rules.{rules}
 use borrow.Enum.Refused.{opened}
 use Rattle.check_types.proofs.same_type.Goals as goal
 

@@ -1,7 +1,6 @@
 -- The widths.
 -- Assumes nothing.
 use lib.Dec.{eqb}
-use borrow.Author.Rules.{rules}
 use Rattle.check_types.proofs.same_width.Goals as goal
 
 pub returns : goal.returns

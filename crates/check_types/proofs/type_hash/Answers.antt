@@ -2,7 +2,6 @@
 -- Assumes nothing.
 use native.Mathlib.Omega.{arith}
 use Rattle.check_types.proofs.Hashes.{no_such, bool_hashed, string_hashed, width_hashed, code_hashed, option_hashed, set_hashed, record_hashed}
-use borrow.Author.Rules.{rules}
 use borrow.Enum.Refused.{opened}
 use Rattle.check_types.proofs.type_hash.Goals as goal
 

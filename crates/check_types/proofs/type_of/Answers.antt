@@ -3,7 +3,6 @@
 use native.Mathlib.Omega.{arith}
 use Rattle.check_types.specs.Sought.{part_at}
 use Rattle.check_types.proofs.Search.{reference_sought, listed_sought}
-use borrow.Author.Rules.{rules}
 use borrow.Enum.Refused.{opened}
 use Rattle.check_types.proofs.type_of.Goals as goal
 

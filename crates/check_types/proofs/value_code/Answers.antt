@@ -3,7 +3,6 @@
 use mathlib.Core.Path.{refl}
 use native.Mathlib.Omega.{arith}
 use Rattle.check_types.proofs.Read.{code_of_value}
-use borrow.Author.Rules.{rules}
 use Rattle.check_types.proofs.value_code.Goals as goal
 
 pub returns-then-code-gt0 : goal.returns-then-code-gt0

@@ -1,7 +1,6 @@
 -- The number at the start of the body.
 -- Assumes nothing.
 use Rattle.check_types.proofs.Read.{width_first}
-use borrow.Author.Rules.{rules}
 use Rattle.check_types.proofs.width_at.Goals as goal
 
 pub returns : goal.returns

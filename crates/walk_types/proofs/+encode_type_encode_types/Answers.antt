@@ -2,14 +2,10 @@
 -- parts. The loop's invariant: the parts that are left, after those that were encoded, make all. Assumes nothing.
 use native.Mathlib.Omega.{arith}
 use borrow.Author.Rules.{rules}
-use Prim.Native.Nat.{ℕ, ◌<◌, ◌+◌, ◌*◌}
-use mathlib.Core.Path.{◌≡◌, refl, ◌∙◌}
-use lib.ListN.{length}
-use Rattle.index.specs.Standing.{body_at}
+use mathlib.Core.Path.{refl, ◌∙◌}
 use Rattle.walk_names.proofs.Running.{advances_refused}
-use Rattle.walk_types.specs.Parts.{parts_in}
 use Rattle.walk_types.proofs.PartLaws.{no_parts_left}
-use Rattle.walk_types.proofs.Walking.{leaves_type, encodes_type, PartsLeft, parts_start, parts_on, parts_end, parts_never}
+use Rattle.walk_types.proofs.Walking.{leaves_type, encodes_type, parts_start, parts_on, parts_end, parts_never}
 use Rattle.walk_types.proofs.+encode_type_encode_types.Goals as goal
 
 pub encode_type-returns-then-p-ne0 : goal.encode_type-returns-then-p-ne0

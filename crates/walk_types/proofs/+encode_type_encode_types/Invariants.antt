@@ -1,15 +1,11 @@
 -- `walk_types::encode_type` and `walk_types::encode_types` meet their contracts: by recursion on the number, which falls from a type to its
 -- parts. The loop's invariant: the parts that are left, after those that were encoded, make all. Assumes nothing.
-use native.Mathlib.Omega.{arith}
-use borrow.Author.Rules.{rules}
-use Prim.Native.Nat.{ℕ, ◌<◌, ◌+◌, ◌*◌}
-use mathlib.Core.Path.{◌≡◌, refl, ◌∙◌}
+use Prim.Native.Nat.{◌+◌, ◌*◌}
+use mathlib.Core.Path.{◌≡◌}
 use lib.ListN.{length}
 use Rattle.index.specs.Standing.{body_at}
-use Rattle.walk_names.proofs.Running.{advances_refused}
 use Rattle.walk_types.specs.Parts.{parts_in}
-use Rattle.walk_types.proofs.PartLaws.{no_parts_left}
-use Rattle.walk_types.proofs.Walking.{leaves_type, encodes_type, PartsLeft, parts_start, parts_on, parts_end, parts_never}
+use Rattle.walk_types.proofs.Walking.{PartsLeft}
 use Rattle.walk_types.proofs.+encode_type_encode_types.Given as goal
 
 abbrev pub decreases-encode_type : goal.decreases-encode_type

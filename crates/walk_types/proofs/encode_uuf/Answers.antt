@@ -3,7 +3,6 @@
 use mathlib.Core.Path.{◌∙◌}
 use Rattle.walk_names.proofs.Running.{advances_refused}
 use Rattle.walk_types.proofs.Encoding.{leaves_fun, encodes_fun}
-use borrow.Author.Rules.{rules}
 use Rattle.walk_types.proofs.encode_uuf.Goals as goal
 
 pub returns-then-p-ne0 : goal.returns-then-p-ne0

@@ -1,8 +1,6 @@
 -- The rules in their order, with the search for the name, and then the row.
 -- Assumes nothing.
-use borrow.Author.Tests.{not-true, not-false}
 use Rattle.check_enter.proofs.EnumRules.{enum_unordered, enum_empty, enum_taken, enum_entered}
-use borrow.Author.Rules.{rules}
 use Rattle.check_enter.proofs.enums.enter_enum.Goals as goal
 
 pub returns-then-not-members_ascend : goal.returns-then-not-members_ascend

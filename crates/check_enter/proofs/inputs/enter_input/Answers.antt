@@ -1,7 +1,6 @@
 -- The number of the term, and the row.
 -- Assumes nothing.
 use Rattle.check_enter.proofs.InputRules.{input_entered}
-use borrow.Author.Rules.{rules}
 use Rattle.check_enter.proofs.inputs.enter_input.Goals as goal
 
 pub returns : goal.returns

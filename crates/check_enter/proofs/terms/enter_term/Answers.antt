@@ -1,6 +1,5 @@
 -- `check_enter::terms::enter_term` meets its contract: the type, and then the term by it.
 -- Assumes nothing.
-use borrow.Author.Rules.{rules}
 use Rattle.check_enter.proofs.terms.enter_term.Goals as goal
 
 pub returns : goal.returns

@@ -2,7 +2,6 @@
 -- Assumes nothing.
 use Rattle.check_enter.proofs.TermRules.{enters_left, stores_left, term_broken, term_unlisted, term_many, term_deep, term_entered}
 use native.Mathlib.Omega.{arith}
-use borrow.Author.Rules.{rules}
 use Rattle.check_enter.proofs.terms.enter_typed.Goals as goal
 
 pub returns-in-Broken : goal.returns-in-Broken

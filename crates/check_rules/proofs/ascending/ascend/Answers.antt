@@ -6,7 +6,6 @@ use Rattle.read_field.proofs.Laws.{tells}
 use native.Mathlib.Omega.{arith}
 use Rattle.check_rules.proofs.Decided.{decides_none, decides_next, decides_bad}
 use Rattle.check_rules.proofs.Ordered.{ascending_none, ascending_first}
-use borrow.Author.Rules.{rules}
 use Rattle.check_rules.proofs.ascending.ascend.Goals as goal
 
 pub returns-then-count-eq0 : goal.returns-then-count-eq0

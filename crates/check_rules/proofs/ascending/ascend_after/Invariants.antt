@@ -1,13 +1,8 @@
 -- The invariant: what the texts that are left decide, all of them decide from the first on.
 -- Assumes nothing.
-use mathlib.Core.Path.{ap}
 use lib.ListN.{take, drop}
-use Rattle.read_field.specs.Answers.{text_told, spanned}
-use Rattle.read_field.proofs.Laws.{tells}
 use Rattle.check_rules.specs.Tests.{item_text, ascending_after}
-use Rattle.check_rules.proofs.Decided.{Going, going_start, going_on, decides_none, decides_first, decides_bad}
-use Rattle.check_rules.proofs.Ordered.{after_next, after_stop, after_none}
-use borrow.Author.Rules.{rules}
+use Rattle.check_rules.proofs.Decided.{Going}
 use Rattle.check_rules.proofs.ascending.ascend_after.Given as goal
 
 abbrev pub invariant-loop-left : goal.invariant-loop-left

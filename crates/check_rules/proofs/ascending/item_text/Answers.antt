@@ -1,7 +1,6 @@
 -- The text of an item, alone or with a reference.
 -- Assumes nothing.
 use Rattle.check_rules.proofs.Ordered.{item_alone, item_named}
-use borrow.Author.Rules.{rules}
 use Rattle.check_rules.proofs.ascending.item_text.Goals as goal
 
 pub returns-then-named : goal.returns-then-named

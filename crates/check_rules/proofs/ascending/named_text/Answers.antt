@@ -4,7 +4,6 @@ use mathlib.Core.Path.{ap}
 use Rattle.read_field.specs.Answers.{text_told, number_told}
 use Rattle.read_field.proofs.Laws.{tells}
 use Rattle.check_rules.proofs.Ordered.{named_read, named_bad, named_cut}
-use borrow.Author.Rules.{rules}
 use Rattle.check_rules.proofs.ascending.named_text.Goals as goal
 
 pub returns-in-Bad : goal.returns-in-Bad

@@ -1,13 +1,10 @@
 -- The invariant: what the references that are left decide, all of them decide.
 -- Assumes nothing.
 use mathlib.Core.Path.{ap}
-use Rattle.script_spec.specs.Fields.{u32}
 use Rattle.read_field.specs.Answers.{number_told}
 use Rattle.read_field.proofs.Laws.{tells}
-use Rattle.check_rules.specs.Tests.{any_first}
-use Rattle.check_rules.proofs.Decided.{Going, going_start, going_on, decides_none, decides_first, decides_bad}
+use Rattle.check_rules.proofs.Decided.{going_start, going_on, decides_none, decides_first, decides_bad}
 use Rattle.check_rules.proofs.Elements.{any_none, any_here, any_later}
-use borrow.Author.Rules.{rules}
 use Rattle.check_rules.proofs.distinct.any_first.Goals as goal
 
 pub loop-left-init : goal.loop-left-init

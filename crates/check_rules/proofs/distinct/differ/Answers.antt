@@ -1,7 +1,6 @@
 -- By the notes, or in pairs where they do not tell.
 -- Assumes nothing.
 use Rattle.check_rules.proofs.Noted.{never_differ, once_differ, pairs_differ}
-use borrow.Author.Rules.{rules}
 use Rattle.check_rules.proofs.distinct.differ.Goals as goal
 
 pub returns-in-Never : goal.returns-in-Never

@@ -1,13 +1,8 @@
 -- The invariant: what the references that are left decide, all of them decide.
 -- Assumes nothing.
-use mathlib.Core.Path.{ap}
 use Rattle.script_spec.specs.Fields.{u32}
-use Rattle.read_field.specs.Answers.{number_told}
-use Rattle.read_field.proofs.Laws.{tells}
 use Rattle.check_rules.specs.Tests.{different_terms}
-use Rattle.check_rules.proofs.Decided.{Going, going_start, going_on, decides_none, decides_first, decides_bad}
-use Rattle.check_rules.proofs.Elements.{differ_none, differ_next, differ_stop}
-use borrow.Author.Rules.{rules}
+use Rattle.check_rules.proofs.Decided.{Going}
 use Rattle.check_rules.proofs.distinct.differ_in_pairs.Given as goal
 
 abbrev pub invariant-loop-left : goal.invariant-loop-left

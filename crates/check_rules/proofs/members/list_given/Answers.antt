@@ -5,7 +5,6 @@ use Rattle.read_field.specs.Answers.{number_told}
 use Rattle.read_field.proofs.Laws.{tells}
 use Rattle.check_rules.proofs.Decided.{list_bad}
 use Rattle.check_rules.proofs.EnumLaws.{list_given}
-use borrow.Author.Rules.{rules}
 use Rattle.check_rules.proofs.members.list_given.Goals as goal
 
 pub returns-in-Bad : goal.returns-in-Bad

@@ -1,7 +1,6 @@
 -- The test of the list after the name.
 -- Assumes nothing.
 use Rattle.check_rules.proofs.EnumLaws.{enum_ascends}
-use borrow.Author.Rules.{rules}
 use Rattle.check_rules.proofs.members.members_ascend.Goals as goal
 
 pub returns : goal.returns

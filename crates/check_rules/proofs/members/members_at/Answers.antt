@@ -4,7 +4,6 @@ use mathlib.Core.Path.{ap}
 use Rattle.read_field.specs.Answers.{text_told}
 use Rattle.read_field.proofs.Laws.{tells}
 use Rattle.check_rules.proofs.EnumLaws.{members_from, members_bad}
-use borrow.Author.Rules.{rules}
 use Rattle.check_rules.proofs.members.members_at.Goals as goal
 
 pub returns-in-Bad : goal.returns-in-Bad

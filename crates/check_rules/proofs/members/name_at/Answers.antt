@@ -1,7 +1,6 @@
 -- The name of the body.
 -- Assumes nothing.
 use Rattle.check_rules.proofs.EnumLaws.{name_at_lem}
-use borrow.Author.Rules.{rules}
 use Rattle.check_rules.proofs.members.name_at.Goals as goal
 
 pub returns : goal.returns

@@ -4,7 +4,6 @@ use mathlib.Core.Path.{ap}
 use Rattle.read_field.specs.Answers.{text_told, spanned}
 use Rattle.read_field.proofs.Laws.{tells}
 use Rattle.check_rules.proofs.EnumLaws.{name_is_read, name_bad}
-use borrow.Author.Rules.{rules}
 use Rattle.check_rules.proofs.members.name_of.Goals as goal
 
 pub returns-in-Bad : goal.returns-in-Bad

@@ -1,7 +1,6 @@
 -- `check_rules::record::attributes_ascend` meets its contract: the list of a record type, and true for any other kind.
 -- Assumes nothing.
 use Rattle.check_rules.proofs.RecordLaws.{ascends_other, ascends_record}
-use borrow.Author.Rules.{rules}
 use borrow.Enum.Refused.{opened}
 use Rattle.check_rules.proofs.record.attributes_ascend.Goals as goal
 

@@ -4,7 +4,6 @@ use mathlib.Core.Path.{ap}
 use Rattle.read_field.specs.Answers.{number_told}
 use Rattle.read_field.proofs.Laws.{tells}
 use Rattle.check_rules.proofs.Decided.{decides_list, list_bad, leaves, leaves_so}
-use borrow.Author.Rules.{rules}
 use Rattle.check_rules.proofs.record.list_differs.Goals as goal
 
 pub returns-in-Bad : goal.returns-in-Bad

@@ -1,7 +1,6 @@
 -- The invariant: the notes from the reference i on are cleared.
 -- Assumes nothing.
-use Rattle.check_rules.proofs.Noting.{Clearing, clearing_start, clearing_more, clearing_end}
-use borrow.Author.Rules.{rules}
+use Rattle.check_rules.proofs.Noting.{Clearing}
 use Rattle.check_rules.proofs.repeats.clear.Given as goal
 
 abbrev pub invariant-loop-i : goal.invariant-loop-i

@@ -3,7 +3,6 @@
 use mathlib.Core.Path.{ap, ◌∙◌}
 use Rattle.index.specs.Cells.{cell, term_first}
 use Rattle.check_rules.specs.Repeats.{first_at}
-use borrow.Author.Rules.{rules}
 use Rattle.check_rules.proofs.repeats.first_at.Goals as goal
 
 pub returns : goal.returns

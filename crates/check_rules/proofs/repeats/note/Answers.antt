@@ -1,9 +1,7 @@
 -- The invariant: the references that were passed are noted, each at an entry that was empty.
 -- Assumes nothing.
-use Prim.Native.Nat.{◌-◌}
 use native.Mathlib.Omega.{arith}
-use Rattle.check_rules.proofs.Noting.{Noting, none_noted, noting_start, noting_size, noting_stop, noting_more}
-use borrow.Author.Rules.{rules}
+use Rattle.check_rules.proofs.Noting.{none_noted, noting_start, noting_size, noting_stop, noting_more}
 use Rattle.check_rules.proofs.repeats.note.Goals as goal
 
 pub returns-then-work-rows : goal.returns-then-work-rows

@@ -5,7 +5,6 @@ use native.Mathlib.Omega.{arith}
 use lib.ListN.{drop}
 use Rattle.index_compare.proofs.Steps.{word_short, word_value}
 use Rattle.check_rules.proofs.References.{ref_past, ref_read, ref_short}
-use borrow.Author.Rules.{rules}
 use Rattle.check_rules.proofs.repeats.ref_at.Goals as goal
 
 pub returns-then-body-from : goal.returns-then-body-from

@@ -1,7 +1,6 @@
 -- The notes, a note that the next reference has, and no notes again.
 -- Assumes nothing.
 use Rattle.check_rules.proofs.Noting.{repeats_never, repeats_once, repeats_unknown}
-use borrow.Author.Rules.{rules}
 use Rattle.check_rules.proofs.repeats.repeats.Goals as goal
 
 pub returns-then-n-count : goal.returns-then-n-count

@@ -2,7 +2,6 @@
 -- Assumes nothing.
 use lib.Dec.{eqb→eq}
 use Rattle.check_rules.proofs.Noting.{none_earlier, maybe_earlier}
-use borrow.Author.Rules.{rules}
 use Rattle.check_rules.proofs.repeats.same_earlier.Goals as goal
 
 pub returns-then-v-eq0 : goal.returns-then-v-eq0

@@ -6,7 +6,6 @@ use Prim.Native.Nat.{ℕ}
 use lib.ListN.{get_or}
 use Rattle.check_rules.proofs.TermLaws.{no_rule, set_kept, set_broken, record_kept, record_broken, app_arguments, app_get, app_broken}
 use Rattle.check_rules.proofs.Decided.{leaves, leaves_so}
-use borrow.Author.Rules.{rules}
 use borrow.Enum.Refused.{opened}
 use Rattle.check_rules.proofs.terms.broken_rule.Goals as goal
 

@@ -1,12 +1,8 @@
 -- `check_rules::text::before` compares two texts byte by byte: what is left to compare from a place on decides.
 -- Assumes nothing.
-use mathlib.Core.Path.{◌≡◌, refl, sym, ◌∙◌}
-use Prim.Native.Nat.{◌-◌}
+use mathlib.Core.Path.{refl, sym, ◌∙◌}
 use native.Mathlib.Omega.{arith}
-use lib.ListN.{length, drop}
-use Rattle.script_spec.specs.Base.{before}
 use Rattle.check_rules.proofs.Texts.{before_next, before_less, before_more, before_short, before_end}
-use borrow.Author.Rules.{rules}
 use Rattle.check_rules.proofs.text.before.Goals as goal
 
 pub loop-i-init : goal.loop-i-init

@@ -4,7 +4,6 @@ use lib.ListN.{get_or-eq_default}
 use Prim.Native.Nat.{◌+◌}
 use mathlib.Core.Path.{sym}
 use native.Mathlib.Omega.{arith}
-use borrow.Author.Rules.{rules}
 use Rattle.index_compare.proofs.compare.byte_after.Goals as goal
 
 pub returns : goal.returns

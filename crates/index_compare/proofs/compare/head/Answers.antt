@@ -1,7 +1,6 @@
 -- `index_compare::compare::head` meets its contract: what the walk meets is what is seen.
 -- Assumes nothing.
 use native.Mathlib.Omega.{arith}
-use borrow.Author.Rules.{rules}
 use Rattle.index_compare.proofs.Views.{met_is, sees_of, sees_term}
 use Rattle.index_compare.specs.View.{viewed, kind_of, reference_number, bytes_of, later_segments}
 use Rattle.index_compare.specs.Machine.{ahead}

@@ -2,12 +2,7 @@
 -- The measure is the number of segments ahead.
 -- Assumes nothing.
 use native.Mathlib.Omega.{arith}
-use borrow.Author.Rules.{rules}
-use borrow.Author.Tests.{not-true, not-false}
-use Rattle.index_compare.proofs.Compared.{Same, decides_false, decides_true, heads_agree, heads_next, heads_equal, heads_end}
-use Rattle.index_compare.specs.View.{viewed, SameAhead}
-use Rattle.index_compare.specs.Machine.{ahead}
-use lib.ListN.{length}
+use Rattle.index_compare.proofs.Compared.{decides_false, decides_true, heads_agree, heads_next, heads_equal, heads_end}
 use Rattle.index_compare.proofs.compare.same_ahead.Goals as goal
 
 pub loop-s-init : goal.loop-s-init

@@ -1,10 +1,7 @@
 -- `index_compare::compare::same_ahead` meets its contract: what is ahead of the walks is equal exactly where it was at the start.
 -- The measure is the number of segments ahead.
 -- Assumes nothing.
-use native.Mathlib.Omega.{arith}
-use borrow.Author.Rules.{rules}
-use borrow.Author.Tests.{not-true, not-false}
-use Rattle.index_compare.proofs.Compared.{Same, decides_false, decides_true, heads_agree, heads_next, heads_equal, heads_end}
+use Rattle.index_compare.proofs.Compared.{Same}
 use Rattle.index_compare.specs.View.{viewed, SameAhead}
 use Rattle.index_compare.specs.Machine.{ahead}
 use lib.ListN.{length}

@@ -1,6 +1,5 @@
 -- `index_compare::compare::same_heads` meets its contract: by kind, number and bytes.
 -- Assumes nothing.
-use borrow.Author.Rules.{rules}
 use Rattle.index_compare.proofs.Compared.{decides_not, decides_bytes}
 use Rattle.index_compare.proofs.compare.same_heads.Goals as goal
 

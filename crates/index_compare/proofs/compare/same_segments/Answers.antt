@@ -1,6 +1,5 @@
 -- `index_compare::compare::same_segments` meets its contract: the walks start at the bodies of the records.
 -- Assumes nothing.
-use borrow.Author.Rules.{rules}
 use Rattle.index_compare.specs.View.{segments_at, start_at}
 use Rattle.index_compare.specs.Machine.{segments}
 use Rattle.index_compare.proofs.compare.same_segments.Goals as goal

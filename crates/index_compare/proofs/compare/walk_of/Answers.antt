@@ -2,7 +2,6 @@
 -- Assumes nothing.
 use Rattle.index_compare.proofs.Views.{start_at_bytes}
 use mathlib.Core.Path.{sym, ◌∙◌}
-use borrow.Author.Rules.{rules}
 use Rattle.index_compare.proofs.compare.walk_of.Goals as goal
 
 pub returns : goal.returns

@@ -1,6 +1,5 @@
 -- `index_compare::depth::greatest` meets its contract: by the shape of the record, or by the walk from the start of its body.
 -- Assumes nothing.
-use borrow.Author.Rules.{rules}
 use Rattle.index_compare.specs.Machine.{segments}
 use Rattle.index_compare.specs.View.{segments_at, start_at}
 use Rattle.index_compare.proofs.Shapes.{shape_is}

@@ -2,16 +2,8 @@
 -- The measure is the number of segments ahead.
 -- Assumes nothing.
 use native.Mathlib.Omega.{arith}
-use borrow.Author.Rules.{rules}
 use Rattle.index_compare.proofs.Depths.{greatest_end, greatest_next}
-use Rattle.index_compare.specs.declared.compare.View.TheVariants.{Depth}
-use Rattle.index_compare.specs.View.{viewed, reference_numbers}
-use Rattle.index_compare.specs.Machine.{ahead}
-use Rattle.index.specs.Rules.{greatest}
-use lib.ListN.{length}
-use mathlib.Core.List.{map}
-use mathlib.Core.Path.{◌≡◌, ◌∙◌}
-use Prim.Native.Nat.{max}
+use mathlib.Core.Path.{◌∙◌}
 use Rattle.index_compare.proofs.depth.greatest_ahead.Goals as goal
 
 pub returns-then-s-eq-NONE : goal.returns-then-s-eq-NONE

@@ -1,6 +1,5 @@
 -- `index_compare::depth::greatest_listed` meets its contract: the depth of the type, and then those of the terms.
 -- Assumes nothing.
-use borrow.Author.Rules.{rules}
 use lib.ListN.{drop}
 use Rattle.index_compare.specs.Machine.{items}
 use Rattle.index_compare.specs.declared.segments.Item.TheVariants.{Term}

@@ -1,20 +1,12 @@
 -- `index_compare::depth::greatest_terms` meets its contract: the greatest so far and the references that are left make the result. The
 -- measure is how many are left.
 -- Assumes nothing.
-use Prim.Native.Nat.{max}
-use mathlib.Core.Path.{◌≡◌, refl, ◌∙◌}
-use mathlib.Core.List.{map}
+use mathlib.Core.Path.{refl, ◌∙◌}
 use lib.ListN.{drop}
-use Rattle.index.specs.Rules.{greatest}
-use Rattle.index_compare.specs.Machine.{items}
-use Rattle.index_compare.specs.declared.segments.Item.TheVariants.{Term}
 use Rattle.index_compare.proofs.Steps.{word_short, word_value, word_fits}
-use Rattle.index_compare.specs.View.{viewed, reference_numbers}
-use Rattle.index_compare.specs.declared.compare.View.TheVariants.{Depth}
 use Rattle.index_compare.proofs.Shapes.{terms_none, terms_short, terms_next}
 use Rattle.index_compare.proofs.Opened.{greatest_none, greatest_turn}
 use native.Mathlib.Omega.{arith}
-use borrow.Author.Rules.{rules}
 use Rattle.index_compare.proofs.depth.greatest_terms.Goals as goal
 
 pub loop-left-init : goal.loop-left-init

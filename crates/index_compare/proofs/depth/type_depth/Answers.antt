@@ -3,7 +3,6 @@
 use mathlib.Core.Path.{ap, ◌∙◌}
 use Prim.Native.Nat.{ℕ}
 use Rattle.index_compare.specs.View.{larger}
-use borrow.Author.Rules.{rules}
 use Rattle.index_compare.proofs.depth.type_depth.Goals as goal
 
 pub returns : goal.returns

@@ -1,6 +1,5 @@
 -- `index_compare::mark::walk_start` meets its contract: the tests are those of the definition.
 -- Assumes nothing.
-use borrow.Author.Rules.{rules}
 use Rattle.index_compare.specs.Machine.{walk_start}
 use borrow.Author.Tests.{eq-eqb, ne_eqb}
 use Rattle.index_compare.proofs.mark.start.Goals as goal

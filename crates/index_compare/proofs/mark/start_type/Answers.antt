@@ -1,6 +1,5 @@
 -- `index_compare::mark::start_type` meets its contract: the tests are those of the definition.
 -- Assumes nothing.
-use borrow.Author.Rules.{rules}
 use Rattle.index_compare.specs.Machine.{start_type}
 use borrow.Author.Tests.{eq-eqb, ne_eqb}
 use Rattle.index_compare.proofs.mark.start_type.Goals as goal

@@ -1,15 +1,12 @@
 -- `index_compare::opening::first_ahead` meets its contract: what is ahead has the same first number.
 -- The measure is the number of segments ahead.
 -- Assumes nothing.
-use native.Mathlib.Omega.{arith}
-use borrow.Author.Rules.{rules}
-use Rattle.index_compare.proofs.Depths.{first_end, first_here, first_next}
 use Rattle.index_compare.specs.declared.compare.View.TheVariants.{Listed}
 use Rattle.index_compare.specs.View.{viewed, reference_numbers}
 use Rattle.index_compare.specs.Machine.{ahead}
 use lib.ListN.{length, get_or}
 use mathlib.Core.List.{map}
-use mathlib.Core.Path.{◌≡◌, refl, ◌∙◌}
+use mathlib.Core.Path.{◌≡◌}
 use Rattle.index_compare.proofs.opening.first_ahead.Given as goal
 
 abbrev pub invariant-loop-s : goal.invariant-loop-s

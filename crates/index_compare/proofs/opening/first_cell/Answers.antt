@@ -4,7 +4,6 @@ use mathlib.Core.Path.{sym, ◌∙◌}
 use lib.ListN.{drop}
 use Rattle.index_compare.proofs.Steps.{word_short, word_value}
 use Rattle.index_compare.proofs.Opened.{cell_short, cell_value}
-use borrow.Author.Rules.{rules}
 use Rattle.index_compare.proofs.opening.first_cell.Goals as goal
 
 pub returns-in_default : goal.returns-in_default

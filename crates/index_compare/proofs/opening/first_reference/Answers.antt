@@ -9,7 +9,6 @@ use Rattle.index_compare.specs.View.{viewed, reference_numbers}
 use Rattle.index_compare.specs.declared.compare.View.TheVariants.{Listed}
 use Rattle.index_compare.proofs.Shapes.{segments_by}
 use Rattle.index_compare.proofs.Opened.{first_type_lem, first_term_lem}
-use borrow.Author.Rules.{rules}
 use Rattle.index_compare.proofs.opening.first_reference.Goals as goal
 
 pub returns-in-TypeFirst : goal.returns-in-TypeFirst

@@ -3,7 +3,6 @@
 use Rattle.index_compare.specs.Machine.{ahead, walk_start}
 use Rattle.index_compare.proofs.Shapes.{shape_is}
 use Rattle.index_compare.proofs.Opened.{first_named}
-use borrow.Author.Rules.{rules}
 use Rattle.index_compare.proofs.opening.first_shaped.Goals as goal
 
 pub returns-in-Named : goal.returns-in-Named

@@ -4,7 +4,6 @@ use mathlib.Core.Path.{refl}
 use Rattle.index_compare.specs.Machine.{walk_start, start_type}
 use Rattle.index_compare.proofs.Shapes.{opens_is}
 use Rattle.index_compare.specs.declared.opening.Opening.TheVariants.{TypeFirst}
-use borrow.Author.Rules.{rules}
 use Rattle.index_compare.proofs.opening.opening_of.Goals as goal
 
 pub returns-then-b-eq79 : goal.returns-then-b-eq79

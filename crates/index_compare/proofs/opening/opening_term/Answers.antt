@@ -4,7 +4,6 @@ use mathlib.Core.Path.{refl}
 use Rattle.index_compare.specs.Machine.{walk_start, start_term, start_list}
 use Rattle.index_compare.proofs.Shapes.{opens_is}
 use Rattle.index_compare.specs.declared.opening.Opening.TheVariants.{TypeFirst, TermFirst}
-use borrow.Author.Rules.{rules}
 use Rattle.index_compare.proofs.opening.opening_term.Goals as goal
 
 pub returns-then-b-eq65 : goal.returns-then-b-eq65

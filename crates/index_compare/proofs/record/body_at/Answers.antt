@@ -5,7 +5,6 @@ use lib.ListN.{drop}
 use Rattle.index_compare.proofs.Steps.{word_short, word_value}
 use Rattle.index_compare.proofs.Bodies.{body_at_past, body_at_part, word_there}
 use native.Mathlib.Omega.{arith}
-use borrow.Author.Rules.{rules}
 use Rattle.index_compare.proofs.record.body_at.Goals as goal
 
 pub returns-then-file-lt6 : goal.returns-then-file-lt6

@@ -2,7 +2,6 @@
 -- Assumes nothing.
 use Rattle.index_compare.proofs.Bodies.{marked_none, marked_as}
 use native.Mathlib.Omega.{arith}
-use borrow.Author.Rules.{rules}
 use Rattle.index_compare.proofs.record.kind_at.Goals as goal
 
 pub returns-then-file-lt2 : goal.returns-then-file-lt2

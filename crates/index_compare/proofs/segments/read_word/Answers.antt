@@ -5,7 +5,6 @@ use Rattle.script_spec.specs.Fields.{low}
 use Rattle.read_field.proofs.Laws.{four_at}
 use Rattle.index_compare.proofs.Steps.{too_short, long_enough}
 use native.Mathlib.Omega.{arith}
-use borrow.Author.Rules.{rules}
 use Rattle.index_compare.proofs.segments.read_word.Goals as goal
 
 pub returns-then-body-at : goal.returns-then-body-at

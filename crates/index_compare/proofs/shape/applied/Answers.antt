@@ -3,10 +3,8 @@
 use lib.ListN.{length, drop}
 use Prim.Native.Nat.{◌≤◌}
 use Rattle.index_compare.proofs.Steps.{word_value}
-use borrow.Author.Tests.{not-false}
 use Rattle.index_compare.proofs.Shapes.{applied_shown}
 use native.Mathlib.Omega.{arith}
-use borrow.Author.Rules.{rules}
 use Rattle.index_compare.proofs.shape.applied.Goals as goal
 
 pub returns : goal.returns

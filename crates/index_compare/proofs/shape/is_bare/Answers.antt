@@ -1,7 +1,6 @@
 -- `index_compare::shape::is_bare` meets its contract: by the operand of the code.
 -- Assumes nothing.
 use mathlib.Core.Path.{sym, ◌∙◌}
-use borrow.Author.Rules.{rules}
 use Rattle.index_compare.proofs.Shapes.{bare_not}
 use Rattle.index_compare.proofs.shape.is_bare.Goals as goal
 

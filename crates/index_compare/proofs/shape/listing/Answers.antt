@@ -3,7 +3,6 @@
 use lib.ListN.{drop}
 use Rattle.index_compare.proofs.Steps.{word_value}
 use Rattle.index_compare.proofs.Shapes.{listing_shown}
-use borrow.Author.Rules.{rules}
 use Rattle.index_compare.proofs.shape.listing.Goals as goal
 
 pub returns : goal.returns

@@ -1,7 +1,6 @@
 -- `index_compare::shape::named` meets its contract: the text ends where the reference begins.
 -- Assumes nothing.
 use Rattle.index_compare.proofs.Shapes.{named_shown}
-use borrow.Author.Rules.{rules}
 use Rattle.index_compare.proofs.shape.named.Goals as goal
 
 pub returns : goal.returns

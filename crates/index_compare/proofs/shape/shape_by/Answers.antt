@@ -1,7 +1,6 @@
 -- `index_compare::shape::shape_by` meets its contract: by the start of the walk for each mark.
 -- Assumes nothing.
 use Rattle.index_compare.proofs.Shapes.{shape_at, start_is}
-use borrow.Author.Rules.{rules}
 use Rattle.index_compare.proofs.shape.shape_by.Goals as goal
 
 pub returns-then-b-eq49 : goal.returns-then-b-eq49

@@ -1,7 +1,6 @@
 -- `index_compare::shape::shape_of` meets its contract: the mark is the two bytes at the offset.
 -- Assumes nothing.
 use Rattle.index_compare.proofs.Shapes.{segments_by, shape_at}
-use borrow.Author.Rules.{rules}
 use Rattle.index_compare.proofs.shape.shape_of.Goals as goal
 
 pub returns : goal.returns

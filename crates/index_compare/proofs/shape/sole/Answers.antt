@@ -3,7 +3,6 @@
 use lib.ListN.{drop}
 use Rattle.index_compare.proofs.Steps.{word_value}
 use Rattle.index_compare.proofs.Shapes.{sole_shown}
-use borrow.Author.Rules.{rules}
 use Rattle.index_compare.proofs.shape.sole.Goals as goal
 
 pub returns : goal.returns

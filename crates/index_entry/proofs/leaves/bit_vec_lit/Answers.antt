@@ -1,7 +1,6 @@
 -- `index_entry::leaves::bit_vec_lit` meets its contract.
 -- Assumes nothing.
 use Rattle.index_entry.proofs.LeafEntries.{term_bits}
-use borrow.Author.Rules.{rules}
 use Rattle.index_entry.proofs.leaves.bit_vec_lit.Goals as goal
 
 pub returns : goal.returns

@@ -7,7 +7,6 @@ use Rattle.read_field.specs.Answers.{number_told}
 use Rattle.read_field.proofs.Laws.{tells}
 use Rattle.read_operator.proofs.Laws.{past}
 use Rattle.index_entry.proofs.LeafEntries.{truths, truth_known, truth_short, truth_unknown}
-use borrow.Author.Rules.{rules}
 use Rattle.index_entry.proofs.leaves.bool_lit.Goals as goal
 
 pub returns-in-Bad : goal.returns-in-Bad

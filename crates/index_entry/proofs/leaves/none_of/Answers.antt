@@ -1,7 +1,6 @@
 -- `index_entry::leaves::none_of` meets its contract.
 -- Assumes nothing.
 use Rattle.index_entry.proofs.LeafEntries.{term_none}
-use borrow.Author.Rules.{rules}
 use Rattle.index_entry.proofs.leaves.none_of.Goals as goal
 
 pub returns : goal.returns

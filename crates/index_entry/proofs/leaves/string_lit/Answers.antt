@@ -1,7 +1,6 @@
 -- `index_entry::leaves::string_lit` meets its contract.
 -- Assumes nothing.
 use Rattle.index_entry.proofs.LeafEntries.{term_string}
-use borrow.Author.Rules.{rules}
 use Rattle.index_entry.proofs.leaves.string_lit.Goals as goal
 
 pub returns : goal.returns

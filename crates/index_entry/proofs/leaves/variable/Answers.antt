@@ -1,7 +1,6 @@
 -- `index_entry::leaves::variable` meets its contract.
 -- Assumes nothing.
 use Rattle.index_entry.proofs.LeafEntries.{term_var}
-use borrow.Author.Rules.{rules}
 use Rattle.index_entry.proofs.leaves.variable.Goals as goal
 
 pub returns : goal.returns

@@ -1,7 +1,6 @@
 -- `index_entry::lists::after_text` meets its contract.
 -- Assumes nothing.
 use Rattle.index_entry.proofs.Places.{after_text}
-use borrow.Author.Rules.{rules}
 use Rattle.index_entry.proofs.lists.after_text.Goals as goal
 
 pub returns : goal.returns

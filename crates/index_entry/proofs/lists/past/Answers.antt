@@ -2,7 +2,6 @@
 -- Assumes nothing.
 use Rattle.index_entry.proofs.Places.{past_end, past_on}
 use native.Mathlib.Omega.{arith}
-use borrow.Author.Rules.{rules}
 use Rattle.index_entry.proofs.lists.past.Goals as goal
 
 pub returns-then-body-at : goal.returns-then-body-at

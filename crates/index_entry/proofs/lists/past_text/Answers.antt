@@ -1,7 +1,6 @@
 -- `index_entry::lists::past_text` meets its contract.
 -- Assumes nothing.
 use Rattle.index_entry.proofs.Places.{past_text}
-use borrow.Author.Rules.{rules}
 use Rattle.index_entry.proofs.lists.past_text.Goals as goal
 
 pub returns : goal.returns

@@ -1,7 +1,6 @@
 -- `index_entry::lists::text_at` meets its contract.
 -- Assumes nothing.
 use Rattle.index_entry.proofs.Places.{text_is}
-use borrow.Author.Rules.{rules}
 use Rattle.index_entry.proofs.lists.text_at.Goals as goal
 
 pub returns : goal.returns

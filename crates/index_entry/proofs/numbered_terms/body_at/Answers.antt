@@ -1,7 +1,6 @@
 -- `index_entry::numbered_terms::body_at` meets its contract.
 -- Assumes nothing.
 use mathlib.Core.Path.{◌∙◌}
-use borrow.Author.Rules.{rules}
 use Rattle.index_entry.proofs.numbered_terms.body_at.Goals as goal
 
 pub returns : goal.returns

@@ -1,6 +1,5 @@
 -- `index_entry::numbered_terms::term_at` meets its contract.
 -- Assumes nothing.
-use borrow.Author.Rules.{rules}
 use Rattle.index_entry.proofs.numbered_terms.term_at.Goals as goal
 
 pub returns : goal.returns

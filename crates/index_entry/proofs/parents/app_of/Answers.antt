@@ -4,7 +4,6 @@ use mathlib.Core.Path.{ap}
 use Rattle.read_operator.specs.Operators.{op_told}
 use Rattle.index_entry.proofs.ParentEntries.{term_app, no_app}
 use Rattle.read_operator.proofs.Again.{tells_again}
-use borrow.Author.Rules.{rules}
 use Rattle.index_entry.proofs.parents.app_of.Goals as goal
 
 pub returns-in-Bad : goal.returns-in-Bad

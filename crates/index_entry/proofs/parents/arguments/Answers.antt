@@ -2,7 +2,6 @@
 -- Assumes nothing.
 use mathlib.Core.Path.{sym, ◌∙◌}
 use Rattle.index_entry.proofs.ChildEntries.{children_bare}
-use borrow.Author.Rules.{rules}
 use Rattle.index_entry.proofs.parents.arguments.Goals as goal
 
 pub returns-in-Absent : goal.returns-in-Absent

@@ -4,7 +4,6 @@ use mathlib.Core.Path.{ap}
 use Rattle.read_operator.specs.Operators.{op_told}
 use Rattle.index_entry.proofs.ChildEntries.{children_app, no_arguments}
 use Rattle.read_operator.proofs.Again.{tells_again}
-use borrow.Author.Rules.{rules}
 use Rattle.index_entry.proofs.parents.arguments_after.Goals as goal
 
 pub returns-in-Bad : goal.returns-in-Bad

@@ -1,7 +1,6 @@
 -- `index_entry::parents::listed_at` meets its contract.
 -- Assumes nothing.
 use mathlib.Core.Path.{refl}
-use borrow.Author.Rules.{rules}
 use Rattle.index_entry.proofs.parents.listed_at.Goals as goal
 
 pub returns : goal.returns

@@ -1,7 +1,6 @@
 -- `index_entry::parents::some_of` meets its contract.
 -- Assumes nothing.
 use Rattle.index_entry.proofs.ParentEntries.{term_some}
-use borrow.Author.Rules.{rules}
 use Rattle.index_entry.proofs.parents.some_of.Goals as goal
 
 pub returns : goal.returns

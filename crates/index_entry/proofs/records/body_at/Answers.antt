@@ -1,6 +1,5 @@
 -- `index_entry::records::body_at` meets its contract.
 -- Assumes nothing.
-use borrow.Author.Rules.{rules}
 use Rattle.index_entry.proofs.records.body_at.Goals as goal
 
 pub returns : goal.returns

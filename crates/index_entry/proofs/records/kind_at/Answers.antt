@@ -1,6 +1,5 @@
 -- `index_entry::records::kind_at` meets its contract.
 -- Assumes nothing.
-use borrow.Author.Rules.{rules}
 use Rattle.index_entry.proofs.records.kind_at.Goals as goal
 
 pub returns : goal.returns

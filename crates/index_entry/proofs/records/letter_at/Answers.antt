@@ -2,7 +2,6 @@
 -- Assumes nothing.
 use native.Mathlib.Omega.{arith}
 use Rattle.index_compare.proofs.Bodies.{letter_short, letter_read}
-use borrow.Author.Rules.{rules}
 use Rattle.index_entry.proofs.records.letter_at.Goals as goal
 
 pub returns-then-file-at : goal.returns-then-file-at

@@ -4,7 +4,6 @@ use mathlib.Core.Path.{ap}
 use Rattle.read_field.specs.Answers.{number_told}
 use Rattle.read_field.proofs.Laws.{tells}
 use Rattle.index_entry.proofs.Places.{number_read, number_short}
-use borrow.Author.Rules.{rules}
 use Rattle.index_entry.proofs.records.number_at.Goals as goal
 
 pub returns-in-Value : goal.returns-in-Value

@@ -1,7 +1,6 @@
 -- `index_entry::symbols::enum_at` meets its contract.
 -- Assumes nothing.
 use Rattle.index_entry.proofs.SymbolEntries.{enum_at}
-use borrow.Author.Rules.{rules}
 use Rattle.index_entry.proofs.symbols.enum_at.Goals as goal
 
 pub returns : goal.returns

@@ -1,7 +1,6 @@
 -- `index_entry::symbols::enum_of` meets its contract.
 -- Assumes nothing.
 use Rattle.index_entry.proofs.SymbolEntries.{enum_is, no_enums}
-use borrow.Author.Rules.{rules}
 use borrow.Enum.Refused.{opened}
 use Rattle.index_entry.proofs.symbols.enum_of.Goals as goal
 

@@ -1,7 +1,6 @@
 -- `index_entry::symbols::fun_at` meets its contract.
 -- Assumes nothing.
 use Rattle.index_entry.proofs.SymbolEntries.{fun_is_at}
-use borrow.Author.Rules.{rules}
 use Rattle.index_entry.proofs.symbols.fun_at.Goals as goal
 
 pub returns : goal.returns

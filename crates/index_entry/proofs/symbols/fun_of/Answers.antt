@@ -1,7 +1,6 @@
 -- `index_entry::symbols::fun_of` meets its contract.
 -- Assumes nothing.
 use Rattle.index_entry.proofs.SymbolEntries.{fun_is, no_funs}
-use borrow.Author.Rules.{rules}
 use borrow.Enum.Refused.{opened}
 use Rattle.index_entry.proofs.symbols.fun_of.Goals as goal
 

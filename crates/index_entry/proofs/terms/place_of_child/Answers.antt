@@ -1,7 +1,6 @@
 -- `index_entry::terms::place_of_child` meets its contract.
 -- Assumes nothing.
 use Rattle.index_entry.proofs.ChildLaws.{ahead_named, ahead_bare}
-use borrow.Author.Rules.{rules}
 use Rattle.index_entry.proofs.terms.place_of_child.Goals as goal
 
 pub returns-then-named : goal.returns-then-named

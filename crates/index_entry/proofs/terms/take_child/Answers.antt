@@ -1,7 +1,6 @@
 -- `index_entry::terms::take_child` meets its contract.
 -- Assumes nothing.
 use Rattle.index_entry.proofs.ChildLaws.{takes_child}
-use borrow.Author.Rules.{rules}
 use Rattle.index_entry.proofs.terms.take_child.Goals as goal
 
 pub returns : goal.returns

@@ -1,7 +1,6 @@
 -- `index_entry::terms::term_at` meets its contract: the mark and the body of the record.
 -- Assumes nothing.
 use Rattle.index_entry.proofs.TermEntries.{term_at_lem}
-use borrow.Author.Rules.{rules}
 use Rattle.index_entry.proofs.terms.term_at.Goals as goal
 
 pub returns : goal.returns

@@ -2,7 +2,6 @@
 -- Assumes nothing.
 use Rattle.script_spec.specs.Base.{bytes}
 use Rattle.index_entry.proofs.TermEntries.{under, no_terms}
-use borrow.Author.Rules.{rules}
 use Rattle.index_entry.proofs.terms.term_of.Goals as goal
 
 pub returns-in-86 : goal.returns-in-86

@@ -8,7 +8,6 @@ use Rattle.read_field.proofs.Laws.{tells}
 use Rattle.read_operator.proofs.Laws.{past}
 use Rattle.index_entry.specs.Types.{ext_type_said}
 use Rattle.index_entry.proofs.TypeEntries.{ext_types, ext_known, ext_short, ext_unknown}
-use borrow.Author.Rules.{rules}
 use Rattle.index_entry.proofs.types.ext_type.Goals as goal
 
 pub returns-in-Bad : goal.returns-in-Bad

@@ -1,7 +1,6 @@
 -- `index_entry::types::part_at` meets its contract.
 -- Assumes nothing.
 use Rattle.index_entry.proofs.Parts.{part_is}
-use borrow.Author.Rules.{rules}
 use Rattle.index_entry.proofs.types.part_at.Goals as goal
 
 pub returns : goal.returns

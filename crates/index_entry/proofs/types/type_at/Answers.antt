@@ -1,7 +1,6 @@
 -- `index_entry::types::type_at` meets its contract: the mark and the body of the record.
 -- Assumes nothing.
 use Rattle.index_entry.proofs.TypeEntries.{type_at_lem}
-use borrow.Author.Rules.{rules}
 use Rattle.index_entry.proofs.types.type_at.Goals as goal
 
 pub returns : goal.returns

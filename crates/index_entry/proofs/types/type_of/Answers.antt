@@ -3,7 +3,6 @@
 use mathlib.Core.Path.{◌∙◌}
 use Rattle.script_spec.specs.Base.{bytes}
 use Rattle.index_entry.proofs.TypeEntries.{under, type_bool, type_string, type_bitvec, type_option, type_set, type_entity, type_record, no_types}
-use borrow.Author.Rules.{rules}
 use Rattle.index_entry.proofs.types.type_of.Goals as goal
 
 pub returns-in-66 : goal.returns-in-66

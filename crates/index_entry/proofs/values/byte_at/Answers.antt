@@ -1,7 +1,6 @@
 -- `index_entry::values::byte_at` meets its contract.
 -- Assumes nothing.
 use mathlib.Core.Path.{◌∙◌}
-use borrow.Author.Rules.{rules}
 use Rattle.index_entry.proofs.values.byte_at.Goals as goal
 
 pub returns : goal.returns

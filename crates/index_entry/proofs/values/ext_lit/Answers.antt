@@ -10,7 +10,6 @@ use Rattle.read_operator.proofs.Laws.{past}
 use Rattle.read_record.specs.Fields.{values}
 use Rattle.index_entry.specs.Terms.{value_of}
 use Rattle.index_entry.proofs.ValueEntries.{value_v4, value_v6, value_bits, value_short, value_unknown}
-use borrow.Author.Rules.{rules}
 use Rattle.index_entry.proofs.values.ext_lit.Goals as goal
 
 pub returns-in-Bad : goal.returns-in-Bad

@@ -4,7 +4,6 @@ use Rattle.index_compare.specs.View.{kind_of, reference_number, bytes_of}
 use Rattle.index.specs.Names.{mixed_bytes}
 use Rattle.index_search.specs.Hash.{mixed_segments, hashed, type_hash}
 use Rattle.index_search.proofs.Mixed.{then_mixed}
-use borrow.Author.Rules.{rules}
 use Rattle.index_search.proofs.hash.code_hash.Goals as goal
 
 pub returns : goal.returns

@@ -4,7 +4,6 @@ use Rattle.index_compare.specs.Machine.{segments}
 use Rattle.index_compare.specs.View.{segments_at, start_at}
 use Rattle.index.specs.Names.{mixed_bytes}
 use Rattle.index_search.specs.Hash.{hashed, type_hash}
-use borrow.Author.Rules.{rules}
 use Rattle.index_search.proofs.hash.listed_hash.Goals as goal
 
 pub returns : goal.returns

@@ -3,7 +3,6 @@
 use mathlib.Core.Path.{ap, ◌∙◌}
 use Rattle.index.specs.Names.{mixed}
 use Rattle.index_search.proofs.Mixed.{then_mixed}
-use borrow.Author.Rules.{rules}
 use Rattle.index_search.proofs.hash.mark_hash.Goals as goal
 
 pub returns : goal.returns

@@ -1,14 +1,8 @@
 -- The hash so far with what is ahead comes to the hash with all segments. The measure is the number of segments ahead.
 -- Assumes nothing.
-use mathlib.Core.Path.{◌≡◌, refl, ◌∙◌}
+use mathlib.Core.Path.{refl, ◌∙◌}
 use native.Mathlib.Omega.{arith}
-use mathlib.Core.List.{map}
-use lib.ListN.{length}
-use Rattle.index_compare.specs.Machine.{ahead}
-use Rattle.index_compare.specs.View.{viewed}
-use Rattle.index_search.specs.Hash.{mixed_segments}
 use Rattle.index_search.proofs.Mixed.{seen_small, segments_end, segments_next}
-use borrow.Author.Rules.{rules}
 use Rattle.index_search.proofs.hash.mix_ahead.Goals as goal
 
 pub loop-view-init : goal.loop-view-init

@@ -1,14 +1,11 @@
 -- The hash so far with what is ahead comes to the hash with all segments. The measure is the number of segments ahead.
 -- Assumes nothing.
-use mathlib.Core.Path.{◌≡◌, refl, ◌∙◌}
-use native.Mathlib.Omega.{arith}
+use mathlib.Core.Path.{◌≡◌}
 use mathlib.Core.List.{map}
 use lib.ListN.{length}
 use Rattle.index_compare.specs.Machine.{ahead}
 use Rattle.index_compare.specs.View.{viewed}
 use Rattle.index_search.specs.Hash.{mixed_segments}
-use Rattle.index_search.proofs.Mixed.{seen_small, segments_end, segments_next}
-use borrow.Author.Rules.{rules}
 use Rattle.index_search.proofs.hash.mix_ahead.Given as goal
 
 abbrev pub invariant-loop-view : goal.invariant-loop-view

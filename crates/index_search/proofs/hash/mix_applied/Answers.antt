@@ -5,7 +5,6 @@ use lib.ListN.{take, drop}
 use Rattle.index_compare.specs.Segment.{plain}
 use Rattle.index_compare.specs.Machine.{items}
 use Rattle.index_compare.specs.declared.segments.Item.TheVariants.{Term}
-use borrow.Author.Rules.{rules}
 use Rattle.index_search.proofs.Shapes.{type_then, plain_then}
 use Rattle.index_search.proofs.hash.mix_applied.Goals as goal
 

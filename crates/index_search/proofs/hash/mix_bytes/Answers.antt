@@ -1,12 +1,8 @@
 -- The hash so far with the bytes that are left comes to the hash with all bytes.
 -- Assumes nothing.
-use mathlib.Core.Path.{◌≡◌, refl, ◌∙◌}
-use Prim.Native.Nat.{◌-◌, ◌≤◌}
+use mathlib.Core.Path.{refl, ◌∙◌}
 use native.Mathlib.Omega.{arith}
-use lib.ListN.{length, drop}
-use Rattle.index.specs.Names.{mixed_bytes}
 use Rattle.index_search.proofs.Mixed.{bytes_four}
-use borrow.Author.Rules.{rules}
 use Rattle.index_search.proofs.hash.mix_bytes.Goals as goal
 
 pub loop-i-init : goal.loop-i-init

@@ -1,12 +1,9 @@
 -- The hash so far with the bytes that are left comes to the hash with all bytes.
 -- Assumes nothing.
-use mathlib.Core.Path.{◌≡◌, refl, ◌∙◌}
+use mathlib.Core.Path.{◌≡◌}
 use Prim.Native.Nat.{◌-◌, ◌≤◌}
-use native.Mathlib.Omega.{arith}
 use lib.ListN.{length, drop}
 use Rattle.index.specs.Names.{mixed_bytes}
-use Rattle.index_search.proofs.Mixed.{bytes_four}
-use borrow.Author.Rules.{rules}
 use Rattle.index_search.proofs.hash.mix_bytes.Given as goal
 
 abbrev pub invariant-loop-i : goal.invariant-loop-i

@@ -1,12 +1,9 @@
 -- The hash so far with the bytes that are left comes to the hash with all of them.
 -- Assumes nothing.
-use mathlib.Core.Path.{◌≡◌, refl, ◌∙◌}
+use mathlib.Core.Path.{◌≡◌}
 use Prim.Native.Nat.{◌+◌, ◌-◌, ◌<◌}
-use native.Mathlib.Omega.{arith}
 use lib.ListN.{length, drop}
 use Rattle.index.specs.Names.{mixed_bytes}
-use Rattle.index_search.proofs.Mixed.{bytes_next, bytes_end}
-use borrow.Author.Rules.{rules}
 use Rattle.index_search.proofs.hash.mix_last.Given as goal
 
 abbrev pub invariant-loop-i : goal.invariant-loop-i

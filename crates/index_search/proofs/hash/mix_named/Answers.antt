@@ -5,7 +5,6 @@ use mathlib.Core.List.{[], ◌∷◌}
 use native.Mathlib.Omega.{arith}
 use lib.ListN.{take, length-take}
 use Rattle.index_compare.specs.Segment.{type_ref}
-use borrow.Author.Rules.{rules}
 use Rattle.index_search.proofs.Shapes.{type_then, plain_then, mixed_none}
 use Rattle.index_search.proofs.hash.mix_named.Goals as goal
 

@@ -1,6 +1,5 @@
 -- The kind of bytes and no number, and then the bytes.
 -- Assumes nothing.
-use borrow.Author.Rules.{rules}
 use Rattle.index_search.proofs.hash.mix_plain.Goals as goal
 
 pub returns : goal.returns

@@ -1,7 +1,6 @@
 -- The kind and the number, and then the bytes.
 -- Assumes nothing.
 use Rattle.index_search.proofs.Mixed.{part_mixed}
-use borrow.Author.Rules.{rules}
 use Rattle.index_search.proofs.hash.mix_seen.Goals as goal
 
 pub returns : goal.returns

@@ -1,18 +1,13 @@
 -- The hash so far with the references that are left comes to the hash with all of them. The measure is how many are left.
 -- Assumes nothing.
-use mathlib.Core.Path.{◌≡◌, refl, ◌∙◌}
+use mathlib.Core.Path.{◌≡◌}
 use mathlib.Core.List.{map}
 use lib.ListN.{drop}
 use Rattle.index_search.specs.Hash.{mixed_segments}
 use Rattle.index_compare.specs.Machine.{items}
 use Rattle.index_compare.specs.declared.segments.Item.TheVariants.{Term}
-use Rattle.index_compare.proofs.Steps.{word_short, word_value, word_fits}
 use Rattle.index_compare.specs.View.{viewed}
 use Rattle.index_compare.specs.declared.compare.View.TheVariants.{First}
-use Rattle.index_compare.proofs.Shapes.{terms_none, terms_short, terms_next}
-use Rattle.index_search.proofs.Shapes.{mixed_none, mixed_turn}
-use native.Mathlib.Omega.{arith}
-use borrow.Author.Rules.{rules}
 use Rattle.index_search.proofs.hash.mix_terms.Given as goal
 
 abbrev pub invariant-loop-left : goal.invariant-loop-left

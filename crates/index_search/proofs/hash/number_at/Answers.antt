@@ -4,7 +4,6 @@ use mathlib.Core.Path.{ap, ◌∙◌}
 use Rattle.script_spec.specs.Fields.{low}
 use Rattle.read_field.proofs.Laws.{four_at}
 use native.Mathlib.Omega.{arith}
-use borrow.Author.Rules.{rules}
 use Rattle.index_search.proofs.hash.number_at.Goals as goal
 
 pub returns : goal.returns

@@ -6,7 +6,6 @@ use Rattle.index.specs.Standing.{mark_at}
 use Rattle.index_compare.specs.View.{segments_at}
 use Rattle.index_compare.proofs.Shapes.{shape_is}
 use Rattle.index_search.proofs.Shapes.{mixed_sole, hash_of, hash_shown, hash_walk}
-use borrow.Author.Rules.{rules}
 use Rattle.index_search.proofs.hash.record_hash.Goals as goal
 
 pub mix_applied-requires : goal.mix_applied-requires

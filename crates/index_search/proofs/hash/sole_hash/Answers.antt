@@ -1,7 +1,6 @@
 -- The mark, and then the kind and the number.
 -- Assumes nothing.
 use Rattle.index_search.proofs.Mixed.{then_segment}
-use borrow.Author.Rules.{rules}
 use Rattle.index_search.proofs.hash.sole_hash.Goals as goal
 
 pub returns : goal.returns

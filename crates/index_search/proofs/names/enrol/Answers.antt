@@ -1,7 +1,6 @@
 -- The search from the home of the name, and a slot where no enum has it.
 -- Assumes nothing.
 use Rattle.index_search.proofs.Naming.{name_new, name_known}
-use borrow.Author.Rules.{rules}
 use Rattle.index_search.proofs.names.enrol.Goals as goal
 
 pub returns-then-n-count : goal.returns-then-n-count

@@ -1,7 +1,6 @@
 -- The search from the home of the name.
 -- Assumes nothing.
 use Rattle.index_search.proofs.Naming.{named_found}
-use borrow.Author.Rules.{rules}
 use Rattle.index_search.proofs.names.find.Goals as goal
 
 pub returns : goal.returns

@@ -1,7 +1,6 @@
 -- The number, the kind, and then the name.
 -- Assumes nothing.
 use Rattle.index_search.proofs.Naming.{named_past, named_other, named_same}
-use borrow.Author.Rules.{rules}
 use Rattle.index_search.proofs.names.holds.Goals as goal
 
 pub returns-then-count-n : goal.returns-then-count-n

@@ -1,10 +1,8 @@
 -- The invariant: none of the slots that were passed is empty or has an enum of the name.
 -- Assumes nothing.
-use Prim.Native.Nat.{◌-◌}
 use mathlib.Core.Path.{ap, ◌∙◌}
 use Rattle.index.specs.Cells.{cell, hash}
-use Rattle.index_search.proofs.Naming.{PassedNamed, named_passed_none, named_passed_more, named_empty, named_held, named_nowhere}
-use borrow.Author.Rules.{rules}
+use Rattle.index_search.proofs.Naming.{named_passed_none, named_passed_more, named_empty, named_held, named_nowhere}
 use Rattle.index_search.proofs.names.probe.Goals as goal
 
 pub loop-d-init : goal.loop-d-init

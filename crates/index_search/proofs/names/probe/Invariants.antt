@@ -1,10 +1,7 @@
 -- The invariant: none of the slots that were passed is empty or has an enum of the name.
 -- Assumes nothing.
 use Prim.Native.Nat.{◌-◌}
-use mathlib.Core.Path.{ap, ◌∙◌}
-use Rattle.index.specs.Cells.{cell, hash}
-use Rattle.index_search.proofs.Naming.{PassedNamed, named_passed_none, named_passed_more, named_empty, named_held, named_nowhere}
-use borrow.Author.Rules.{rules}
+use Rattle.index_search.proofs.Naming.{PassedNamed}
 use Rattle.index_search.proofs.names.probe.Given as goal
 
 abbrev pub invariant-loop-d : goal.invariant-loop-d

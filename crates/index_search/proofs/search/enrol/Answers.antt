@@ -1,7 +1,6 @@
 -- The search from the home, and a slot where nothing equal was found.
 -- Assumes nothing.
 use Rattle.index_search.proofs.Searching.{enrolled_new, enrolled_old}
-use borrow.Author.Rules.{rules}
 use Rattle.index_search.proofs.search.enrol.Goals as goal
 
 pub returns-in-Known : goal.returns-in-Known

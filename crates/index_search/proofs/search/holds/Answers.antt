@@ -1,7 +1,6 @@
 -- The number, the kind, and then the record.
 -- Assumes nothing.
 use Rattle.index_search.proofs.Searching.{holds_past, holds_other, holds_same}
-use borrow.Author.Rules.{rules}
 use Rattle.index_search.proofs.search.holds.Goals as goal
 
 pub returns-then-count-n : goal.returns-then-count-n

@@ -1,11 +1,8 @@
 -- The invariant: none of the slots that were passed is empty or has an equal entry.
 -- Assumes nothing.
-use Prim.Native.Nat.{◌-◌}
 use mathlib.Core.Path.{ap, ◌∙◌}
 use Rattle.index.specs.Cells.{cell, hash}
-use Rattle.index_search.specs.Tables.{slot_kind, offsets_of}
-use Rattle.index_search.proofs.Searching.{PassedBy, passed_start, passed_on, found_empty, found_held, found_nowhere}
-use borrow.Author.Rules.{rules}
+use Rattle.index_search.proofs.Searching.{passed_start, passed_on, found_empty, found_held, found_nowhere}
 use Rattle.index_search.proofs.search.probe.Goals as goal
 
 pub loop-d-init : goal.loop-d-init

@@ -3,7 +3,6 @@
 use native.Mathlib.Omega.{arith}
 use Rattle.index.specs.Standing.{mark_at}
 use Rattle.index_search.proofs.Equal.{same_marks, other_marks}
-use borrow.Author.Rules.{rules}
 use Rattle.index_search.proofs.search.same_at.Goals as goal
 
 pub returns-then-same : goal.returns-then-same

@@ -2,7 +2,6 @@
 -- Assumes nothing.
 use Rattle.index.specs.Names.{code_of}
 use native.Mathlib.Omega.{arith}
-use borrow.Author.Rules.{rules}
 use Rattle.index_search.proofs.slots.code.Goals as goal
 
 pub returns : goal.returns

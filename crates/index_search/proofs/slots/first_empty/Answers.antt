@@ -1,11 +1,9 @@
 -- The invariant: no slot that was passed is empty.
 -- Assumes nothing.
-use Prim.Native.Nat.{◌-◌}
 use mathlib.Core.Path.{ap, ◌∙◌}
 use native.Mathlib.Omega.{arith}
 use Rattle.index.specs.Cells.{cell, hash}
-use Rattle.index_search.proofs.Ring.{Taken, taken_none, taken_more, empty_here, empty_nowhere}
-use borrow.Author.Rules.{rules}
+use Rattle.index_search.proofs.Ring.{taken_none, taken_more, empty_here, empty_nowhere}
 use Rattle.index_search.proofs.slots.first_empty.Goals as goal
 
 pub loop-d-init : goal.loop-d-init

@@ -2,7 +2,6 @@
 -- Assumes nothing.
 use native.Mathlib.Omega.{arith}
 use Rattle.index_search.proofs.Homes.{home_found}
-use borrow.Author.Rules.{rules}
 use Rattle.index_search.proofs.slots.home.Goals as goal
 
 pub returns : goal.returns

@@ -1,7 +1,6 @@
 -- `index_search::slots::name_home` meets its contract: the hash of the name, scaled.
 -- Assumes nothing.
 use Rattle.index_search.proofs.Homes.{name_home_found}
-use borrow.Author.Rules.{rules}
 use Rattle.index_search.proofs.slots.name_home.Goals as goal
 
 pub returns : goal.returns

@@ -2,7 +2,6 @@
 -- Assumes nothing.
 use native.Mathlib.Omega.{arith}
 use Rattle.index_search.proofs.Ring.{slot_past, slot_before, slot_round}
-use borrow.Author.Rules.{rules}
 use Rattle.index_search.proofs.slots.slot.Goals as goal
 
 pub returns-then-rows-b : goal.returns-then-rows-b

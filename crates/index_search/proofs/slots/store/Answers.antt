@@ -1,6 +1,5 @@
 -- The first empty slot, and the store.
 -- Assumes nothing.
-use borrow.Author.Rules.{rules}
 use Rattle.index_search.proofs.slots.store.Goals as goal
 
 pub returns : goal.returns

@@ -1,7 +1,6 @@
 -- The slot, and the store.
 -- Assumes nothing.
 use Rattle.index_search.proofs.Homes.{stored_there}
-use borrow.Author.Rules.{rules}
 use Rattle.index_search.proofs.slots.store_at.Goals as goal
 
 pub returns : goal.returns

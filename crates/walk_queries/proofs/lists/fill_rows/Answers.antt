@@ -1,8 +1,6 @@
 -- `walk_queries::lists::fill_rows` meets its contract. The loop's invariant: the rows so far are filled.
 -- Assumes nothing.
-use Prim.Native.Nat.{◌-◌}
-use Rattle.walk_queries.proofs.FillLaws.{Filling, filling_start, filling_more, filling_stop, filling_end}
-use borrow.Author.Rules.{rules}
+use Rattle.walk_queries.proofs.FillLaws.{filling_start, filling_more, filling_stop, filling_end}
 use Rattle.walk_queries.proofs.lists.fill_rows.Goals as goal
 
 pub loop-j-init : goal.loop-j-init

@@ -1,8 +1,7 @@
 -- `walk_queries::lists::fill_rows` meets its contract. The loop's invariant: the rows so far are filled.
 -- Assumes nothing.
 use Prim.Native.Nat.{◌-◌}
-use Rattle.walk_queries.proofs.FillLaws.{Filling, filling_start, filling_more, filling_stop, filling_end}
-use borrow.Author.Rules.{rules}
+use Rattle.walk_queries.proofs.FillLaws.{Filling}
 use Rattle.walk_queries.proofs.lists.fill_rows.Given as goal
 
 abbrev pub invariant-loop-j : goal.invariant-loop-j

@@ -3,7 +3,6 @@
 use Rattle.walk_queries.proofs.Order.{untrue}
 use borrow.Author.Tests.{leb-true}
 use native.Mathlib.Omega.{arith}
-use borrow.Author.Rules.{rules}
 use Rattle.walk_queries.proofs.lists.fits.Goals as goal
 
 pub returns-then-end-ge4294967295 : goal.returns-then-end-ge4294967295

@@ -2,7 +2,6 @@
 -- Assumes nothing.
 use Rattle.walk_queries.proofs.FillLaws.{too_few, not_filled, list_made}
 use native.Mathlib.Omega.{arith}
-use borrow.Author.Rules.{rules}
 use Rattle.walk_queries.proofs.lists.list_at.Goals as goal
 
 pub returns-then-among-lt-ENOUGH : goal.returns-then-among-lt-ENOUGH

@@ -1,7 +1,6 @@
 -- `walk_queries::lists::list_enum` meets its contract.
 -- Assumes nothing.
 use Rattle.walk_queries.proofs.ListLaws.{enum_listed}
-use borrow.Author.Rules.{rules}
 use Rattle.walk_queries.proofs.lists.list_enum.Goals as goal
 
 pub returns : goal.returns

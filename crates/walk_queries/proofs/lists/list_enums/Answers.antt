@@ -1,8 +1,6 @@
 -- `walk_queries::lists::list_enums` meets its contract.
 -- Assumes nothing.
-use Prim.Native.Nat.{◌-◌}
-use Rattle.walk_queries.proofs.LoopLaws.{EnumsSoFar, enums_start, enums_more, enums_end}
-use borrow.Author.Rules.{rules}
+use Rattle.walk_queries.proofs.LoopLaws.{enums_start, enums_more, enums_end}
 use Rattle.walk_queries.proofs.lists.list_enums.Goals as goal
 
 pub loop-e-init : goal.loop-e-init

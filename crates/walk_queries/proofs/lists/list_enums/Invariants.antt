@@ -1,8 +1,7 @@
 -- `walk_queries::lists::list_enums` meets its contract.
 -- Assumes nothing.
 use Prim.Native.Nat.{◌-◌}
-use Rattle.walk_queries.proofs.LoopLaws.{EnumsSoFar, enums_start, enums_more, enums_end}
-use borrow.Author.Rules.{rules}
+use Rattle.walk_queries.proofs.LoopLaws.{EnumsSoFar}
 use Rattle.walk_queries.proofs.lists.list_enums.Given as goal
 
 abbrev pub invariant-loop-e : goal.invariant-loop-e

@@ -1,7 +1,6 @@
 -- `walk_queries::lists::list_type` meets its contract.
 -- Assumes nothing.
 use Rattle.walk_queries.proofs.ListLaws.{type_listed, type_unlisted}
-use borrow.Author.Rules.{rules}
 use Rattle.walk_queries.proofs.lists.list_type.Goals as goal
 
 pub returns-in-Record : goal.returns-in-Record

@@ -1,8 +1,7 @@
 -- `walk_queries::lists::list_types` meets its contract.
 -- Assumes nothing.
 use Prim.Native.Nat.{◌-◌}
-use Rattle.walk_queries.proofs.LoopLaws.{TypesSoFar, types_start, types_more, types_end}
-use borrow.Author.Rules.{rules}
+use Rattle.walk_queries.proofs.LoopLaws.{TypesSoFar}
 use Rattle.walk_queries.proofs.lists.list_types.Given as goal
 
 abbrev pub invariant-loop-t : goal.invariant-loop-t

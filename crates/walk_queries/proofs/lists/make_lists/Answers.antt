@@ -1,7 +1,6 @@
 -- `walk_queries::lists::make_lists` meets its contract.
 -- Assumes nothing.
 use Rattle.walk_queries.proofs.LoopLaws.{lists_made}
-use borrow.Author.Rules.{rules}
 use Rattle.walk_queries.proofs.lists.make_lists.Goals as goal
 
 pub returns : goal.returns

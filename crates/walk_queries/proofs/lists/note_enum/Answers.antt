@@ -1,7 +1,6 @@
 -- `walk_queries::lists::note_enum` meets its contract.
 -- Assumes nothing.
 use Rattle.walk_queries.proofs.NoteLaws.{enum_noted, enum_passed}
-use borrow.Author.Rules.{rules}
 use borrow.Enum.Refused.{opened}
 use Rattle.walk_queries.proofs.lists.note_enum.Goals as goal
 

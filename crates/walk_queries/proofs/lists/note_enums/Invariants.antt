@@ -1,8 +1,7 @@
 -- `walk_queries::lists::note_enums` meets its contract.
 -- Assumes nothing.
 use Prim.Native.Nat.{◌-◌}
-use Rattle.walk_queries.proofs.NoteLaws.{NotedSoFar, noted_start, noted_more, noted_end}
-use borrow.Author.Rules.{rules}
+use Rattle.walk_queries.proofs.NoteLaws.{NotedSoFar}
 use Rattle.walk_queries.proofs.lists.note_enums.Given as goal
 
 abbrev pub invariant-loop-t : goal.invariant-loop-t

@@ -1,7 +1,6 @@
 -- `walk_queries::positions::find` meets its contract: by a scan where there is no list.
 -- Assumes nothing.
 use native.Mathlib.Omega.{arith}
-use borrow.Author.Rules.{rules}
 use Rattle.walk_queries.proofs.positions.find.Goals as goal
 
 pub returns-then-list-eq0 : goal.returns-then-list-eq0

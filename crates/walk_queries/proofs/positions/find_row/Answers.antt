@@ -1,10 +1,7 @@
 -- `walk_queries::positions::find_row` meets its contract. The loop's invariant: the text can only be between the two rows.
 -- Assumes nothing.
-use Prim.Native.Nat.{◌-◌}
-use Rattle.walk_queries.specs.Found.{Halves}
 use Rattle.walk_queries.proofs.RowLaws.{halves_start, halves_end, halves_lower, halves_upper}
 use native.Mathlib.Omega.{arith}
-use borrow.Author.Rules.{rules}
 use Rattle.walk_queries.proofs.positions.find_row.Goals as goal
 
 pub loop-high-init : goal.loop-high-init

@@ -2,9 +2,6 @@
 -- Assumes nothing.
 use Prim.Native.Nat.{◌-◌}
 use Rattle.walk_queries.specs.Found.{Halves}
-use Rattle.walk_queries.proofs.RowLaws.{halves_start, halves_end, halves_lower, halves_upper}
-use native.Mathlib.Omega.{arith}
-use borrow.Author.Rules.{rules}
 use Rattle.walk_queries.proofs.positions.find_row.Given as goal
 
 abbrev pub invariant-loop-high : goal.invariant-loop-high

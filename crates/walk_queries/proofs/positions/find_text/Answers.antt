@@ -1,8 +1,6 @@
 -- `walk_queries::positions::find_text` meets its contract. The loop's invariant: no text that was passed is the same.
 -- Assumes nothing.
-use Prim.Native.Nat.{◌-◌}
-use Rattle.walk_queries.proofs.SearchLaws.{Passed, passed_none, passed_on, found_here, found_nowhere}
-use borrow.Author.Rules.{rules}
+use Rattle.walk_queries.proofs.SearchLaws.{passed_none, passed_on, found_here, found_nowhere}
 use Rattle.walk_queries.proofs.positions.find_text.Goals as goal
 
 pub loop-i-init : goal.loop-i-init

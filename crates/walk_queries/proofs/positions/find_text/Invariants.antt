@@ -1,8 +1,7 @@
 -- `walk_queries::positions::find_text` meets its contract. The loop's invariant: no text that was passed is the same.
 -- Assumes nothing.
 use Prim.Native.Nat.{◌-◌}
-use Rattle.walk_queries.proofs.SearchLaws.{Passed, passed_none, passed_on, found_here, found_nowhere}
-use borrow.Author.Rules.{rules}
+use Rattle.walk_queries.proofs.SearchLaws.{Passed}
 use Rattle.walk_queries.proofs.positions.find_text.Given as goal
 
 abbrev pub invariant-loop-i : goal.invariant-loop-i

@@ -2,7 +2,6 @@
 -- Assumes nothing.
 use mathlib.Core.Path.{ap, ◌∙◌}
 use Rattle.script_spec.specs.Base.{before}
-use borrow.Author.Rules.{rules}
 use Rattle.walk_queries.proofs.positions.stands_before.Goals as goal
 
 pub returns : goal.returns

@@ -1,7 +1,6 @@
 -- `walk_queries::queries::enum_of` meets its contract: the enum of an entity type is noted.
 -- Assumes nothing.
 use Rattle.walk_queries.proofs.MemberLaws.{entity_enum, not_entity}
-use borrow.Author.Rules.{rules}
 use borrow.Enum.Refused.{opened}
 use Rattle.walk_queries.proofs.queries.enum_of.Goals as goal
 

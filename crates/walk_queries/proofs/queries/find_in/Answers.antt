@@ -1,7 +1,6 @@
 -- `walk_queries::queries::find_in` meets its contract.
 -- Assumes nothing.
 use Rattle.walk_queries.proofs.MemberLaws.{finds_in}
-use borrow.Author.Rules.{rules}
 use Rattle.walk_queries.proofs.queries.find_in.Goals as goal
 
 pub returns : goal.returns

@@ -1,7 +1,6 @@
 -- `walk_queries::queries::find_member` meets its contract: among the members of the enum.
 -- Assumes nothing.
 use Rattle.walk_queries.proofs.MemberLaws.{no_enum, member_at, not_member}
-use borrow.Author.Rules.{rules}
 use Rattle.walk_queries.proofs.queries.find_member.Goals as goal
 
 pub returns-then-sizes-e : goal.returns-then-sizes-e

@@ -1,7 +1,6 @@
 -- `walk_queries::queries::index_of_attr` meets its contract: among the attributes that the record has.
 -- Assumes nothing.
 use Rattle.walk_queries.proofs.MemberLaws.{attribute_at, attribute_missing, not_record}
-use borrow.Author.Rules.{rules}
 use borrow.Enum.Refused.{opened}
 use Rattle.walk_queries.proofs.queries.index_of_attr.Goals as goal
 

@@ -1,7 +1,6 @@
 -- `walk_queries::queries::is_bool` meets its contract.
 -- Assumes nothing.
 use Rattle.walk_queries.proofs.NegationLaws.{is_bool, not_bool}
-use borrow.Author.Rules.{rules}
 use borrow.Enum.Refused.{opened}
 use Rattle.walk_queries.proofs.queries.is_bool.Goals as goal
 

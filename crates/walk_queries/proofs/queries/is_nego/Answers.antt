@@ -1,7 +1,6 @@
 -- `walk_queries::queries::is_nego` meets its contract.
 -- Assumes nothing.
 use Rattle.walk_queries.proofs.NegoLaws.{is_nego, not_nego}
-use borrow.Author.Rules.{rules}
 use borrow.Enum.Refused.{opened}
 use Rattle.walk_queries.proofs.queries.is_nego.Goals as goal
 

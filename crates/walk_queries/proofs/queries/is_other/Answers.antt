@@ -1,7 +1,6 @@
 -- `walk_queries::queries::is_other` meets its contract: by the mark, and of an application by the code.
 -- Assumes nothing.
 use Rattle.walk_queries.proofs.CodeLaws.{record_other, letter_other}
-use borrow.Author.Rules.{rules}
 use Rattle.walk_queries.proofs.queries.is_other.Goals as goal
 
 pub returns-in-65 : goal.returns-in-65

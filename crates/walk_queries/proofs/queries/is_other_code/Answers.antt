@@ -4,7 +4,6 @@ use mathlib.Core.Path.{ap}
 use Rattle.read_field.specs.Answers.{number_told}
 use Rattle.read_field.proofs.Laws.{tells}
 use Rattle.walk_queries.proofs.CodeLaws.{code_other, code_any}
-use borrow.Author.Rules.{rules}
 use Rattle.walk_queries.proofs.queries.is_other_code.Goals as goal
 
 pub returns-then-code : goal.returns-then-code

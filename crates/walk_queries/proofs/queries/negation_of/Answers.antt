@@ -1,7 +1,6 @@
 -- `walk_queries::queries::negation_of` meets its contract: by its mark and its code where they tell, or else by its record.
 -- Assumes nothing.
 use Rattle.walk_queries.proofs.NegationLaws.{of_nego, of_ordinary, of_other, of_unlike}
-use borrow.Author.Rules.{rules}
 use borrow.Enum.Refused.{opened}
 use Rattle.walk_queries.proofs.queries.negation_of.Goals as goal
 

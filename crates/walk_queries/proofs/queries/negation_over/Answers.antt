@@ -1,7 +1,6 @@
 -- `walk_queries::queries::negation_over` meets its contract.
 -- Assumes nothing.
 use Rattle.walk_queries.proofs.NegationLaws.{over_bits, over_other}
-use borrow.Author.Rules.{rules}
 use borrow.Enum.Refused.{opened}
 use Rattle.walk_queries.proofs.queries.negation_over.Goals as goal
 

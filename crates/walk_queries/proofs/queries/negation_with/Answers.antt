@@ -1,7 +1,6 @@
 -- `walk_queries::queries::negation_with` meets its contract: with one argument and result Bool, by the type of the argument.
 -- Assumes nothing.
 use Rattle.walk_queries.proofs.NegationLaws.{with_not_one, with_other, with_one}
-use borrow.Author.Rules.{rules}
 use Rattle.walk_queries.proofs.queries.negation_with.Goals as goal
 
 pub returns-then-c-ne1 : goal.returns-then-c-ne1

@@ -2,7 +2,6 @@
 -- Assumes nothing.
 use Rattle.walk_names.proofs.Running.{advances_refused}
 use Rattle.walk_types.proofs.Entering.{declares_fun}
-use borrow.Author.Rules.{rules}
 use Rattle.walk_types.proofs.declare.declare_fun.Goals as goal
 
 pub returns-then-p-ne0 : goal.returns-then-p-ne0

@@ -1,9 +1,7 @@
 -- `walk_types::declare::declare_type` meets its contract: after a refusal, for a type that is no datatype, for one that is.
 -- Assumes nothing.
-use borrow.Author.Tests.{not-true, not-false}
 use Rattle.walk_names.proofs.Running.{advances_refused}
 use Rattle.walk_types.proofs.Entering.{passes_type, declares_type}
-use borrow.Author.Rules.{rules}
 use Rattle.walk_types.proofs.declare.declare_type.Goals as goal
 
 pub returns-then-p-ne0 : goal.returns-then-p-ne0

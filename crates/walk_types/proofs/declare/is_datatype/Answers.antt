@@ -1,7 +1,6 @@
 -- `walk_types::declare::is_datatype` meets its contract: by the mark.
 -- Assumes nothing.
 use Rattle.walk_types.proofs.Datatypes.{is_declared, not_declared}
-use borrow.Author.Rules.{rules}
 use borrow.Enum.Refused.{opened}
 use Rattle.walk_types.proofs.declare.is_datatype.Goals as goal
 

@@ -2,7 +2,6 @@
 -- Assumes nothing.
 use Rattle.walk_names.proofs.Running.{advances_refused}
 use Rattle.walk_types.proofs.Entering.{writes_id}
-use borrow.Author.Rules.{rules}
 use Rattle.walk_types.proofs.declare.put_id.Goals as goal
 
 pub returns-then-p-ne0 : goal.returns-then-p-ne0

@@ -1,7 +1,6 @@
 -- `walk_types::parts::parts_at` meets its contract.
 -- Assumes nothing.
 use Rattle.walk_types.proofs.PartLaws.{has_parts}
-use borrow.Author.Rules.{rules}
 use Rattle.walk_types.proofs.parts.parts_at.Goals as goal
 
 pub returns : goal.returns

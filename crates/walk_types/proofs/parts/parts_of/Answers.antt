@@ -2,7 +2,6 @@
 -- Assumes nothing.
 use Rattle.walk_types.specs.Parts.{no_parts, one_part, parts_said}
 use Rattle.walk_types.proofs.PartLaws.{says_none}
-use borrow.Author.Rules.{rules}
 use borrow.Enum.Refused.{opened}
 use Rattle.walk_types.proofs.parts.parts_of.Goals as goal
 

@@ -1,7 +1,6 @@
 -- `walk_types::parts::take_named` meets its contract.
 -- Assumes nothing.
 use Rattle.walk_types.proofs.PartLaws.{takes_named}
-use borrow.Author.Rules.{rules}
 use Rattle.walk_types.proofs.parts.take_named.Goals as goal
 
 pub returns : goal.returns

@@ -1,7 +1,6 @@
 -- `walk_types::parts::take_part` meets its contract.
 -- Assumes nothing.
 use Rattle.walk_types.proofs.PartLaws.{takes_none, takes_first, takes_alone}
-use borrow.Author.Rules.{rules}
 use Rattle.walk_types.proofs.parts.take_part.Goals as goal
 
 pub returns-then-left-eq0 : goal.returns-then-left-eq0

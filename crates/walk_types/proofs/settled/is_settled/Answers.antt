@@ -2,8 +2,7 @@
 -- first.
 -- Assumes nothing.
 use mathlib.Core.Path.{refl, ◌∙◌}
-use Rattle.walk_types.proofs.Settling.{settled_mark, settled_name, unsettled, Follows, follows_itself, follows_part}
-use borrow.Author.Rules.{rules}
+use Rattle.walk_types.proofs.Settling.{settled_mark, settled_name, unsettled, follows_itself, follows_part}
 use Rattle.walk_types.proofs.settled.is_settled.Goals as goal
 
 pub loop-n-init : goal.loop-n-init

@@ -1,9 +1,7 @@
 -- `walk_types::settled::is_settled` meets its contract. The loop's invariant: whether the type that was reached is settled tells it of the
 -- first.
 -- Assumes nothing.
-use mathlib.Core.Path.{refl, ◌∙◌}
-use Rattle.walk_types.proofs.Settling.{settled_mark, settled_name, unsettled, Follows, follows_itself, follows_part}
-use borrow.Author.Rules.{rules}
+use Rattle.walk_types.proofs.Settling.{Follows}
 use Rattle.walk_types.proofs.settled.is_settled.Given as goal
 
 abbrev pub invariant-loop-n : goal.invariant-loop-n

@@ -1,7 +1,6 @@
 -- `walk_types::settled::settled_by` meets its contract: each letter by its arm.
 -- Assumes nothing.
 use Rattle.walk_types.proofs.Settling.{settles_mark, settles_option, settles_set, settles_name}
-use borrow.Author.Rules.{rules}
 use Rattle.walk_types.proofs.settled.settled_by.Goals as goal
 
 pub returns-in-66 : goal.returns-in-66

@@ -1,7 +1,6 @@
 -- `write_atoms::atoms::put_atom` meets its contract: by the mark and the operator's code where they tell, or else by the record.
 -- Assumes nothing.
 use Rattle.write_atoms.proofs.MarkLaws.{marked_call, marked_leaf, marked_other, marked_named}
-use borrow.Author.Rules.{rules}
 use Rattle.write_atoms.proofs.atoms.put_atom.Goals as goal
 
 pub returns-then-is_other_code : goal.returns-then-is_other_code

@@ -2,7 +2,6 @@
 -- Assumes nothing.
 use Rattle.script_spec.specs.Base.{bytes}
 use Rattle.write_atoms.proofs.QueryLaws.{call_false, call_named}
-use borrow.Author.Rules.{rules}
 use borrow.Enum.Refused.{opened}
 use Rattle.write_atoms.proofs.atoms.put_call.Goals as goal
 

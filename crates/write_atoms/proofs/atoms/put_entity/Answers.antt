@@ -2,7 +2,6 @@
 -- Assumes nothing.
 use Rattle.script_spec.specs.Base.{bytes}
 use Rattle.write_atoms.proofs.QueryLaws.{entity_past, entity_by_name, entity_stranger, entity_member}
-use borrow.Author.Rules.{rules}
 use Rattle.write_atoms.proofs.atoms.put_entity.Goals as goal
 
 pub returns-then-is_past : goal.returns-then-is_past

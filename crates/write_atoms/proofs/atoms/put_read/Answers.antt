@@ -1,7 +1,6 @@
 -- `write_atoms::atoms::put_read` meets its contract: each term by its arm.
 -- Assumes nothing.
 use Rattle.write_atoms.proofs.AtomLaws.{atom_bool, atom_bits, atom_string, atom_entity, atom_named}
-use borrow.Author.Rules.{rules}
 use borrow.Enum.Refused.{opened}
 use Rattle.write_atoms.proofs.atoms.put_read.Goals as goal
 

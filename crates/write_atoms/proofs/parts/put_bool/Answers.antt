@@ -3,7 +3,6 @@
 use Rattle.script_spec.specs.Base.{bytes}
 use Rattle.write_bytes.proofs.Laws.{says}
 use Rattle.write_atoms.specs.Parts.{truth}
-use borrow.Author.Rules.{rules}
 use Rattle.write_atoms.proofs.parts.put_bool.Goals as goal
 
 pub returns-then-b : goal.returns-then-b

@@ -1,7 +1,6 @@
 -- `write_atoms::parts::put_numbered` meets its contract.
 -- Assumes nothing.
 use Rattle.write_atoms.proofs.Numbered.{spells_numbered}
-use borrow.Author.Rules.{rules}
 use Rattle.write_atoms.proofs.parts.put_numbered.Goals as goal
 
 pub returns : goal.returns

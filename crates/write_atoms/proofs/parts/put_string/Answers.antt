@@ -2,7 +2,6 @@
 -- Assumes nothing.
 use Rattle.write_bytes.proofs.Laws.{says}
 use Rattle.read_field.specs.Answers.{spanned}
-use borrow.Author.Rules.{rules}
 use Rattle.write_atoms.proofs.parts.put_string.Goals as goal
 
 pub returns : goal.returns

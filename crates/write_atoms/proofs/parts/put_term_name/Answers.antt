@@ -3,7 +3,6 @@
 use Rattle.script_spec.specs.Base.{bytes}
 use Rattle.write_bytes.proofs.Laws.{says}
 use Rattle.write_atoms.specs.Parts.{term_name_of}
-use borrow.Author.Rules.{rules}
 use Rattle.write_atoms.proofs.parts.put_term_name.Goals as goal
 
 pub returns : goal.returns

@@ -6,7 +6,6 @@ use Rattle.script_spec.specs.Spelling.{plain_name}
 use Rattle.read_operator.specs.Operators.{op_of}
 use Rattle.write_atoms.specs.Symbols.{symbol, symbol_of}
 use Rattle.write_atoms.proofs.SymbolLaws.{symbol_is, symbol_later}
-use borrow.Author.Rules.{rules}
 use borrow.Enum.Refused.{opened}
 use Rattle.write_atoms.proofs.symbols.put_bvsdiv_to_bvsrem.Goals as goal
 

@@ -4,7 +4,6 @@ use Rattle.script_spec.specs.Base.{bytes}
 use Rattle.script_spec.specs.Spelling.{ext_op_name}
 use Rattle.write_bytes.proofs.Laws.{says}
 use Rattle.read_operator.specs.Operators.{ext_of}
-use borrow.Author.Rules.{rules}
 use Rattle.write_atoms.proofs.symbols.put_ext_symbol.Goals as goal
 
 pub returns-in-DatetimeOfBitVec : goal.returns-in-DatetimeOfBitVec

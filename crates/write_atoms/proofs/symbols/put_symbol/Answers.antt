@@ -8,7 +8,6 @@ use Rattle.read_operator.specs.Operators.{op_of}
 use Rattle.write_atoms.specs.Symbols.{symbol, symbol_of}
 use Rattle.write_atoms.proofs.SymbolLaws.{symbol_later}
 use native.Mathlib.Omega.{arith}
-use borrow.Author.Rules.{rules}
 use borrow.Enum.Refused.{opened}
 use Rattle.write_atoms.proofs.symbols.put_symbol.Goals as goal
 

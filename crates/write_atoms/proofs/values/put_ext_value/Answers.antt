@@ -4,7 +4,6 @@ use Rattle.script_spec.specs.Base.{bytes}
 use Rattle.write_bytes.proofs.Laws.{says}
 use Rattle.index_entry.specs.Terms.{value_of}
 use Rattle.write_atoms.proofs.ValueLaws.{decimal_pieces, datetime_pieces, duration_pieces}
-use borrow.Author.Rules.{rules}
 use Rattle.write_atoms.proofs.values.put_ext_value.Goals as goal
 
 pub returns-in-V4 : goal.returns-in-V4

@@ -2,7 +2,6 @@
 -- Assumes nothing.
 use Rattle.script_spec.specs.Base.{bytes}
 use Rattle.write_atoms.proofs.ValueLaws.{number_written}
-use borrow.Author.Rules.{rules}
 use Rattle.write_atoms.proofs.values.put_number.Goals as goal
 
 pub returns : goal.returns

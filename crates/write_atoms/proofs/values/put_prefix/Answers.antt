@@ -3,7 +3,6 @@
 use Rattle.script_spec.specs.Base.{bytes}
 use Rattle.write_bytes.proofs.Laws.{◌then◌, says}
 use Rattle.write_atoms.proofs.ValueLaws.{prefix_none, prefix_some}
-use borrow.Author.Rules.{rules}
 use Rattle.write_atoms.proofs.values.put_prefix.Goals as goal
 
 pub returns-then-p-eq-NO_PREFIX : goal.returns-then-p-eq-NO_PREFIX

@@ -3,7 +3,6 @@
 use Rattle.script_spec.specs.Base.{bytes}
 use Rattle.write_bytes.proofs.Laws.{◌then◌, says}
 use Rattle.write_atoms.proofs.ValueLaws.{v6_pieces}
-use borrow.Author.Rules.{rules}
 use Rattle.write_atoms.proofs.values.put_v6.Goals as goal
 
 pub returns : goal.returns

@@ -2,7 +2,6 @@
 -- Assumes nothing.
 use Rattle.script_spec.specs.Base.{bytes}
 use Rattle.write_text.proofs.CommentLaws.{◌also◌}
-use borrow.Author.Rules.{rules}
 use Rattle.write_types.proofs.comments.put_next.Goals as goal
 
 pub returns : goal.returns

@@ -1,10 +1,8 @@
 -- `write_types::comments::put_texts` meets its contract. The loop's invariant: the texts that are left, after those that were written, make
 -- the whole. Assumes nothing.
-use mathlib.Core.Path.{◌≡◌, refl}
-use lib.ListN.{length, drop}
+use mathlib.Core.Path.{refl}
 use Rattle.write_text.proofs.CommentLaws.{◌also◌, text_says, no_text, comment_over}
-use Rattle.index.specs.Lists.{texts}
-use Rattle.write_types.proofs.CommentLaws.{led, texts_none, led_none, texts_start, texts_next, Leads, leads_start, leads_on, leads_end}
+use Rattle.write_types.proofs.CommentLaws.{texts_none, led_none, texts_start, texts_next, leads_start, leads_on, leads_end}
 use native.Mathlib.Omega.{arith}
 use borrow.Author.Rules.{rules}
 use Rattle.write_types.proofs.comments.put_texts.Goals as goal

@@ -1,12 +1,9 @@
 -- `write_types::comments::put_texts` meets its contract. The loop's invariant: the texts that are left, after those that were written, make
 -- the whole. Assumes nothing.
-use mathlib.Core.Path.{◌≡◌, refl}
+use mathlib.Core.Path.{◌≡◌}
 use lib.ListN.{length, drop}
-use Rattle.write_text.proofs.CommentLaws.{◌also◌, text_says, no_text, comment_over}
 use Rattle.index.specs.Lists.{texts}
-use Rattle.write_types.proofs.CommentLaws.{led, texts_none, led_none, texts_start, texts_next, Leads, leads_start, leads_on, leads_end}
-use native.Mathlib.Omega.{arith}
-use borrow.Author.Rules.{rules}
+use Rattle.write_types.proofs.CommentLaws.{led, Leads}
 use Rattle.write_types.proofs.comments.put_texts.Given as goal
 
 abbrev pub invariant-loop-left : goal.invariant-loop-left

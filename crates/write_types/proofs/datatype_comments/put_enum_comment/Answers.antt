@@ -7,7 +7,6 @@ use Rattle.script_spec.specs.Spelling.{entity_comment}
 use Rattle.smtlib_script.proofs.Lines.{comment_written}
 use Rattle.write_bytes.proofs.Laws.{line_past, line_some}
 use Rattle.write_text.proofs.CommentLaws.{◌also◌}
-use borrow.Author.Rules.{rules}
 use Rattle.write_types.proofs.datatype_comments.put_enum_comment.Goals as goal
 
 pub returns-then-room-eq0 : goal.returns-then-room-eq0

@@ -4,7 +4,6 @@ use Rattle.script_spec.specs.Base.{bytes}
 use Rattle.smtlib_script.specs.Opened.{opened}
 use Rattle.write_bytes.proofs.Laws.{◌then◌, says, from_start, line_past, line_some}
 use Rattle.write_types.proofs.MemberLaws.{datatype_pieces}
-use borrow.Author.Rules.{rules}
 use Rattle.write_types.proofs.datatypes.declare_ext_type.Goals as goal
 
 pub returns-then-room-eq0 : goal.returns-then-room-eq0

@@ -6,7 +6,6 @@ use Rattle.smtlib_script.specs.Opened.{opened}
 use Rattle.write_bytes.proofs.Laws.{◌then◌, says, from_start, line_past, line_some}
 use Rattle.write_types.specs.Members.{entity_symbol}
 use Rattle.write_types.proofs.MemberLaws.{entity_pieces}
-use borrow.Author.Rules.{rules}
 use Rattle.write_types.proofs.datatypes.put_entity_declaration.Goals as goal
 
 pub returns-then-room-eq0 : goal.returns-then-room-eq0

@@ -4,7 +4,6 @@ use Rattle.script_spec.specs.Base.{bytes}
 use Rattle.smtlib_script.specs.Opened.{opened}
 use Rattle.write_types.specs.Members.{entity_symbol}
 use Rattle.write_types.proofs.MemberLaws.{spells_enum, enum_past}
-use borrow.Author.Rules.{rules}
 use Rattle.write_types.proofs.datatypes.put_enum_declaration.Goals as goal
 
 pub returns-then-room-eq0 : goal.returns-then-room-eq0

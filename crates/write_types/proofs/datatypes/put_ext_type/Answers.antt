@@ -5,7 +5,6 @@ use Rattle.script_spec.specs.Command.{spaced, constructor_list}
 use Rattle.script_spec.specs.Spelling.{ext_name, ext_constructors}
 use Rattle.write_bytes.proofs.Laws.{says}
 use Rattle.index_entry.specs.Types.{ext_type_said}
-use borrow.Author.Rules.{rules}
 use Rattle.write_types.proofs.datatypes.put_ext_type.Goals as goal
 
 pub returns-in-IPAddr : goal.returns-in-IPAddr

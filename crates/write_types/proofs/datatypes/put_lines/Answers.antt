@@ -2,7 +2,6 @@
 -- Assumes nothing.
 use Rattle.script_spec.specs.Base.{bytes}
 use Rattle.write_types.proofs.MemberLaws.{lines_none, lines_some}
-use borrow.Author.Rules.{rules}
 use Rattle.write_types.proofs.datatypes.put_lines.Goals as goal
 
 pub returns-then-n-eq0 : goal.returns-then-n-eq0

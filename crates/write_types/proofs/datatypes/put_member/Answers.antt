@@ -4,7 +4,6 @@ use Rattle.script_spec.specs.Base.{bytes}
 use Rattle.write_bytes.proofs.Laws.{◌then◌, says}
 use Rattle.write_types.specs.Members.{entity_symbol}
 use Rattle.write_types.proofs.MemberLaws.{member_pieces}
-use borrow.Author.Rules.{rules}
 use Rattle.write_types.proofs.datatypes.put_member.Goals as goal
 
 pub returns : goal.returns

@@ -1,11 +1,8 @@
 -- `write_types::datatypes::put_members` meets its contract. The loop's invariant: the members that are left, after those that were written,
 -- make the whole. Assumes nothing.
-use mathlib.Core.Path.{◌≡◌, refl}
-use Prim.Native.Nat.{◌-◌}
-use lib.ListN.{length}
+use mathlib.Core.Path.{refl}
 use Rattle.write_bytes.proofs.Laws.{says, stops_past}
-use Rattle.write_types.proofs.Runs.{Continues, continues_start, continues_on, continues_end}
-use Rattle.write_types.specs.Members.{entity_symbol, members_text}
+use Rattle.write_types.proofs.Runs.{continues_start, continues_on, continues_end}
 use Rattle.write_types.proofs.MemberLaws.{members_next, members_none, members_whole}
 use borrow.Author.Rules.{rules}
 use Rattle.write_types.proofs.datatypes.put_members.Goals as goal

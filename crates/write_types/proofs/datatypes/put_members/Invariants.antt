@@ -1,13 +1,10 @@
 -- `write_types::datatypes::put_members` meets its contract. The loop's invariant: the members that are left, after those that were written,
 -- make the whole. Assumes nothing.
-use mathlib.Core.Path.{◌≡◌, refl}
+use mathlib.Core.Path.{◌≡◌}
 use Prim.Native.Nat.{◌-◌}
 use lib.ListN.{length}
-use Rattle.write_bytes.proofs.Laws.{says, stops_past}
-use Rattle.write_types.proofs.Runs.{Continues, continues_start, continues_on, continues_end}
+use Rattle.write_types.proofs.Runs.{Continues}
 use Rattle.write_types.specs.Members.{entity_symbol, members_text}
-use Rattle.write_types.proofs.MemberLaws.{members_next, members_none, members_whole}
-use borrow.Author.Rules.{rules}
 use Rattle.write_types.proofs.datatypes.put_members.Given as goal
 
 abbrev pub invariant-loop-i : goal.invariant-loop-i

@@ -1,6 +1,5 @@
 -- `write_types::functions::fun_name` meets its contract.
 -- Assumes nothing.
-use borrow.Author.Rules.{rules}
 use Rattle.write_types.proofs.functions.fun_name.Goals as goal
 
 pub returns : goal.returns

@@ -1,7 +1,6 @@
 -- `write_types::functions::put_fun_comment` meets its contract: nothing with no room, and else the line of the id.
 -- Assumes nothing.
 use Rattle.write_types.proofs.FunctionLaws.{spells_id, id_past}
-use borrow.Author.Rules.{rules}
 use Rattle.write_types.proofs.functions.put_fun_comment.Goals as goal
 
 pub returns-then-room-eq0 : goal.returns-then-room-eq0

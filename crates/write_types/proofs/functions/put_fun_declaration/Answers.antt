@@ -4,7 +4,6 @@ use mathlib.Core.Path.{◌∙◌}
 use Rattle.script_spec.specs.Base.{bytes}
 use Rattle.smtlib_script.specs.Opened.{opened}
 use Rattle.write_types.proofs.FunctionLaws.{spells_fun, fun_past}
-use borrow.Author.Rules.{rules}
 use Rattle.write_types.proofs.functions.put_fun_declaration.Goals as goal
 
 pub returns-then-room-eq0 : goal.returns-then-room-eq0

@@ -1,7 +1,6 @@
 -- `write_types::lines::declare_entity_type` meets its contract.
 -- Assumes nothing.
 use Rattle.write_types.proofs.LineLaws.{entity_found, entity_plain}
-use borrow.Author.Rules.{rules}
 use Rattle.write_types.proofs.lines.declare_entity_type.Goals as goal
 
 pub returns-then-i-sizes : goal.returns-then-i-sizes

@@ -2,7 +2,6 @@
 -- Assumes nothing.
 use mathlib.Core.Path.{◌∙◌}
 use Rattle.write_types.proofs.LineLaws.{enum_lines}
-use borrow.Author.Rules.{rules}
 use Rattle.write_types.proofs.lines.declare_enum_type.Goals as goal
 
 pub returns : goal.returns

@@ -1,7 +1,6 @@
 -- `write_types::lines::declare_plain_type` meets its contract: a line, and a line in the rest after it.
 -- Assumes nothing.
 use Rattle.write_types.proofs.LineLaws.{plain_lines}
-use borrow.Author.Rules.{rules}
 use Rattle.write_types.proofs.lines.declare_plain_type.Goals as goal
 
 pub returns : goal.returns

@@ -2,7 +2,6 @@
 -- Assumes nothing.
 use mathlib.Core.Path.{◌∙◌}
 use Rattle.write_types.proofs.TypeLaws.{type_at_place, spells_entity, spells_ext, spells_record_type, spells_none, type_past}
-use borrow.Author.Rules.{rules}
 use borrow.Enum.Refused.{opened}
 use Rattle.write_types.proofs.lines.put_type_lines.Goals as goal
 

@@ -2,7 +2,6 @@
 -- Assumes nothing.
 use Rattle.script_spec.specs.Base.{bytes}
 use Rattle.write_types.proofs.RecordLaws.{spells_part_sort}
-use borrow.Author.Rules.{rules}
 use Rattle.write_types.proofs.records.put_part_sort.Goals as goal
 
 pub returns : goal.returns

@@ -1,9 +1,7 @@
 -- `write_types::records::put_parts` meets its contract. The loop's invariant: the parts that are left, after those that were written, make
 -- the whole. Assumes nothing.
-use mathlib.Core.Path.{◌≡◌, refl}
-use Prim.Native.Nat.{◌-◌}
-use lib.ListN.{length}
-use Rattle.write_types.proofs.RecordLaws.{PartsLeft, parts_start, parts_on, parts_past, parts_end}
+use mathlib.Core.Path.{refl}
+use Rattle.write_types.proofs.RecordLaws.{parts_start, parts_on, parts_past, parts_end}
 use borrow.Author.Rules.{rules}
 use Rattle.write_types.proofs.records.put_parts.Goals as goal
 

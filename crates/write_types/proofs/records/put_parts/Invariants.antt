@@ -1,10 +1,9 @@
 -- `write_types::records::put_parts` meets its contract. The loop's invariant: the parts that are left, after those that were written, make
 -- the whole. Assumes nothing.
-use mathlib.Core.Path.{◌≡◌, refl}
+use mathlib.Core.Path.{◌≡◌}
 use Prim.Native.Nat.{◌-◌}
 use lib.ListN.{length}
-use Rattle.write_types.proofs.RecordLaws.{PartsLeft, parts_start, parts_on, parts_past, parts_end}
-use borrow.Author.Rules.{rules}
+use Rattle.write_types.proofs.RecordLaws.{PartsLeft}
 use Rattle.write_types.proofs.records.put_parts.Given as goal
 
 abbrev pub invariant-loop-i : goal.invariant-loop-i

@@ -6,7 +6,6 @@ use Rattle.smtlib_script.specs.Opened.{opened}
 use Rattle.smtlib_script.proofs.Lines.{comment_written}
 use Rattle.write_bytes.proofs.Laws.{line_past, line_some}
 use Rattle.write_text.proofs.CommentLaws.{◌also◌}
-use borrow.Author.Rules.{rules}
 use Rattle.write_types.proofs.records.put_record_comment.Goals as goal
 
 pub returns-then-room-eq0 : goal.returns-then-room-eq0

@@ -4,7 +4,6 @@ use Rattle.script_spec.specs.Base.{bytes}
 use Rattle.smtlib_script.specs.Opened.{opened}
 use Rattle.write_types.specs.Records.{record_name}
 use Rattle.write_types.proofs.RecordLaws.{spells_record, record_past}
-use borrow.Author.Rules.{rules}
 use Rattle.write_types.proofs.records.put_record_declaration.Goals as goal
 
 pub returns-then-room-eq0 : goal.returns-then-room-eq0

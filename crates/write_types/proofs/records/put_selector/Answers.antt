@@ -4,7 +4,6 @@ use Rattle.script_spec.specs.Base.{bytes}
 use Rattle.script_spec.specs.Spelling.{attribute_name}
 use Rattle.write_bytes.proofs.Laws.{◌then◌}
 use Rattle.write_types.specs.Records.{record_name}
-use borrow.Author.Rules.{rules}
 use Rattle.write_types.proofs.records.put_selector.Goals as goal
 
 pub returns : goal.returns

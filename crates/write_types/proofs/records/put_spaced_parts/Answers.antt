@@ -2,7 +2,6 @@
 -- Assumes nothing.
 use Rattle.script_spec.specs.Base.{bytes}
 use Rattle.write_types.proofs.RecordLaws.{spaced_none, spaced_some}
-use borrow.Author.Rules.{rules}
 use Rattle.write_types.proofs.records.put_spaced_parts.Goals as goal
 
 pub returns-then-ty-eq0 : goal.returns-then-ty-eq0

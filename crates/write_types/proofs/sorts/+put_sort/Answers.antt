@@ -3,8 +3,6 @@
 use Rattle.script_spec.specs.Base.{bytes}
 use Rattle.write_types.proofs.SortLaws.{spells_past, spells_truth, spells_plain, spells_never, spells_over}
 use native.Mathlib.Omega.{arith}
-use borrow.Author.Rules.{rules}
-use Prim.Native.Nat.{ℕ, ◌<◌}
 use Rattle.write_types.proofs.sorts.+put_sort.Goals as goal
 
 pub returns-then-is_past : goal.returns-then-is_past

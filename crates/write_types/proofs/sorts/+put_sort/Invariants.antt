@@ -1,10 +1,5 @@
 -- `write_types::sorts::put_sort` meets its contract: by recursion on the number, which falls from a type to its part.
 -- Assumes nothing.
-use Rattle.script_spec.specs.Base.{bytes}
-use Rattle.write_types.proofs.SortLaws.{spells_past, spells_truth, spells_plain, spells_never, spells_over}
-use native.Mathlib.Omega.{arith}
-use borrow.Author.Rules.{rules}
-use Prim.Native.Nat.{ℕ, ◌<◌}
 use Rattle.write_types.proofs.sorts.+put_sort.Given as goal
 
 abbrev pub decreases-put_sort : goal.decreases-put_sort

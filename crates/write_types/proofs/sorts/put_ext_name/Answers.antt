@@ -4,7 +4,6 @@ use Rattle.script_spec.specs.Base.{bytes}
 use Rattle.script_spec.specs.Spelling.{ext_name}
 use Rattle.write_bytes.proofs.Laws.{says}
 use Rattle.index_entry.specs.Types.{ext_type_said}
-use borrow.Author.Rules.{rules}
 use Rattle.write_types.proofs.sorts.put_ext_name.Goals as goal
 
 pub returns-in-IPAddr : goal.returns-in-IPAddr

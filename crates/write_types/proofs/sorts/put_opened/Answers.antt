@@ -3,7 +3,6 @@
 use Rattle.script_spec.specs.Base.{bytes}
 use Rattle.write_bytes.proofs.Laws.{says}
 use Rattle.write_types.specs.Sorts.{opened_part}
-use borrow.Author.Rules.{rules}
 use Rattle.write_types.proofs.sorts.put_opened.Goals as goal
 
 pub returns-then-set : goal.returns-then-set

@@ -3,7 +3,6 @@
 use Rattle.script_spec.specs.Base.{bytes}
 use Rattle.write_bytes.proofs.Laws.{says, nothing}
 use Rattle.write_types.specs.Sorts.{plain_sort}
-use borrow.Author.Rules.{rules}
 use Rattle.write_types.proofs.sorts.put_plain_sort.Goals as goal
 
 pub returns-in-Bool : goal.returns-in-Bool

@@ -1,7 +1,6 @@
 -- `write_types::sorts::put_truth` meets its contract.
 -- Assumes nothing.
 use Rattle.script_spec.specs.Base.{bytes}
-use borrow.Author.Rules.{rules}
 use Rattle.write_types.proofs.sorts.put_truth.Goals as goal
 
 pub returns : goal.returns

@@ -2,7 +2,6 @@
 -- Assumes nothing.
 use mathlib.Core.Path.{◌∙◌}
 use Rattle.write_types.proofs.SortLaws.{over_truth, over_set, over_option, over_nothing, over_at}
-use borrow.Author.Rules.{rules}
 use Rattle.write_types.proofs.sorts.stands_over.Goals as goal
 
 pub returns-in-66 : goal.returns-in-66

@@ -1,6 +1,5 @@
 -- `write_types::sorts::type_name` meets its contract.
 -- Assumes nothing.
-use borrow.Author.Rules.{rules}
 use Rattle.write_types.proofs.sorts.type_name.Goals as goal
 
 pub returns : goal.returns

@@ -1,6 +1,5 @@
 -- `index_compare::segments::Walk::count` meets its contract: the count that was read is the one that is cut.
 -- Assumes nothing.
-use borrow.Author.Rules.{rules}
 use lib.ListN.{drop}
 use Rattle.index_compare.specs.Segment.{plain}
 use Rattle.index_compare.specs.Machine.{count_then, remaining, field_then, last}

@@ -1,6 +1,5 @@
 -- `index_compare::segments::Walk::elements` meets its contract: the size is told by the count that was read.
 -- Assumes nothing.
-use borrow.Author.Rules.{rules}
 use lib.ListN.{drop}
 use Rattle.index_compare.specs.Segment.{plain}
 use Rattle.index_compare.specs.Machine.{operand_then}

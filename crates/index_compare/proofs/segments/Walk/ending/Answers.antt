@@ -1,7 +1,6 @@
 -- `index_compare::segments::Walk::walk_ending` meets its contract: by the count, and else by the item.
 -- Assumes nothing.
 use native.Mathlib.Omega.{arith}
-use borrow.Author.Rules.{rules}
 use Rattle.index_compare.proofs.Steps.{ending_none, ending_item}
 use lib.ListN.{drop}
 use Rattle.index_compare.specs.Step.{walk_ending}

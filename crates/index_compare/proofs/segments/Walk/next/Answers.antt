@@ -1,6 +1,5 @@
 -- `index_compare::segments::Walk::next` meets its contract: by the first field.
 -- Assumes nothing.
-use borrow.Author.Rules.{rules}
 use Rattle.index_compare.specs.Step.{after_field, walk_ending}
 use Rattle.index_compare.specs.Machine.{ahead, remaining, field_then}
 use Rattle.index_compare.proofs.segments.Walk.next.Goals as goal

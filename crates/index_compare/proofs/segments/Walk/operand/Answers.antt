@@ -1,6 +1,5 @@
 -- `index_compare::segments::Walk::operand` meets its contract: by the operand.
 -- Assumes nothing.
-use borrow.Author.Rules.{rules}
 use Rattle.index_compare.specs.Machine.{operand_then}
 use Rattle.index_compare.proofs.segments.Walk.operand.Goals as goal
 

@@ -1,7 +1,6 @@
 -- `index_compare::segments::Walk::operator_then` meets its contract: the code is the first byte from the place on.
 -- Assumes nothing.
 use native.Mathlib.Omega.{arith}
-use borrow.Author.Rules.{rules}
 use mathlib.Core.Path.{sym, ◌∙◌}
 use Rattle.index_compare.proofs.Steps.{cut_short, operator_with}
 use Rattle.index_compare.specs.Step.{after_field, walk_ending}

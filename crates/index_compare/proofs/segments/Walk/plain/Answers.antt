@@ -1,7 +1,6 @@
 -- `index_compare::segments::Walk::plain` meets its contract: the bytes are cut at the place, or there are too few.
 -- Assumes nothing.
 use native.Mathlib.Omega.{arith}
-use borrow.Author.Rules.{rules}
 use Rattle.index_compare.specs.Segment.{plain}
 use Rattle.index_compare.specs.Machine.{ahead, remaining}
 use Rattle.index_compare.proofs.Steps.{cut_short, cut_at}

@@ -1,7 +1,6 @@
 -- `index_compare::segments::Walk::reference` meets its contract: the four bytes are the number.
 -- Assumes nothing.
 use native.Mathlib.Omega.{arith}
-use borrow.Author.Rules.{rules}
 use lib.ListN.{drop}
 use Rattle.index_compare.specs.Segment.{type_ref, fun_ref, term_ref}
 use Rattle.index_compare.specs.Machine.{remaining, ahead}
