@@ -1,12 +1,13 @@
-// The start of an input, read into a lent buffer.
+// The start of an input and the program's arguments, read into lent buffers.
 #![tactic(auto)]
 
 ghost use Rattle.std.specs.Prelude.{◌<◌, IfOk, length, take};
 ghost use Rattle.std.specs.Io.{ReadsAtMost};
 ghost use Rattle.std.specs.Io.KnownBytes.{Consumes, IsAtEnd};
 
+use std::env::Env;
 use std::io;
-use std::io::Read;
+use std::io::{ErrorKind, Read};
 
 // Reads until the buffer is full or the input ends, and answers how many bytes stand at the buffer's start. It reads no more than the
 // buffer takes, and where a read fails it answers the error.
@@ -24,4 +25,13 @@ pub fn fill<R: Read>(reader: &mut R, buf: &mut [u8]) -> io::Result<usize>
         done += n;
     }
     Ok(done)
+}
+
+// The text of argument i, which the buffer takes. It answers an error where there is no such argument, where the argument is longer than
+// the buffer, and where it is not UTF-8.
+pub fn argument<'a>(rt: &impl Env, i: usize, buf: &'a mut [u8]) -> io::Result<&'a str> {
+    match rt.arg(i, buf) {
+        Ok(n) => str::from_utf8(&buf[..n]).map_err(|_| io::Error::from(ErrorKind::InvalidData)),
+        Err(_) => Err(io::Error::from(ErrorKind::InvalidInput)),
+    }
 }
