@@ -166,10 +166,18 @@ fn check_cases(
     Ok(())
 }
 
+// Room for a file and a byte more than a file may have.
+fn file_buffer() -> [u8; 1048577] {
+    [0; 1048577]
+}
+
+fn work_buffer() -> [u32; 850000] {
+    [0; 850000]
+}
+
 fn main(rt: HostRuntime) -> io::Result<()> {
-    // Room for a file and a byte more than a file may have.
-    let mut file = [0u8; 1048577];
-    let mut work = [0u32; 850000];
+    let mut file = file_buffer();
+    let mut work = work_buffer();
     check_arguments(&rt, &mut file, &mut work)?;
     check_cases(&rt, &mut rt.reader(), &mut file, &mut work)
 }
