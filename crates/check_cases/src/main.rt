@@ -3,62 +3,85 @@
 #![tactic(auto)]
 
 use check_file::Checked;
-use libc::{STDIN_FILENO, STDOUT_FILENO};
+use std::env::{Env, FillError};
+use std::fs::Files;
+use std::io::{Input, Read};
+use std::{fs, io};
 
-fn show(answer: Checked) {
+fn show(rt: &impl Print, answer: Checked) -> io::Result<()> {
     match answer {
-        Checked::Accepted => {
-            io::write_all(STDOUT_FILENO, b": accepted\n");
-        }
-        Checked::Refused(n, place) => {
-            io::write_all(STDOUT_FILENO, b": refused ");
-            io::print_decimal(STDOUT_FILENO, n as u64);
-            io::write_all(STDOUT_FILENO, b" record ");
-            io::print_decimal(STDOUT_FILENO, place as u64);
-            io::write_all(STDOUT_FILENO, b"\n");
-        }
+        Checked::Accepted => println!(rt; ": accepted"),
+        Checked::Refused(n, place) => println!(rt; ": refused {n} record {place}"),
     }
 }
 
 // Checks the first bytes of a file, so many, with so many entries of working memory.
-fn check_first(file: &[u8], size: usize, work: &mut [u32], entries: usize) {
+fn check_first(
+    rt: &impl Print,
+    file: &[u8],
+    size: usize,
+    work: &mut [u32],
+    entries: usize,
+) -> io::Result<()> {
     if file.len() < size {
-        return;
+        return Ok(());
     }
     if work.len() < entries {
-        return;
+        return Ok(());
     }
-    show(check_file::check(&file[..size], &mut work[..entries]))
+    show(rt, check_file::check(&file[..size], &mut work[..entries]))
+}
+
+// Reads the start of a file, and answers how many bytes were read.
+fn read_file(rt: &impl Files, path: &str, file: &mut [u8]) -> io::Result<usize> {
+    let mut opened = fs::open(rt, path)?;
+    read_input::fill(&mut opened, file)
 }
 
 // Checks the file of this name.
-fn check_file(path: &[u8], file: &mut [u8], work: &mut [u32]) {
-    io::write_all(STDOUT_FILENO, path);
-    let fd = os::open_read(path);
-    if fd < 0 {
-        io::write_all(STDOUT_FILENO, b": not read\n");
-        return;
-    }
-    let size = io::read_full(fd, file);
-    libc::close(fd);
+fn check_file(
+    rt: &(impl Files + Print),
+    path: &str,
+    file: &mut [u8],
+    work: &mut [u32],
+) -> io::Result<()> {
+    print!(rt; "{path}")?;
     let entries = work.len();
-    check_first(file, size, work, entries)
+    match read_file(rt, path, file) {
+        Ok(size) => check_first(rt, file, size, work, entries),
+        Err(_) => println!(rt; ": not read"),
+    }
 }
 
 // Checks the file that argument i names.
-fn check_argument(i: usize, file: &mut [u8], work: &mut [u32]) {
-    let mut path = io::buffer();
-    let n = os::arg(i, &mut path);
-    check_file(&path[..n], file, work)
+fn check_argument(
+    rt: &(impl Env + Files + Print),
+    i: usize,
+    file: &mut [u8],
+    work: &mut [u32],
+) -> io::Result<()> {
+    let mut buffer = [0u8; 4096];
+    let path = read_input::argument(rt, i, &mut buffer)?;
+    check_file(rt, path, file, work)
 }
 
-fn check_arguments(file: &mut [u8], work: &mut [u32]) {
-    let count = os::arg_count();
-    let mut i = 1;
-    while i < count {
-        check_argument(i, file, work);
-        i += 1;
+// Whether there is no argument i.
+fn is_missing(rt: &impl Env, i: usize) -> bool {
+    matches!(rt.arg(i, &mut []), Err(FillError::NotPresent))
+}
+
+fn check_arguments(
+    rt: &(impl Env + Files + Print),
+    file: &mut [u8],
+    work: &mut [u32],
+) -> io::Result<()> {
+    for i in 1..usize::MAX {
+        if is_missing(rt, i) {
+            break;
+        }
+        check_argument(rt, i, file, work)?;
     }
+    Ok(())
 }
 
 // The number in four bytes, low byte first.
@@ -66,37 +89,38 @@ fn number(b: &[u8; 4]) -> usize {
     read_field::word(b[0], b[1], b[2], b[3]) as usize
 }
 
-// The next number of standard input; none where it ends.
-fn next_number() -> usize {
+// The next number of the input; none where it ends.
+fn next_number(input: &mut impl Read) -> io::Result<usize> {
     let mut bytes = [0u8; 4];
-    let n = io::read_full(STDIN_FILENO, &mut bytes);
+    let n = read_input::fill(input, &mut bytes)?;
     if n < 4 {
-        return usize::MAX;
+        return Ok(usize::MAX);
     }
-    number(&bytes)
+    Ok(number(&bytes))
 }
 
 // Reads a text of this length, and writes it.
-fn copy(part: &mut [u8]) {
-    io::read_full(STDIN_FILENO, part);
-    io::write_all(STDOUT_FILENO, part);
+fn copy(rt: &impl Print, input: &mut impl Read, part: &mut [u8]) -> io::Result<()> {
+    read_input::fill(input, part)?;
+    rt.write_all(part)
 }
 
 // Reads a name and writes it; answers whether there was one.
-fn copy_name(name: &mut [u8]) -> bool {
-    let length = next_number();
+fn copy_name(rt: &impl Print, input: &mut impl Read, name: &mut [u8]) -> io::Result<bool> {
+    let length = next_number(input)?;
     if name.len() < length {
-        return false;
+        return Ok(false);
     }
-    copy(&mut name[..length]);
-    true
+    copy(rt, input, &mut name[..length])?;
+    Ok(true)
 }
 
 // Reads the first n bytes of a file.
-fn read_first(file: &mut [u8], n: usize) {
+fn read_first(input: &mut impl Read, file: &mut [u8], n: usize) -> io::Result<()> {
     if n <= file.len() {
-        io::read_full(STDIN_FILENO, &mut file[..n]);
+        read_input::fill(input, &mut file[..n])?;
     }
+    Ok(())
 }
 
 // Repeats the first n bytes of a file until it has so many.
@@ -109,25 +133,37 @@ fn repeat(file: &mut [u8], n: usize, size: usize) {
 }
 
 // Reads a case and checks it; answers whether there was one.
-fn check_case(file: &mut [u8], work: &mut [u32]) -> bool {
+fn check_case(
+    rt: &impl Print,
+    input: &mut impl Read,
+    file: &mut [u8],
+    work: &mut [u32],
+) -> io::Result<bool> {
     let mut name = [0u8; 128];
-    if !copy_name(&mut name) {
-        return false;
+    if !copy_name(rt, input, &mut name)? {
+        return Ok(false);
     }
-    let entries = next_number();
-    let size = next_number();
-    let n = next_number();
-    read_first(file, n);
+    let entries = next_number(input)?;
+    let size = next_number(input)?;
+    let n = next_number(input)?;
+    read_first(input, file, n)?;
     repeat(file, n, size);
-    check_first(file, size, work, entries);
-    true
+    check_first(rt, file, size, work, entries)?;
+    Ok(true)
 }
 
-fn check_cases(file: &mut [u8], work: &mut [u32]) {
-    let mut turns = u64::MAX;
-    while turns > 0 && check_case(file, work) {
-        turns -= 1;
+fn check_cases(
+    rt: &impl Print,
+    input: &mut impl Read,
+    file: &mut [u8],
+    work: &mut [u32],
+) -> io::Result<()> {
+    for _ in 0..u64::MAX {
+        if !check_case(rt, input, file, work)? {
+            break;
+        }
     }
+    Ok(())
 }
 
 // Room for a file and a byte more than a file may have.
@@ -139,9 +175,9 @@ fn work_buffer() -> [u32; 850000] {
     [0; 850000]
 }
 
-fn main() {
+fn main(rt: HostRuntime) -> io::Result<()> {
     let mut file = file_buffer();
     let mut work = work_buffer();
-    check_arguments(&mut file, &mut work);
-    check_cases(&mut file, &mut work);
+    check_arguments(&rt, &mut file, &mut work)?;
+    check_cases(&rt, &mut rt.reader(), &mut file, &mut work)
 }

@@ -1,10 +1,10 @@
 // Lines on standard output.
-use libc::STDOUT_FILENO;
+use std::io;
 
 // Writes the first n bytes as a line.
-pub fn line(out: &[u8], n: usize) {
+pub fn line(rt: &impl Print, out: &[u8], n: usize) -> io::Result<()> {
     if n <= out.len() {
-        io::write_all(STDOUT_FILENO, &out[..n]);
+        rt.write_all(&out[..n])?;
     }
-    io::write_all(STDOUT_FILENO, b"\n");
+    rt.write_all(b"\n")
 }

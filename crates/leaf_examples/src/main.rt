@@ -9,22 +9,24 @@ mod patterns;
 mod texts;
 mod vectors;
 
-fn main() {
-    numerals::decimals();
-    numerals::hexadecimals();
-    codes::texts();
-    codes::other_bytes();
-    codes::last_code_point();
-    texts::quotes();
-    texts::escapes();
-    texts::code_points();
-    texts::ids();
-    texts::comments();
-    patterns::patterns();
-    vectors::published();
-    vectors::addresses();
-    vectors::signed();
-    vectors::least();
-    vectors::limits();
-    vectors::sorts();
+use std::io;
+
+fn main(rt: HostRuntime) -> io::Result<()> {
+    numerals::decimals(&rt)?;
+    numerals::hexadecimals(&rt)?;
+    codes::texts(&rt)?;
+    codes::other_bytes(&rt)?;
+    codes::last_code_point(&rt)?;
+    texts::quotes(&rt)?;
+    texts::escapes(&rt)?;
+    texts::code_points(&rt)?;
+    texts::ids(&rt)?;
+    texts::comments(&rt)?;
+    patterns::patterns(&rt)?;
+    vectors::published(&rt)?;
+    vectors::addresses(&rt)?;
+    vectors::signed(&rt)?;
+    vectors::least(&rt)?;
+    vectors::limits(&rt)?;
+    vectors::sorts(&rt)
 }

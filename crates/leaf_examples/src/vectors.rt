@@ -1,79 +1,83 @@
 // Literals and sorts of bit vectors.
 use crate::lines::line;
+use std::io;
 use write_bitvec::{Made, reading, spelling};
 
 // A bit vector's literal, or document 01's number for a refusal.
-fn vector(m: Made) {
+fn vector(rt: &impl Print, m: Made) -> io::Result<()> {
     let mut out = [0u8; 64];
     match m {
         Made::Vector(b) => {
             let n = spelling::put_bitvec(&mut out, 0, 64, b.width, b.high, b.low);
-            line(&out, n);
+            line(rt, &out, n)
         }
-        Made::Refused => line(b"refused 7", 9),
+        Made::Refused => line(rt, b"refused 7", 9),
     }
 }
 
 // SMT-LIB, logic QF_BV: `(_ bvX n)` is the bit vector of n bits with value X, its example being bv13 in 32 bits.
-pub fn published() {
-    vector(write_bitvec::new(32, 0, 13));
+pub fn published(rt: &impl Print) -> io::Result<()> {
+    vector(rt, write_bitvec::new(32, 0, 13))
 }
 
 // Document 01, ipaddr.rs: 192.168.1.1 with prefix 24 has `(_ bv3232235777 32)` and `(_ bv24 5)`.
 // ::1 and 2001:db8:: (the documentation prefix of RFC 3849) are 1 and 0x20010db8 followed by 96 zero bits.
-pub fn addresses() {
+pub fn addresses(rt: &impl Print) -> io::Result<()> {
     let v4 = reading::high_first(b"\xc0\xa8\x01\x01");
-    vector(write_bitvec::new(32, v4.high, v4.low));
-    vector(write_bitvec::new(5, 0, 24));
+    vector(rt, write_bitvec::new(32, v4.high, v4.low))?;
+    vector(rt, write_bitvec::new(5, 0, 24))?;
     let loopback = reading::high_first(b"\0\0\0\0\0\0\0\0\0\0\0\0\0\0\0\x01");
-    vector(write_bitvec::new(128, loopback.high, loopback.low));
+    vector(rt, write_bitvec::new(128, loopback.high, loopback.low))?;
     let v6 = reading::high_first(b"\x20\x01\x0d\xb8\0\0\0\0\0\0\0\0\0\0\0\0");
-    vector(write_bitvec::new(128, v6.high, v6.low));
+    vector(rt, write_bitvec::new(128, v6.high, v6.low))
 }
 
 // Document 01, bitvec.rs: signed values are two's complement, and Decimal -1 is `(_ bv18446744073709551615 64)`.
 // SMT-LIB, theory FixedSizeBitVectors: `bvneg` of s is 2^m less the number of s, so -1, -128 and -129 of 8 bits are 255, 128
 // and, cut to 8 bits, 127; and -1 of 128 bits is 2^128 less 1.
-pub fn signed() {
+pub fn signed(rt: &impl Print) -> io::Result<()> {
     let decimal = reading::low_first(b"\xff\xff\xff\xff\xff\xff\xff\xff");
-    vector(write_bitvec::new(64, decimal.high, decimal.low));
-    vector(write_bitvec::of_int(64, -1));
-    vector(write_bitvec::of_int(8, -1));
-    vector(write_bitvec::of_int(8, -128));
-    vector(write_bitvec::of_int(8, -129));
-    vector(write_bitvec::of_int(8, 127));
-    vector(write_bitvec::of_int(128, -1));
+    vector(rt, write_bitvec::new(64, decimal.high, decimal.low))?;
+    vector(rt, write_bitvec::of_int(64, -1))?;
+    vector(rt, write_bitvec::of_int(8, -1))?;
+    vector(rt, write_bitvec::of_int(8, -128))?;
+    vector(rt, write_bitvec::of_int(8, -129))?;
+    vector(rt, write_bitvec::of_int(8, 127))?;
+    vector(rt, write_bitvec::of_int(128, -1))
 }
 
 // Document 01, encoder.rs: `Bvnego` compares with 2^(n-1).
-pub fn least() {
-    vector(write_bitvec::int_min(1));
-    vector(write_bitvec::int_min(8));
-    vector(write_bitvec::int_min(64));
-    vector(write_bitvec::int_min(65));
-    vector(write_bitvec::int_min(128));
+pub fn least(rt: &impl Print) -> io::Result<()> {
+    vector(rt, write_bitvec::int_min(1))?;
+    vector(rt, write_bitvec::int_min(8))?;
+    vector(rt, write_bitvec::int_min(64))?;
+    vector(rt, write_bitvec::int_min(65))?;
+    vector(rt, write_bitvec::int_min(128))
 }
 
 // Document 01, `XN`: a width is 1 to 128 and a value below 2^width, or refusal 7.
-pub fn limits() {
-    vector(write_bitvec::new(0, 0, 0));
-    vector(write_bitvec::new(129, 0, 0));
-    vector(write_bitvec::new(8, 0, 255));
-    vector(write_bitvec::new(8, 0, 256));
-    vector(write_bitvec::new(65, 1, 0));
-    vector(write_bitvec::new(65, 2, 0));
-    vector(write_bitvec::new(128, 0xffff_ffff_ffff_ffff, 0xffff_ffff_ffff_ffff));
+pub fn limits(rt: &impl Print) -> io::Result<()> {
+    vector(rt, write_bitvec::new(0, 0, 0))?;
+    vector(rt, write_bitvec::new(129, 0, 0))?;
+    vector(rt, write_bitvec::new(8, 0, 255))?;
+    vector(rt, write_bitvec::new(8, 0, 256))?;
+    vector(rt, write_bitvec::new(65, 1, 0))?;
+    vector(rt, write_bitvec::new(65, 2, 0))?;
+    vector(
+        rt,
+        write_bitvec::new(128, 0xffff_ffff_ffff_ffff, 0xffff_ffff_ffff_ffff),
+    )
 }
 
-fn sort(width: u32) {
+fn sort(rt: &impl Print, width: u32) -> io::Result<()> {
     let mut out = [0u8; 64];
     let n = spelling::put_bitvec_sort(&mut out, 0, 64, width);
-    line(&out, n);
+    line(rt, &out, n)
 }
 
 // Document 01, ipaddr.rs: prefixes have the sorts `(_ BitVec 5)` and `(_ BitVec 7)`, and encoder.rs has V6 addresses of 128 bits.
-pub fn sorts() {
-    sort(5);
-    sort(7);
-    sort(128);
+pub fn sorts(rt: &impl Print) -> io::Result<()> {
+    sort(rt, 5)?;
+    sort(rt, 7)?;
+    sort(rt, 128)
 }

@@ -2,99 +2,102 @@
 #![tactic(auto)]
 
 use smtlib_script::commands::WrittenCommand;
+use std::io;
 
 // Writes the first n bytes.
-fn write_first(out: &[u8], n: usize) {
+fn write_first(rt: &impl Print, out: &[u8], n: usize) -> io::Result<()> {
     if n <= out.len() {
-        io::write_all(1, &out[..n]);
+        rt.write_all(&out[..n])?;
     }
+    Ok(())
 }
 
 // Writes what a call left in its buffer, or its refusal.
-fn show(answer: WrittenCommand, out: &[u8]) {
+fn show(rt: &impl Print, answer: WrittenCommand, out: &[u8]) -> io::Result<()> {
     match answer {
-        WrittenCommand::Length(n) => write_first(out, n),
-        WrittenCommand::NotUtf8 => {
-            io::write_all(1, b"refused 6 record 0\n");
-        }
-        WrittenCommand::NoRoom => {
-            io::write_all(1, b"refused 20 record 0\n");
-        }
+        WrittenCommand::Length(n) => write_first(rt, out, n),
+        WrittenCommand::NotUtf8 => println!(rt; "refused 6 record 0"),
+        WrittenCommand::NoRoom => println!(rt; "refused 20 record 0"),
     }
 }
 
 // Commands without texts.
-fn plain(out: &mut [u8]) {
+fn plain(rt: &impl Print, out: &mut [u8]) -> io::Result<()> {
     let a = smtlib_script::commands::reset(out);
-    show(a, out);
+    show(rt, a, out)?;
     let b = smtlib_script::commands::check_sat(out);
-    show(b, out);
+    show(rt, b, out)?;
     let c = smtlib_script::commands::get_model(out);
-    show(c, out);
+    show(rt, c, out)?;
     let d = smtlib_script::commands::exit(out);
-    show(d, out);
+    show(rt, d, out)
 }
 
 // What a script begins with.
-fn preamble(out: &mut [u8]) {
+fn preamble(rt: &impl Print, out: &mut [u8]) -> io::Result<()> {
     let a = smtlib_script::commands::set_logic(b"ALL", out);
-    show(a, out);
+    show(rt, a, out)?;
     let b = smtlib_script::commands::set_option(b"produce-models", b"true", out);
-    show(b, out);
+    show(rt, b, out)?;
     let c = smtlib_script::commands::comment(b"two\nlines\r", out);
-    show(c, out);
+    show(rt, c, out)
 }
 
 // A constant and an assertion.
-fn constant(out: &mut [u8]) {
+fn constant(rt: &impl Print, out: &mut [u8]) -> io::Result<()> {
     let a = smtlib_script::commands::declare_const(b"t0", b"Bool", out);
-    show(a, out);
+    show(rt, a, out)?;
     let b = smtlib_script::commands::assert_that(b"(not t0)", out);
-    show(b, out);
+    show(rt, b, out)
 }
 
 // A datatype with parameters, and one without.
-fn declare_datatypes(params: &[&[u8]], constructors: &[&[u8]], out: &mut [u8]) {
+fn declare_datatypes(
+    rt: &impl Print,
+    params: &[&[u8]],
+    constructors: &[&[u8]],
+    out: &mut [u8],
+) -> io::Result<()> {
     let a = smtlib_script::commands::declare_datatype(b"Option", params, constructors, out);
-    show(a, out);
+    show(rt, a, out)?;
     let b = smtlib_script::commands::declare_datatype(b"E0", &params[..0], constructors, out);
-    show(b, out);
+    show(rt, b, out)
 }
 
 // Functions of two arguments.
-fn functions(names: &[&[u8]], sorts: &[&[u8]], out: &mut [u8]) {
+fn functions(rt: &impl Print, names: &[&[u8]], sorts: &[&[u8]], out: &mut [u8]) -> io::Result<()> {
     let a = smtlib_script::commands::declare_fun(b"f0", sorts, b"Bool", out);
-    show(a, out);
+    show(rt, a, out)?;
     let b = smtlib_script::commands::define_fun(b"t1", names, sorts, b"Bool", b"(f0 x y)", out);
-    show(b, out);
+    show(rt, b, out)
 }
 
 // Commands with lists of texts.
-fn lists<'a>(x: &'a [u8], y: &'a [u8], out: &mut [u8]) {
+fn lists<'a>(rt: &impl Print, x: &'a [u8], y: &'a [u8], out: &mut [u8]) -> io::Result<()> {
     let params = [x];
     let pair = [x, y];
-    declare_datatypes(&params, &pair, out);
-    functions(&pair, &pair, out);
+    declare_datatypes(rt, &params, &pair, out)?;
+    functions(rt, &pair, &pair, out)
 }
 
 // A text that is not UTF-8, room that is one byte short, and room that is just enough.
-fn refusals(out: &mut [u8]) {
+fn refusals(rt: &impl Print, out: &mut [u8]) -> io::Result<()> {
     let a = smtlib_script::commands::assert_that(b"\xc0\x80", out);
-    show(a, out);
+    show(rt, a, out)?;
     let mut short = [0; 6];
     let b = smtlib_script::commands::exit(&mut short);
-    show(b, &short);
+    show(rt, b, &short)?;
     let mut enough = [0; 7];
     let c = smtlib_script::commands::exit(&mut enough);
-    show(c, &enough);
+    show(rt, c, &enough)
 }
 
-fn main() {
-    let mut space = io::buffer();
+fn main(rt: HostRuntime) -> io::Result<()> {
+    let mut space = [0u8; 4096];
     let out: &mut [u8] = &mut space;
-    plain(out);
-    preamble(out);
-    constant(out);
-    lists(b"x", b"y", out);
-    refusals(out);
+    plain(&rt, out)?;
+    preamble(&rt, out)?;
+    constant(&rt, out)?;
+    lists(&rt, b"x", b"y", out)?;
+    refusals(&rt, out)
 }

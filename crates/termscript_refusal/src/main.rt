@@ -1,6 +1,8 @@
 // `termscript` once more, run on a file that is longer than the program takes.
 #![tactic(auto)]
 
-fn main() {
-    termscript_run::run();
+use std::io;
+
+fn main(rt: HostRuntime) -> io::Result<()> {
+    termscript_run::run(&rt)
 }

@@ -4,34 +4,40 @@
 
 ghost use Rattle.std.specs.Prelude.{◌<◌, ◌≤◌, length};
 
-use libc::STDOUT_FILENO;
+use std::env::{Env, FillError};
+use std::fs::Files;
+use std::{fs, io};
 use write_text::Comment;
 
-// Reads a file, and answers how many bytes were read.
-fn read_file(path: &[u8], bytes: &mut [u8]) -> usize {
-    let fd = os::open_read(path);
-    if fd < 0 {
-        os::fail(path);
-        return 0;
-    }
-    let n = io::read_full(fd, bytes);
-    libc::close(fd);
-    n
+// Reads the start of a file, and answers how many bytes were read.
+fn read_file(rt: &impl Files, path: &str, bytes: &mut [u8]) -> io::Result<usize> {
+    let mut file = fs::open(rt, path)?;
+    read_input::fill(&mut file, bytes)
 }
 
-// Reads the file that argument i names.
-fn read_argument(i: usize, bytes: &mut [u8]) -> usize {
-    let mut path = io::buffer();
-    let n = os::arg(i, &mut path);
-    read_file(&path[..n], bytes)
+// Reads the start of the file that argument i names, and answers how many bytes were read: none where it can't be read, which it says on
+// standard error.
+fn read_argument(
+    rt: &(impl Env + Files + Eprint),
+    i: usize,
+    bytes: &mut [u8],
+) -> io::Result<usize> {
+    let mut buffer = [0u8; 4096];
+    let path = read_input::argument(rt, i, &mut buffer)?;
+    match read_file(rt, path, bytes) {
+        Ok(n) => Ok(n),
+        Err(e) => {
+            eprintln!(rt; "{path}: {e}")?;
+            Ok(0)
+        }
+    }
 }
 
 // Writes argument i as a line.
-fn show_argument(i: usize) {
-    let mut path = io::buffer();
-    let n = os::arg(i, &mut path);
-    io::write_all(STDOUT_FILENO, &path[..n]);
-    io::write_all(STDOUT_FILENO, b" differs\n");
+fn show_argument(rt: &(impl Env + Print), i: usize) -> io::Result<()> {
+    let mut buffer = [0u8; 4096];
+    let path = read_input::argument(rt, i, &mut buffer)?;
+    println!(rt; "{path} differs")
 }
 
 // Whether the first n bytes of one buffer are the first m of another.
@@ -42,7 +48,7 @@ fn same_start(a: &[u8], n: usize, b: &[u8], m: usize) -> bool {
     if b.len() < m {
         return false;
     }
-    check::same(&a[..n], &b[..m])
+    &a[..n] == &b[..m]
 }
 
 // Whether `termscript` writes the first m bytes of `expected` for the first n bytes of a file.
@@ -121,46 +127,49 @@ fn put_script(out: &mut [u8], script: &[u8], n: usize) -> usize {
 }
 
 // Whether the file of argument i is encoded to that of argument j.
-fn agrees(i: usize, j: usize) -> bool {
+fn agrees(rt: &(impl Env + Files + Eprint), i: usize, j: usize) -> io::Result<bool> {
     let mut file = [0u8; 8193];
     let mut stored = [0u8; 65536];
     let mut expected = [0u8; 65536];
-    let n = read_argument(i, &mut file);
-    let m = read_argument(j, &mut stored);
+    let n = read_argument(rt, i, &mut file)?;
+    let m = read_argument(rt, j, &mut stored)?;
     let end = put_script(&mut expected, &stored, m);
-    is_expected(&file, n, &expected, end)
+    Ok(is_expected(&file, n, &expected, end))
+}
+
+// Whether there is no argument i.
+fn is_missing(rt: &impl Env, i: usize) -> bool {
+    matches!(rt.arg(i, &mut []), Err(FillError::NotPresent))
 }
 
 // How many arguments there are, of fewer than a million.
-fn arguments() -> usize
+fn arguments(rt: &impl Env) -> usize
     ensures { result < 1000000 }
 {
-    let n = os::arg_count();
-    if n < 1000000 {
-        return n;
+    for i in 0..1000000 {
+        if is_missing(rt, i) {
+            return i;
+        }
     }
     0
 }
 
-fn show_counts(compared: usize, differ: usize) {
-    io::print_decimal(STDOUT_FILENO, compared as u64);
-    io::write_all(STDOUT_FILENO, b" compared, ");
-    io::print_decimal(STDOUT_FILENO, differ as u64);
-    io::write_all(STDOUT_FILENO, b" differ\n");
+fn show_counts(rt: &impl Print, compared: usize, differ: usize) -> io::Result<()> {
+    println!(rt; "{compared} compared, {differ} differ")
 }
 
-fn main() {
-    let count = arguments();
+fn main(rt: HostRuntime) -> io::Result<()> {
+    let count = arguments(&rt);
     let mut i = 1;
     let mut compared = 0;
     let mut differ = 0;
     while i + 1 < count {
-        if !agrees(i, i + 1) {
-            show_argument(i);
+        if !agrees(&rt, i, i + 1)? {
+            show_argument(&rt, i)?;
             differ += 1;
         }
         compared += 1;
         i += 2;
     }
-    show_counts(compared, differ);
+    show_counts(&rt, compared, differ)
 }

@@ -1,10 +1,10 @@
--- `termscript_run::answer` is safe: the part that is lent has n bytes.
--- Assumes nothing.
-use mathlib.Core.Path.{sym}
-use lib.Seq.{length-take-le}
-use native.Mathlib.Omega.{arith}
-use borrow.Author.Rules.{rules}
+-- `termscript_run::answer`: what is printed lies in its buffer.
+use Rattle.std.proofs.Common.{◌≡◌, sym, arith, rules, length-take-le}
+use Rattle.termscript_run.proofs.RunLaws.{shown_within}
 use Rattle.termscript_run.proofs.answer.Goals as goal
 
-pub slice_bounds-print-end : goal.slice_bounds-print-end
-slice_bounds-print-end c = sym (length-take-le _ _ (omega arith))
+pub slice_bounds-script-end : goal.slice_bounds-script-end
+slice_bounds-script-end g c = omega (arith, shown_within c.print-n.ensures.shows)
+
+pub slice_bounds-write_all-end : goal.slice_bounds-write_all-end
+slice_bounds-write_all-end g c = sym (length-take-le _ _ (omega (arith, shown_within c.print-n.ensures.shows)))

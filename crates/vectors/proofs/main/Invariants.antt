@@ -1,8 +1,5 @@
 -- `vectors::main` is safe and ends: the counts are at most the number of the argument, which grows.
--- Assumes nothing.
-use Prim.Native.Nat.{◌+◌, ◌-◌, ◌<◌, ◌≤◌}
-use mathlib.Core.Logic.{⊎_elim}
-use borrow.Author.Rules.{rules}
+use Rattle.std.proofs.Common.{◌+◌, ◌-◌, ◌<◌, ◌≤◌}
 use Rattle.vectors.proofs.main.Given as goal
 
 abbrev pub invariant-loop-i : goal.invariant-loop-i

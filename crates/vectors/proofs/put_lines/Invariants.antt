@@ -1,9 +1,5 @@
 -- `vectors::put_lines` is safe and ends: each line begins after the one before.
--- Assumes nothing.
-use mathlib.Core.Path.{◌≡◌}
-use Prim.Native.Nat.{◌-◌}
-use lib.ListN.{length}
-use borrow.Author.Rules.{rules}
+use Rattle.std.proofs.Common.{◌≡◌, ◌-◌, length}
 use Rattle.vectors.proofs.put_lines.Given as goal
 
 abbrev pub invariant-loop-from : goal.invariant-loop-from
