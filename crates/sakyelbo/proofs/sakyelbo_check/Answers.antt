@@ -1,6 +1,5 @@
 -- `sakyelbo::sakyelbo_check` answers what check does, as a number.
 -- Assumes nothing.
-use borrow.Author.Rules.{rules}
 use Rattle.sakyelbo.proofs.Laws.{checks_file}
 use Rattle.sakyelbo.proofs.sakyelbo_check.Goals as goal
 

@@ -1,6 +1,5 @@
 -- `sakyelbo::sakyelbo_encode` writes what encode does, and says its answer by numbers.
 -- Assumes nothing.
-use borrow.Author.Rules.{rules}
 use Rattle.sakyelbo.proofs.Laws.{encodes_file}
 use Rattle.sakyelbo.proofs.sakyelbo_encode.Goals as goal
 

@@ -1,7 +1,6 @@
 -- `sakyelbo::answers::of_check` gives the number of each case.
 -- Assumes nothing.
 use mathlib.Core.Path.{sym, ap, ◌∙◌}
-use borrow.Author.Rules.{rules}
 use Rattle.check_file.specs.Promise.{checked_as}
 use Rattle.check_file.specs.declared.Checked.{Checked}
 use Rattle.sakyelbo.specs.Answers.{answer_code}

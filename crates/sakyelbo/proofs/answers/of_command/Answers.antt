@@ -1,7 +1,6 @@
 -- `sakyelbo::answers::of_command` says each case by its numbers.
 -- Assumes nothing.
 use mathlib.Core.Path.{ap}
-use borrow.Author.Rules.{rules}
 use Rattle.smtlib_script.specs.Writes.{command_answer}
 use Rattle.sakyelbo.proofs.Laws.{says_length, says_refusal}
 use Rattle.sakyelbo.proofs.answers.of_command.Goals as goal

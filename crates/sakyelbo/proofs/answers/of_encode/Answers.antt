@@ -1,7 +1,6 @@
 -- `sakyelbo::answers::of_encode` says each case by its numbers.
 -- Assumes nothing.
 use mathlib.Core.Path.{ap}
-use borrow.Author.Rules.{rules}
 use Rattle.encoder.specs.Promise.{encoded_as}
 use Rattle.sakyelbo.proofs.Laws.{says_length, says_refusal}
 use Rattle.sakyelbo.proofs.answers.of_encode.Goals as goal

@@ -1,6 +1,5 @@
 -- `sakyelbo::commands::sakyelbo_assert_that` writes what `smtlib_script::assert_that` does, and says its answer by numbers.
 -- Assumes nothing.
-use borrow.Author.Rules.{rules}
 use Rattle.sakyelbo.proofs.Laws.{writes_command}
 use Rattle.sakyelbo.proofs.commands.sakyelbo_assert_that.Goals as goal
 

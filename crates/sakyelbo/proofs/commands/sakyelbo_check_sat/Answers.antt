@@ -1,6 +1,5 @@
 -- `sakyelbo::commands::sakyelbo_check_sat` writes what `smtlib_script::check_sat` does, and says its answer by numbers.
 -- Assumes nothing.
-use borrow.Author.Rules.{rules}
 use Rattle.sakyelbo.proofs.Laws.{writes_command}
 use Rattle.sakyelbo.proofs.commands.sakyelbo_check_sat.Goals as goal
 

@@ -1,6 +1,5 @@
 -- `sakyelbo::commands::sakyelbo_exit` writes what `smtlib_script::exit` does, and says its answer by numbers.
 -- Assumes nothing.
-use borrow.Author.Rules.{rules}
 use Rattle.sakyelbo.proofs.Laws.{writes_command}
 use Rattle.sakyelbo.proofs.commands.sakyelbo_exit.Goals as goal
 

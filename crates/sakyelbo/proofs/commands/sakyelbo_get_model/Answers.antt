@@ -1,6 +1,5 @@
 -- `sakyelbo::commands::sakyelbo_get_model` writes what `smtlib_script::get_model` does, and says its answer by numbers.
 -- Assumes nothing.
-use borrow.Author.Rules.{rules}
 use Rattle.sakyelbo.proofs.Laws.{writes_command}
 use Rattle.sakyelbo.proofs.commands.sakyelbo_get_model.Goals as goal
 

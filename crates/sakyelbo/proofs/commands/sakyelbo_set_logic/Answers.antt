@@ -1,6 +1,5 @@
 -- `sakyelbo::commands::sakyelbo_set_logic` writes what `smtlib_script::set_logic` does, and says its answer by numbers.
 -- Assumes nothing.
-use borrow.Author.Rules.{rules}
 use Rattle.sakyelbo.proofs.Laws.{writes_command}
 use Rattle.sakyelbo.proofs.commands.sakyelbo_set_logic.Goals as goal
 
