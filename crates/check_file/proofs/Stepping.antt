@@ -15,7 +15,6 @@ use Rattle.index.specs.declared.Sizes.{Sizes}
 use Rattle.read_record.specs.Marks.{mark, MarkedAs}
 use Rattle.read_record.specs.Records.{Said}
 use Rattle.read_record.specs.declared.mark.Kind.{Kind}
-use Rattle.read_record.specs.declared.mark.Kind.TheVariants as kind
 use Rattle.read_record.specs.declared.Next.{Next}
 use Rattle.read_record.specs.declared.Next.TheVariants as next
 use Rattle.check_file.specs.Reading.{ReadsNext}

@@ -1,7 +1,6 @@
 -- The answer by fill's, with the memory cleared on acceptance too.
 -- Assumes nothing.
 use Rattle.check_file.proofs.Checking.{check_refused, check_accepted}
-use borrow.Author.Rules.{rules}
 use Rattle.check_file.proofs.check.Goals as goal
 
 pub returns-in-Refused : goal.returns-in-Refused

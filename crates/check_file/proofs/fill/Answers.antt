@@ -1,11 +1,8 @@
 -- The refusals before the first record, and the loop over the records; its measure is what is left of the file.
 -- Assumes nothing.
 use mathlib.Core.Path.{sym, ◌∙◌}
-use Prim.Native.Nat.{◌-◌}
-use lib.ListN.{length}
-use Rattle.check_file.proofs.Filling.{fills_long, fills_narrow, Going, going_start, going_further, going_on, going_bad, going_end}
+use Rattle.check_file.proofs.Filling.{fills_long, fills_narrow, going_start, going_further, going_on, going_bad, going_end}
 use native.Mathlib.Omega.{arith}
-use borrow.Author.Rules.{rules}
 use Rattle.check_file.proofs.fill.Goals as goal
 
 pub returns-then-file-gt-MOST_BYTES : goal.returns-then-file-gt-MOST_BYTES

@@ -1,7 +1,6 @@
 -- `encoder::close` meets its contract: a refusal of the walk, or the assertions.
 -- Assumes nothing.
 use Rattle.encoder.proofs.CloseLaws.{closes_refused, closes_went}
-use borrow.Author.Rules.{rules}
 use Rattle.encoder.proofs.close.Goals as goal
 
 pub returns-then-p-ne0 : goal.returns-then-p-ne0

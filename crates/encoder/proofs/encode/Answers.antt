@@ -1,7 +1,6 @@
 -- `encoder::encode` meets its contract: check's refusal, or the records, after their lists are made.
 -- Assumes nothing.
 use Rattle.encoder.proofs.CloseLaws.{encodes_refused, encodes_accepted}
-use borrow.Author.Rules.{rules}
 use Rattle.encoder.proofs.encode.Goals as goal
 
 pub returns-in-Refused : goal.returns-in-Refused

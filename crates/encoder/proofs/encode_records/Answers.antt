@@ -1,7 +1,6 @@
 -- `encoder::encode_records` meets its contract: the inputs are encoded, and the walk ended.
 -- Assumes nothing.
 use Rattle.encoder.proofs.CloseLaws.{encodes_records}
-use borrow.Author.Rules.{rules}
 use Rattle.encoder.proofs.encode_records.Goals as goal
 
 pub returns : goal.returns

@@ -4,7 +4,6 @@ use mathlib.Core.Path.{ap}
 use Rattle.write_bytes.specs.Writing.{answer}
 use Rattle.encoder.specs.Promise.{encoded_as}
 use Rattle.encoder.proofs.EndLaws.{finishes_by}
-use borrow.Author.Rules.{rules}
 use Rattle.encoder.proofs.finish.Goals as goal
 
 pub returns-in-Length : goal.returns-in-Length

@@ -1,7 +1,6 @@
 -- `encoder::turn_back` meets its contract: the script is zeroed.
 -- Assumes nothing.
 use Rattle.encoder.proofs.EndLaws.{turned_back}
-use borrow.Author.Rules.{rules}
 use Rattle.encoder.proofs.turn_back.Goals as goal
 
 pub returns : goal.returns

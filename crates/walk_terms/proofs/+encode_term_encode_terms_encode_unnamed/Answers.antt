@@ -3,14 +3,10 @@
 -- Assumes nothing.
 use native.Mathlib.Omega.{arith}
 use borrow.Author.Rules.{rules}
-use Prim.Native.Nat.{ℕ, ◌<◌, ◌+◌, ◌*◌}
-use mathlib.Core.Path.{◌≡◌, refl, sym, ◌∙◌}
-use lib.ListN.{length}
-use Rattle.index.specs.Standing.{body_at}
+use mathlib.Core.Path.{refl, sym, ◌∙◌}
 use Rattle.walk_names.proofs.Running.{advances_refused}
-use Rattle.index_entry.specs.Terms.{children_in}
 use Rattle.index_entry.proofs.ChildLaws.{no_children}
-use Rattle.walk_terms.proofs.Walking.{leaves_term, encodes_term, TermsLeft, terms_start, terms_on, terms_end, terms_never}
+use Rattle.walk_terms.proofs.Walking.{leaves_term, encodes_term, terms_start, terms_on, terms_end, terms_never}
 use Rattle.walk_terms.proofs.+encode_term_encode_terms_encode_unnamed.Goals as goal
 
 pub encode_term-returns-then-p-ne0 : goal.encode_term-returns-then-p-ne0

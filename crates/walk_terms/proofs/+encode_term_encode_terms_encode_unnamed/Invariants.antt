@@ -1,16 +1,12 @@
 -- `walk_terms::encode_term`, `walk_terms::encode_unnamed` and `walk_terms::encode_terms` meet their contracts: by recursion on the number, which
 -- falls from a term to its children. The loop's invariant: the children that are left, after those that were encoded, make all.
 -- Assumes nothing.
-use native.Mathlib.Omega.{arith}
-use borrow.Author.Rules.{rules}
-use Prim.Native.Nat.{ℕ, ◌<◌, ◌+◌, ◌*◌}
-use mathlib.Core.Path.{◌≡◌, refl, sym, ◌∙◌}
+use Prim.Native.Nat.{◌+◌, ◌*◌}
+use mathlib.Core.Path.{◌≡◌}
 use lib.ListN.{length}
 use Rattle.index.specs.Standing.{body_at}
-use Rattle.walk_names.proofs.Running.{advances_refused}
 use Rattle.index_entry.specs.Terms.{children_in}
-use Rattle.index_entry.proofs.ChildLaws.{no_children}
-use Rattle.walk_terms.proofs.Walking.{leaves_term, encodes_term, TermsLeft, terms_start, terms_on, terms_end, terms_never}
+use Rattle.walk_terms.proofs.Walking.{TermsLeft}
 use Rattle.walk_terms.proofs.+encode_term_encode_terms_encode_unnamed.Given as goal
 
 abbrev pub decreases-encode_term : goal.decreases-encode_term

@@ -1,6 +1,5 @@
 -- `walk_terms::arguments_to_encode` meets its contract: by the operator's code where it tells, or else by what the term is as a `Bvnego`.
 -- Assumes nothing.
-use borrow.Author.Rules.{rules}
 use mathlib.Core.Path.{refl}
 use Rattle.walk_terms.proofs.ChildrenLaws.{arguments_other, arguments_none, arguments_all}
 use borrow.Enum.Refused.{opened}

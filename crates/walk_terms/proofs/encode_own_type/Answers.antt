@@ -1,6 +1,5 @@
 -- `walk_terms::encode_own_type` meets its contract: a settled type is left, any other is encoded.
 -- Assumes nothing.
-use borrow.Author.Rules.{rules}
 use Rattle.walk_types.proofs.Settling.{passes_settled}
 use Rattle.walk_terms.proofs.Walking.{encodes_own_type}
 use Rattle.walk_terms.proofs.encode_own_type.Goals as goal

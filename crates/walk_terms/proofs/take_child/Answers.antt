@@ -1,6 +1,5 @@
 -- `walk_terms::take_child` meets its contract.
 -- Assumes nothing.
-use borrow.Author.Rules.{rules}
 use Rattle.walk_terms.proofs.take_child.Goals as goal
 
 pub returns : goal.returns

@@ -1,6 +1,5 @@
 -- `walk_terms::to_encode` meets its contract: each letter by its arm.
 -- Assumes nothing.
-use borrow.Author.Rules.{rules}
 use Rattle.walk_terms.proofs.ChildrenLaws.{encode_app, encode_some, encode_set, encode_record, encode_leaf}
 use Rattle.walk_terms.proofs.to_encode.Goals as goal
 

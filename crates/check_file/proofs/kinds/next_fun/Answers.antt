@@ -1,7 +1,6 @@
 -- The function is entered, and counted.
 -- Assumes nothing.
 use Rattle.check_file.proofs.Over.{row_done, row_broken, fun_row}
-use borrow.Author.Rules.{rules}
 use Rattle.check_file.proofs.kinds.next_fun.Goals as goal
 
 pub returns-in-Broken : goal.returns-in-Broken

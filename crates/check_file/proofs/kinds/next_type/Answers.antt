@@ -1,7 +1,6 @@
 -- The type is entered, and counted.
 -- Assumes nothing.
 use Rattle.check_file.proofs.Over.{row_done, row_broken, type_row}
-use borrow.Author.Rules.{rules}
 use Rattle.check_file.proofs.kinds.next_type.Goals as goal
 
 pub returns-in-Broken : goal.returns-in-Broken

@@ -1,7 +1,6 @@
 -- The record is read with the offsets of the types, as the index has them.
 -- Assumes nothing.
 use Rattle.check_file.proofs.Following.{reads_next}
-use borrow.Author.Rules.{rules}
 use Rattle.check_file.proofs.next.read_next.Goals as goal
 
 pub returns : goal.returns

@@ -2,7 +2,6 @@
 -- Assumes nothing.
 use Rattle.check_file.proofs.Stepping.{over_as}
 use Rattle.check_file.proofs.Marked.{marked_type, marked_enum, marked_fun, marked_term, marked_input, marked_unknown}
-use borrow.Author.Rules.{rules}
 use Rattle.check_file.proofs.step.enter_next.Goals as goal
 
 pub returns-in-TB : goal.returns-in-TB

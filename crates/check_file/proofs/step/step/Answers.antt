@@ -1,7 +1,6 @@
 -- A record that is refused as it is read, and one that is entered.
 -- Assumes nothing.
 use Rattle.check_file.proofs.Stepping.{step_bad, step_over}
-use borrow.Author.Rules.{rules}
 use Rattle.check_file.proofs.step.step.Goals as goal
 
 pub returns-in-Bad : goal.returns-in-Bad

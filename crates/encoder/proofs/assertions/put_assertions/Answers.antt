@@ -1,9 +1,6 @@
 -- `encoder::assertions::put_assertions` meets its contract: the loop has asserted the inputs before its count.
 -- Assumes nothing.
-use native.Mathlib.Omega.{arith}
-use Prim.Native.Nat.{◌-◌}
-use Rattle.encoder.proofs.AssertionLaws.{Asserting, asserting_start, asserting_on, asserting_past, asserting_end}
-use borrow.Author.Rules.{rules}
+use Rattle.encoder.proofs.AssertionLaws.{asserting_start, asserting_on, asserting_past, asserting_end}
 use Rattle.encoder.proofs.assertions.put_assertions.Goals as goal
 
 pub loop-i-init : goal.loop-i-init

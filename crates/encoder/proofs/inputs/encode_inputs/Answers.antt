@@ -1,9 +1,6 @@
 -- `encoder::inputs::encode_inputs` meets its contract: the loop has encoded the inputs before its count.
 -- Assumes nothing.
-use native.Mathlib.Omega.{arith}
-use Prim.Native.Nat.{◌-◌}
-use Rattle.encoder.proofs.InputLaws.{Encoding, encoding_start, encoding_on, encoding_end}
-use borrow.Author.Rules.{rules}
+use Rattle.encoder.proofs.InputLaws.{encoding_start, encoding_on, encoding_end}
 use Rattle.encoder.proofs.inputs.encode_inputs.Goals as goal
 
 pub loop-i-init : goal.loop-i-init

@@ -1,9 +1,7 @@
 -- `encoder::inputs::encode_inputs` meets its contract: the loop has encoded the inputs before its count.
 -- Assumes nothing.
-use native.Mathlib.Omega.{arith}
 use Prim.Native.Nat.{◌-◌}
-use Rattle.encoder.proofs.InputLaws.{Encoding, encoding_start, encoding_on, encoding_end}
-use borrow.Author.Rules.{rules}
+use Rattle.encoder.proofs.InputLaws.{Encoding}
 use Rattle.encoder.proofs.inputs.encode_inputs.Given as goal
 
 abbrev pub invariant-loop-i : goal.invariant-loop-i

@@ -1,7 +1,6 @@
 -- `encoder::print::print` meets its contract: a long file, a script, a refusal.
 -- Assumes nothing.
 use Rattle.encoder.proofs.PrintLaws.{prints_long, prints_script, prints_refused}
-use borrow.Author.Rules.{rules}
 use Rattle.encoder.proofs.print.print.Goals as goal
 
 pub returns-then-file-gt-LONGEST : goal.returns-then-file-gt-LONGEST

@@ -7,7 +7,6 @@ use Rattle.write_bytes.specs.declared.Written.{Written}
 use Rattle.encoder.specs.Printing.{written}
 use Rattle.encoder.proofs.PrintLaws.{refusal_shown}
 use native.Mathlib.Omega.{arith}
-use borrow.Author.Rules.{rules}
 use Rattle.encoder.proofs.print.print_refusal.Goals as goal
 
 pub returns-in-Length : goal.returns-in-Length

@@ -4,7 +4,6 @@ use Rattle.script_spec.specs.Base.{bytes}
 use Rattle.script_spec.specs.Walk.{printed}
 use Rattle.write_bytes.proofs.Laws.{◌then◌, from_start, line_past}
 use Rattle.encoder.proofs.PrintLaws.{refusal_some}
-use borrow.Author.Rules.{rules}
 use Rattle.encoder.proofs.print.put_refusal.Goals as goal
 
 pub returns-then-room-eq0 : goal.returns-then-room-eq0

@@ -9,7 +9,6 @@ use Rattle.script_spec.specs.Spelling.{option_declaration}
 use Rattle.script_spec.specs.Walk.{start}
 use Rattle.smtlib_script.specs.Opened.{opened}
 use Rattle.write_bytes.proofs.Laws.{◌then◌, says, from_start, line_past, line_some}
-use borrow.Author.Rules.{rules}
 use Rattle.encoder.proofs.start.put_start.Goals as goal
 
 pub returns-then-room-eq0 : goal.returns-then-room-eq0

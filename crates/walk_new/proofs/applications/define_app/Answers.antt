@@ -1,6 +1,5 @@
 -- `walk_new::applications::define_app` meets its contract.
 -- Assumes nothing.
-use borrow.Author.Rules.{rules}
 use Rattle.walk_new.proofs.ApplicationLaws.{app_other}
 use Rattle.walk_new.proofs.applications.define_app.Goals as goal
 

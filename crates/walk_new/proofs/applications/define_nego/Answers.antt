@@ -1,6 +1,5 @@
 -- `walk_new::applications::define_nego` meets its contract: each answer by its arm.
 -- Assumes nothing.
-use borrow.Author.Rules.{rules}
 use Rattle.walk_new.proofs.ApplicationLaws.{app_false, app_comparison, app_ordinary}
 use Rattle.walk_new.proofs.applications.define_nego.Goals as goal
 

@@ -1,6 +1,5 @@
 -- `walk_new::applications::define_ordinary` meets its contract: each operator by its arm.
 -- Assumes nothing.
-use borrow.Author.Rules.{rules}
 use Rattle.walk_new.proofs.OperatorLaws.{ordinary_get, ordinary_pattern, ordinary_uuf, ordinary_other}
 use borrow.Enum.Refused.{opened}
 use Rattle.walk_new.proofs.applications.define_ordinary.Goals as goal

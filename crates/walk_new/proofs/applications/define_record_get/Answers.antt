@@ -1,6 +1,5 @@
 -- `walk_new::applications::define_record_get` meets its contract.
 -- Assumes nothing.
-use borrow.Author.Rules.{rules}
 use Rattle.walk_new.proofs.OperatorLaws.{record_get_then}
 use Rattle.walk_new.proofs.applications.define_record_get.Goals as goal
 

@@ -1,6 +1,5 @@
 -- `walk_new::attributes::check_attribute` meets its contract.
 -- Assumes nothing.
-use borrow.Author.Rules.{rules}
 use Rattle.walk_new.proofs.Testing.{tests_refused}
 use Rattle.walk_new.proofs.AttributeLaws.{attribute_unnamed, attribute_plain, attribute_missing, attribute_found}
 use Rattle.walk_new.proofs.attributes.check_attribute.Goals as goal

@@ -1,6 +1,5 @@
 -- `walk_new::attributes::record_get` meets its contract.
 -- Assumes nothing.
-use borrow.Author.Rules.{rules}
 use Rattle.walk_new.proofs.Testing.{tests_refused}
 use Rattle.walk_new.proofs.AttributeLaws.{get_none, get_child}
 use Rattle.walk_new.proofs.attributes.record_get.Goals as goal

@@ -1,6 +1,5 @@
 -- `walk_new::collections::define_some` meets its contract: after a refusal, and else a name and a line in the rest.
 -- Assumes nothing.
-use borrow.Author.Rules.{rules}
 use Rattle.walk_names.proofs.Running.{advances_refused}
 use Rattle.walk_new.proofs.Defining.{defines}
 use Rattle.walk_new.proofs.collections.define_some.Goals as goal

@@ -1,6 +1,5 @@
 -- `walk_new::entities::define_entity` meets its contract.
 -- Assumes nothing.
-use borrow.Author.Rules.{rules}
 use Rattle.walk_names.proofs.Running.{advances_refused}
 use Rattle.walk_new.proofs.EntityLaws.{entity_plain, entity_outside, entity_member}
 use Rattle.walk_new.proofs.entities.define_entity.Goals as goal

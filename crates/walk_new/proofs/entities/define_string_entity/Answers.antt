@@ -1,6 +1,5 @@
 -- `walk_new::entities::define_string_entity` meets its contract.
 -- Assumes nothing.
-use borrow.Author.Rules.{rules}
 use Rattle.walk_new.proofs.EntityLaws.{string_entity}
 use Rattle.walk_new.proofs.entities.define_string_entity.Goals as goal
 

@@ -1,6 +1,5 @@
 -- `walk_new::news::declare_var` meets its contract: after a refusal, and else a name and a line in the rest.
 -- Assumes nothing.
-use borrow.Author.Rules.{rules}
 use Rattle.walk_names.proofs.Running.{advances_refused}
 use Rattle.walk_new.proofs.Defining.{declares}
 use Rattle.walk_new.proofs.news.declare_var.Goals as goal

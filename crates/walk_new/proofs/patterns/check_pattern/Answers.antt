@@ -1,6 +1,5 @@
 -- `walk_new::patterns::check_pattern` meets its contract.
 -- Assumes nothing.
-use borrow.Author.Rules.{rules}
 use Rattle.walk_new.proofs.Testing.{pattern_refused, pattern_passed, pattern_stopped}
 use Rattle.walk_new.proofs.patterns.check_pattern.Goals as goal
 

@@ -1,6 +1,5 @@
 -- `walk_new::steps::enter` meets its contract.
 -- Assumes nothing.
-use borrow.Author.Rules.{rules}
 use Rattle.walk_new.proofs.Entering.{enters_refused, enters}
 use Rattle.walk_new.proofs.steps.enter.Goals as goal
 

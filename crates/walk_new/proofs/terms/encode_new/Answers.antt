@@ -1,8 +1,6 @@
 -- `walk_new::terms::encode_new` meets its contract.
 -- Assumes nothing.
-use borrow.Author.Rules.{rules}
 use Rattle.walk_new.proofs.TermLaws.{new_var, new_bool, new_bits, new_string, new_entity, new_some, new_set, new_record, new_app, new_unreadable, new_defined}
-use borrow.Enum.Refused.{opened}
 use Rattle.walk_new.proofs.terms.encode_new.Goals as goal
 
 pub returns-in-Var : goal.returns-in-Var

@@ -1,7 +1,6 @@
 -- `walk_new::texts::check_literal` meets its contract: a literal that has a note has passed, and one that passes gets it.
 -- Assumes nothing.
 use Rattle.walk_new.proofs.Testing.{literal_refused, literal_again, literal_passed, literal_stopped}
-use borrow.Author.Rules.{rules}
 use Rattle.walk_new.proofs.texts.check_literal.Goals as goal
 
 pub returns-then-p-ne0 : goal.returns-then-p-ne0

@@ -1,6 +1,5 @@
 -- `walk_new::texts::check_text` meets its contract.
 -- Assumes nothing.
-use borrow.Author.Rules.{rules}
 use Rattle.walk_new.proofs.Testing.{text_refused, text_passed, text_stopped}
 use Rattle.walk_new.proofs.texts.check_text.Goals as goal
 

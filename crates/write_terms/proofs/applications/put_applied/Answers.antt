@@ -2,7 +2,6 @@
 -- Assumes nothing.
 use Rattle.script_spec.specs.Base.{bytes}
 use Rattle.write_terms.proofs.ApplicationLaws.{spells_applied}
-use borrow.Author.Rules.{rules}
 use Rattle.write_terms.proofs.applications.put_applied.Goals as goal
 
 pub returns : goal.returns

@@ -2,7 +2,6 @@
 -- Assumes nothing.
 use Rattle.script_spec.specs.Base.{bytes}
 use Rattle.write_terms.proofs.ApplicationLaws.{spells_comparison}
-use borrow.Author.Rules.{rules}
 use Rattle.write_terms.proofs.applications.put_comparison.Goals as goal
 
 pub returns : goal.returns

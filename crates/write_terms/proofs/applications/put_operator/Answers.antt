@@ -1,7 +1,6 @@
 -- `write_terms::applications::put_operator` meets its contract.
 -- Assumes nothing.
 use Rattle.write_terms.proofs.ApplicationLaws.{operator_like, operator_applied}
-use borrow.Author.Rules.{rules}
 use borrow.Enum.Refused.{opened}
 use Rattle.write_terms.proofs.applications.put_operator.Goals as goal
 

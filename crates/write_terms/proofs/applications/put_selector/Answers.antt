@@ -4,7 +4,6 @@ use mathlib.Core.Path.{◌∙◌}
 use Rattle.script_spec.specs.Base.{bytes}
 use Rattle.write_terms.proofs.HeadLaws.{selector_of, selector_none, selector_past, selector_at, selector_nowhere}
 use native.Mathlib.Omega.{arith}
-use borrow.Author.Rules.{rules}
 use borrow.Enum.Refused.{opened}
 use Rattle.write_terms.proofs.applications.put_selector.Goals as goal
 

@@ -3,7 +3,6 @@
 use Rattle.script_spec.specs.Base.{bytes}
 use Rattle.write_bytes.proofs.Laws.{◌then◌, says}
 use Rattle.write_terms.proofs.HeadLaws.{zero_extend_pieces}
-use borrow.Author.Rules.{rules}
 use Rattle.write_terms.proofs.applications.put_zero_extend.Goals as goal
 
 pub returns : goal.returns

@@ -1,9 +1,8 @@
 -- `write_terms::arguments::put_arguments` meets its contract. The loop's invariant: the children that are left, after those that were written, make the whole.
 -- Assumes nothing.
-use mathlib.Core.Path.{◌≡◌, refl}
-use lib.ListN.{length}
+use mathlib.Core.Path.{refl}
 use Rattle.script_spec.specs.Base.{bytes}
-use Rattle.write_terms.proofs.ArgumentLaws.{ArgumentsLeft, arguments_start, arguments_on, arguments_past, arguments_end}
+use Rattle.write_terms.proofs.ArgumentLaws.{arguments_start, arguments_on, arguments_past, arguments_end}
 use native.Mathlib.Omega.{arith}
 use borrow.Author.Rules.{rules}
 use Rattle.write_terms.proofs.arguments.put_arguments.Goals as goal

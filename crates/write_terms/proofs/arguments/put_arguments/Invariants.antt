@@ -1,11 +1,8 @@
 -- `write_terms::arguments::put_arguments` meets its contract. The loop's invariant: the children that are left, after those that were written, make the whole.
 -- Assumes nothing.
-use mathlib.Core.Path.{◌≡◌, refl}
+use mathlib.Core.Path.{◌≡◌}
 use lib.ListN.{length}
-use Rattle.script_spec.specs.Base.{bytes}
-use Rattle.write_terms.proofs.ArgumentLaws.{ArgumentsLeft, arguments_start, arguments_on, arguments_past, arguments_end}
-use native.Mathlib.Omega.{arith}
-use borrow.Author.Rules.{rules}
+use Rattle.write_terms.proofs.ArgumentLaws.{ArgumentsLeft}
 use Rattle.write_terms.proofs.arguments.put_arguments.Given as goal
 
 abbrev pub invariant-loop-rest : goal.invariant-loop-rest

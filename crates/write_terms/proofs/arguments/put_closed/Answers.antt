@@ -2,7 +2,6 @@
 -- Assumes nothing.
 use Rattle.script_spec.specs.Base.{bytes}
 use Rattle.write_terms.proofs.ArgumentLaws.{closed_none, closed_some}
-use borrow.Author.Rules.{rules}
 use Rattle.write_terms.proofs.arguments.put_closed.Goals as goal
 
 pub returns-then-c-eq0 : goal.returns-then-c-eq0

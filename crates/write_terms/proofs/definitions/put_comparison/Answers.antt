@@ -1,6 +1,5 @@
 -- `write_terms::definitions::put_comparison` meets its contract: nothing counts, or head, term and end are a line.
 -- Assumes nothing.
-use borrow.Author.Rules.{rules}
 use Rattle.write_terms.proofs.ApplicationLaws.{spells_compared}
 use Rattle.write_terms.proofs.BodyLaws.{body_over_lem}
 use Rattle.write_terms.proofs.DefinitionLaws.{definition_past, definition_line}

@@ -1,6 +1,5 @@
 -- `write_terms::definitions::put_definition` meets its contract: nothing counts, or head, term and end are a line.
 -- Assumes nothing.
-use borrow.Author.Rules.{rules}
 use Rattle.write_terms.proofs.DefinitionLaws.{definition_past, definition_line}
 use Rattle.write_terms.proofs.definitions.put_definition.Goals as goal
 

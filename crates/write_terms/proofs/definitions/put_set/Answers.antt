@@ -1,6 +1,5 @@
 -- `write_terms::definitions::put_set` meets its contract: nothing counts, or head, term and end are a line.
 -- Assumes nothing.
-use borrow.Author.Rules.{rules}
 use Rattle.write_terms.proofs.BodyLaws.{body_set}
 use Rattle.write_terms.proofs.DefinitionLaws.{definition_past, definition_line}
 use Rattle.write_terms.proofs.definitions.put_set.Goals as goal

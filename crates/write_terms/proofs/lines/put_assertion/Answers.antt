@@ -3,7 +3,6 @@
 use Rattle.script_spec.specs.Base.{bytes}
 use Rattle.smtlib_script.specs.Opened.{opened}
 use Rattle.write_terms.proofs.LineLaws.{assertion_past, spells_assertion}
-use borrow.Author.Rules.{rules}
 use Rattle.write_terms.proofs.lines.put_assertion.Goals as goal
 
 pub returns-then-room-eq0 : goal.returns-then-room-eq0

@@ -2,7 +2,6 @@
 -- Assumes nothing.
 use Rattle.script_spec.specs.Base.{bytes}
 use Rattle.write_terms.proofs.BodyLaws.{body_entity, body_value, body_none, body_atom}
-use borrow.Author.Rules.{rules}
 use borrow.Enum.Refused.{opened}
 use Rattle.write_terms.proofs.lines.put_body.Goals as goal
 

@@ -2,7 +2,6 @@
 -- Assumes nothing.
 use Rattle.script_spec.specs.Base.{bytes}
 use Rattle.write_terms.proofs.BodyLaws.{spells_constructed}
-use borrow.Author.Rules.{rules}
 use Rattle.write_terms.proofs.lines.put_constructed.Goals as goal
 
 pub returns : goal.returns

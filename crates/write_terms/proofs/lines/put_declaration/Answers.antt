@@ -1,7 +1,6 @@
 -- `write_terms::lines::put_declaration` meets its contract: nothing with no room, and else by whether the term is a variable.
 -- Assumes nothing.
 use Rattle.write_terms.proofs.LineLaws.{variable_past, variable_named, variable_never}
-use borrow.Author.Rules.{rules}
 use borrow.Enum.Refused.{opened}
 use Rattle.write_terms.proofs.lines.put_declaration.Goals as goal
 

@@ -1,7 +1,6 @@
 -- `write_terms::lines::put_end` meets its contract.
 -- Assumes nothing.
 use Rattle.script_spec.specs.Base.{bytes}
-use borrow.Author.Rules.{rules}
 use Rattle.write_terms.proofs.lines.put_end.Goals as goal
 
 pub returns : goal.returns

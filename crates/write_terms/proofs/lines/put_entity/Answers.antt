@@ -1,7 +1,6 @@
 -- `write_terms::lines::put_entity` meets its contract.
 -- Assumes nothing.
 use Rattle.write_terms.proofs.BodyLaws.{entity_past, entity_constructed, entity_atom}
-use borrow.Author.Rules.{rules}
 use borrow.Enum.Refused.{opened}
 use Rattle.write_terms.proofs.lines.put_entity.Goals as goal
 

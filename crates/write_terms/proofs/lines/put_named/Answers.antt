@@ -1,7 +1,6 @@
 -- `write_terms::lines::put_named` meets its contract: a line, and a line in the rest after it.
 -- Assumes nothing.
 use Rattle.write_terms.proofs.LineLaws.{spells_named}
-use borrow.Author.Rules.{rules}
 use Rattle.write_terms.proofs.lines.put_named.Goals as goal
 
 pub returns : goal.returns

@@ -2,7 +2,6 @@
 -- Assumes nothing.
 use Rattle.script_spec.specs.Base.{bytes}
 use Rattle.write_terms.proofs.ValueLaws.{record_none, spells_record}
-use borrow.Author.Rules.{rules}
 use Rattle.write_terms.proofs.values.put_record.Goals as goal
 
 pub returns-then-c-eq0 : goal.returns-then-c-eq0

@@ -2,7 +2,6 @@
 -- Assumes nothing.
 use Rattle.script_spec.specs.Base.{bytes}
 use Rattle.write_terms.proofs.ValueLaws.{set_none, spells_set}
-use borrow.Author.Rules.{rules}
 use Rattle.write_terms.proofs.values.put_set.Goals as goal
 
 pub returns-then-c-eq0 : goal.returns-then-c-eq0

@@ -2,7 +2,6 @@
 -- Assumes nothing.
 use Rattle.script_spec.specs.Base.{bytes}
 use Rattle.write_terms.proofs.ValueLaws.{spells_some}
-use borrow.Author.Rules.{rules}
 use Rattle.write_terms.proofs.values.put_some.Goals as goal
 
 pub returns : goal.returns

@@ -2,7 +2,6 @@
 -- Assumes nothing.
 use mathlib.Core.Path.{◌∙◌}
 use Rattle.write_terms.proofs.ValueLaws.{term_sort}
-use borrow.Author.Rules.{rules}
 use Rattle.write_terms.proofs.values.put_term_sort.Goals as goal
 
 pub returns : goal.returns
