@@ -61,7 +61,7 @@ fn check_argument(
     work: &mut [u32],
 ) -> io::Result<()> {
     let mut buffer = [0u8; 4096];
-    let path = read_input::argument(rt, i, &mut buffer)?;
+    let path = read_input::argument(rt, i, &mut buffer);
     check_file(rt, path, file, work)
 }
 

@@ -7,7 +7,7 @@ ghost use Rattle.std.specs.Io.KnownBytes.{Consumes, IsAtEnd};
 
 use std::env::Env;
 use std::io;
-use std::io::{ErrorKind, Read};
+use std::io::Read;
 
 // Reads until the buffer is full or the input ends, and answers how many bytes stand at the buffer's start. It reads no more than the
 // buffer takes, and where a read fails it answers the error.
@@ -27,11 +27,11 @@ pub fn fill<R: Read>(reader: &mut R, buf: &mut [u8]) -> io::Result<usize>
     Ok(done)
 }
 
-// The text of argument i, which the buffer takes. It answers an error where there is no such argument, where the argument is longer than
-// the buffer, and where it is not UTF-8.
-pub fn argument<'a>(rt: &impl Env, i: usize, buf: &'a mut [u8]) -> io::Result<&'a str> {
+// The text of argument i, which the buffer takes. It is empty where there is no such argument, where the argument is longer than the
+// buffer, and where it is not UTF-8.
+pub fn argument<'a>(rt: &impl Env, i: usize, buf: &'a mut [u8]) -> &'a str {
     match rt.arg(i, buf) {
-        Ok(n) => str::from_utf8(&buf[..n]).map_err(|_| io::Error::from(ErrorKind::InvalidData)),
-        Err(_) => Err(io::Error::from(ErrorKind::InvalidInput)),
+        Ok(n) => str::from_utf8(&buf[..n]).unwrap_or(""),
+        Err(_) => "",
     }
 }

@@ -1,4 +1,4 @@
-// What other languages link: check, encode and the writers of commands, with the answers as numbers. Each function answers 0, or
+// What other languages call: check, encode and the writers of commands, with the answers as numbers. Each function answers 0, or
 // a refusal's number times 2^32 plus the place of its record.
 #![tactic(auto)]
 

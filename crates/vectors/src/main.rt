@@ -23,7 +23,7 @@ fn read_argument(
     bytes: &mut [u8],
 ) -> io::Result<usize> {
     let mut buffer = [0u8; 4096];
-    let path = read_input::argument(rt, i, &mut buffer)?;
+    let path = read_input::argument(rt, i, &mut buffer);
     match read_file(rt, path, bytes) {
         Ok(n) => Ok(n),
         Err(e) => {
@@ -36,7 +36,7 @@ fn read_argument(
 // Writes argument i as a line.
 fn show_argument(rt: &(impl Env + Print), i: usize) -> io::Result<()> {
     let mut buffer = [0u8; 4096];
-    let path = read_input::argument(rt, i, &mut buffer)?;
+    let path = read_input::argument(rt, i, &mut buffer);
     println!(rt; "{path} differs")
 }
 
