@@ -1,12 +1,12 @@
 -- What is printed lies in its buffer, and the answer to the start that was read of a file is the answer to the file.
-use Rattle.std.proofs.Common.{◌≡◌, refl, sym, ap, ◌∙◌, subst, ℕ, ◌+◌, ◌<◌, ◌≤◌, Bool, true, false, List, ◌++◌, leb, length, take, arith, rules}
+use Rattle.std.proofs.Common.{◌≡◌, refl, sym, ap, ◌∙◌, subst, ℕ, ◌<◌, ◌≤◌, Bool, true, false, ◌++◌, leb, length, arith}
 use Rattle.std.proofs.lemmas.Bool.{lt-leb, leb-true, leb-false}
 use Rattle.std.proofs.Math.ListN.{length-append}
 use mathlib.Core.List.{append-nil}
-use Rattle.std.specs.Prelude.{None, Some, IfSome, IfOk, OnOk, Ok, Err}
+use Rattle.std.specs.Prelude.{None, Some, IfSome, OnOk, Ok, Err}
 use Rattle.std.specs.Io.KnownBytes.{Appends, Consumes, IsAtEnd}
-use Rattle.core.specs.declared.option.Option.{Option}
-use Rattle.core.specs.declared.result.Result.{Result}
+use Rattle.std.specs.declared.option.Option.{Option}
+use Rattle.std.specs.declared.result.Result.{Result}
 use Rattle.script_spec.specs.Base.{Bytes, accepted, refused}
 use Rattle.script_spec.specs.Command.{fitting}
 use Rattle.script_spec.specs.Walk.{printed, termscript}

@@ -1,5 +1,5 @@
 -- `termscript_run::answer`: what is printed lies in its buffer.
-use Rattle.std.proofs.Common.{◌≡◌, sym, arith, rules, length-take-le}
+use Rattle.std.proofs.Common.{sym, arith, length-take-le}
 use Rattle.termscript_run.proofs.RunLaws.{shown_within}
 use Rattle.termscript_run.proofs.answer.Goals as goal
 

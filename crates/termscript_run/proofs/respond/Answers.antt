@@ -1,5 +1,5 @@
 -- `termscript_run::respond`: the answer to the start that was read is the answer to the file.
-use Rattle.std.proofs.Common.{rules, arith}
+use Rattle.std.proofs.Common.{arith}
 use Rattle.termscript_run.proofs.RunLaws.{answered, on_ok}
 use Rattle.termscript_run.proofs.respond.Goals as goal
 
