@@ -2,16 +2,18 @@
 // the others, one after another.
 #![tactic(auto)]
 
-use check_file::Checked;
+use refusal::Refused;
 use std::env::{Env, FillError};
 use std::fs::Files;
 use std::io::{Input, Read};
 use std::{fs, io};
 
-fn show(rt: &impl Print, answer: Checked) -> io::Result<()> {
+fn show(rt: &impl Print, answer: Result<(), Refused>) -> io::Result<()> {
     match answer {
-        Checked::Accepted => println!(rt; ": accepted"),
-        Checked::Refused(n, place) => println!(rt; ": refused {n} record {place}"),
+        Ok(()) => println!(rt; ": accepted"),
+        Err(Refused { refusal, place }) => {
+            println!(rt; ": refused {} record {place}", refusal.number())
+        }
     }
 }
 
@@ -84,19 +86,14 @@ fn check_arguments(
     Ok(())
 }
 
-// The number in four bytes, low byte first.
-fn number(b: &[u8; 4]) -> usize {
-    read_field::word(b[0], b[1], b[2], b[3]) as usize
-}
-
-// The next number of the input; none where it ends.
-fn next_number(input: &mut impl Read) -> io::Result<usize> {
+// The next number of the input, of four bytes, low byte first; none where the input ends.
+fn next_number(input: &mut impl Read) -> io::Result<Option<usize>> {
     let mut bytes = [0u8; 4];
     let n = read_input::fill(input, &mut bytes)?;
     if n < 4 {
-        return Ok(usize::MAX);
+        return Ok(None);
     }
-    Ok(number(&bytes))
+    Ok(Some(u32::from_le_bytes(bytes) as usize))
 }
 
 // Reads a text of this length, and writes it.
@@ -107,12 +104,13 @@ fn copy(rt: &impl Print, input: &mut impl Read, part: &mut [u8]) -> io::Result<(
 
 // Reads a name and writes it; answers whether there was one.
 fn copy_name(rt: &impl Print, input: &mut impl Read, name: &mut [u8]) -> io::Result<bool> {
-    let length = next_number(input)?;
-    if name.len() < length {
-        return Ok(false);
+    match next_number(input)? {
+        Some(length) if length <= name.len() => {
+            copy(rt, input, &mut name[..length])?;
+            Ok(true)
+        }
+        _ => Ok(false),
     }
-    copy(rt, input, &mut name[..length])?;
-    Ok(true)
 }
 
 // Reads the first n bytes of a file.
@@ -125,10 +123,8 @@ fn read_first(input: &mut impl Read, file: &mut [u8], n: usize) -> io::Result<()
 
 // Repeats the first n bytes of a file until it has so many.
 fn repeat(file: &mut [u8], n: usize, size: usize) {
-    let mut i = n;
-    while i < size && i < file.len() {
+    for i in n..size.min(file.len()) {
         file[i] = file[i - n];
-        i += 1;
     }
 }
 
@@ -143,9 +139,9 @@ fn check_case(
     if !copy_name(rt, input, &mut name)? {
         return Ok(false);
     }
-    let entries = next_number(input)?;
-    let size = next_number(input)?;
-    let n = next_number(input)?;
+    let entries = next_number(input)?.unwrap_or(usize::MAX);
+    let size = next_number(input)?.unwrap_or(usize::MAX);
+    let n = next_number(input)?.unwrap_or(usize::MAX);
     read_first(input, file, n)?;
     repeat(file, n, size);
     check_first(rt, file, size, work, entries)?;

@@ -1,30 +1,35 @@
 -- An enum is entered: the rules by its members and its name, and its row.
 -- Assumes nothing.
 use mathlib.Core.Path.{◌≡◌, refl, sym, ap, ◌∙◌}
-use mathlib.Core.Logic.{⊎_elim}
-use Prim.Native.Nat.{ℕ, suc, ◌≤◌, ◌<◌}
+use Prim.Native.Nat.{ℕ, ◌+◌, min}
 use native.Mathlib.Omega.{arith}
 use mathlib.Core.Bool.{Bool, true, false, not}
 use mathlib.Core.List.{List, [], ◌∷◌}
 use mathlib.Core.Option.{some}
 use lib.ListN.{length}
+use Rattle.std.specs.Prelude as rust
+use Rattle.std.specs.Prelude.{Option, Some, None, Ok, Err}
 use Rattle.script_spec.specs.Base.{Bytes, is_some, lookup, ascending, empty}
 use Rattle.script_spec.specs.Fields.{enum}
 use Rattle.script_spec.specs.File.{TermFile, enums, members, earlier, rules, broken}
 use Rattle.index.specs.Cells.{store, enum_offset, enum_place, enum_list}
 use Rattle.index.specs.Standing.{entry_at}
-use Rattle.index.specs.Meaning.{Stands, SizesOf}
+use Rattle.index.specs.Meaning.{Stands}
 use Rattle.index.specs.declared.Sizes.{Sizes}
+use Rattle.index.specs.declared.RecordsMut.{RecordsMut}
+use Rattle.index.proofs.Growth.{counts_fewer}
+use Rattle.refusal.specs.Numbers.{number}
+use Rattle.refusal.specs.declared.Refusal.TheVariants.{NotAscending, NothingGiven, SecondEnum}
 use Rattle.index.proofs.Entered.{enum_entry}
 use Rattle.check_rules.specs.Enums.{EnumAscends, EnumGiven, NameAt}
-use Rattle.index_search.specs.Searchable.{Indexed}
-use Rattle.index_search.specs.Named.{KnownName, NewName, EnrolsNamed}
+use Rattle.index_search.specs.Named.{EnrolsNamed}
 use Rattle.index_search.proofs.Lookup.{lookup_named, lookup_unnamed}
 use Rattle.index_search.proofs.Entered.{indexed_enum}
 use Rattle.check_enter.specs.Entering.{Enters}
 use Rattle.check_enter.specs.Enums.{enum_named}
 use Rattle.check_enter.proofs.FirstBroken.{broken_here, broken_later, none_broken}
-use Rattle.check_enter.specs.declared.Entered.TheVariants.{Done, Broken}
+use Rattle.check_enter.proofs.Rewritten.{Rewritten, keeps_counted, keeps_same, keeps_stays, unchanged, indexed_as, sizes_as, one_more}
+use Rattle.check_enter.proofs.Sizes.{sizes_enum}
 
 module _ {file : Bytes} {f : TermFile} {o : ℕ} (p : Bytes × List Bytes) (s : Stands file f (earlier f) o (enum_named p)) where
   enum_reads : entry_at file o ≡ some (enum p.0 p.1)
@@ -36,55 +41,61 @@ module _ {file : Bytes} {f : TermFile} {o : ℕ} (p : Bytes × List Bytes) (s : 
   unfolding enum_named rules members
   enum_rules e e' e'' = rw (e, e', e'')
 
-module _ (file : Bytes) (work : List ℕ) (sizes : Sizes) (o place : ℕ) {a : Bool} (A : EnumAscends file o a) where
-  pub enum_unordered : a ≡ false → Enters enum_named file work work sizes o place (Broken 9)
-  enum_unordered h = record { go = λ f I c room here p s. record { rule = enum_rules p s (A.go p.0 p.1 (enum_reads p s)) refl refl ∙ broken_here 9 _ h; memory = refl } }
+module _ (v : RecordsMut) (o place : ℕ) {a : Bool} (A : EnumAscends v.file.now o a) where
+  pub enum_unordered : a ≡ false → Enters enum_named v v o place (Err NotAscending)
+  unfolding number
+  enum_unordered h = record { kept = keeps_same v; go = λ f C room here p s. record { rule = enum_rules p s (A.go p.0 p.1 (enum_reads p s)) refl refl ∙ broken_here 9 _ h; memory = unchanged v } }
 
-  module _ {b : Bool} (B : EnumGiven file o b) where
-    pub enum_empty : a ≡ true → b ≡ false → Enters enum_named file work work sizes o place (Broken 10)
-    enum_empty h g = record { go = λ f I c room here p s. record { rule = enum_rules p s (A.go p.0 p.1 (enum_reads p s)) (B.go p.0 p.1 (enum_reads p s)) refl ∙ broken_later 9 _ h ∙ broken_here 10 _ g; memory = refl } }
+  module _ {b : Bool} (B : EnumGiven v.file.now o b) where
+    pub enum_empty : a ≡ true → b ≡ false → Enters enum_named v v o place (Err NothingGiven)
+    unfolding number
+    enum_empty h g =
+        record { kept = keeps_same v; go = λ f C room here p s. record { rule = enum_rules p s (A.go p.0 p.1 (enum_reads p s)) (B.go p.0 p.1 (enum_reads p s)) refl ∙ broken_later 9 _ h ∙ broken_here 10 _ g; memory = unchanged v } }
 
-    module _ {work' : List ℕ} {name : Bytes} {r : ℕ} (N : NameAt file o name) (E : EnrolsNamed file work work' sizes name r) where
+    module _ {name : Bytes} (N : NameAt v.file.now o name) where
       -- the name that is read is the enum's
-      name_is : {f : TermFile} (p : Bytes × List Bytes) → Stands file f (earlier f) o (enum_named p) → name ≡ p.0
+      name_is : {f : TermFile} (p : Bytes × List Bytes) → Stands v.file.now f (earlier f) o (enum_named p) → name ≡ p.0
       name_is p s = N.go p.0 p.1 (enum_reads p s)
 
       -- the rules by the three tests
-      all_rules : {f : TermFile} {t : Bool} (p : Bytes × List Bytes) (s : Stands file f (earlier f) o (enum_named p)) → a ≡ true → b ≡ true → t ≡ is_some (lookup name (enums f))
+      all_rules : {f : TermFile} {t : Bool} (p : Bytes × List Bytes) (s : Stands v.file.now f (earlier f) o (enum_named p)) → a ≡ true → b ≡ true → t ≡ is_some (lookup name (enums f))
           → broken (rules f (enum_named p)) ≡ broken ((11, not t) ∷ [])
       all_rules {f} p s h g q =
           enum_rules p s (A.go p.0 p.1 (enum_reads p s)) (B.go p.0 p.1 (enum_reads p s)) (q ∙ ap (λ (x : Bytes). is_some (lookup x (enums f))) (name_is p s))
           ∙ broken_later 9 _ h ∙ broken_later 10 _ g
 
       -- an enum has the name
-      name_known : r < sizes.enums → {f : TermFile} → Indexed file f work sizes.rows → SizesOf f sizes → suc (length f) ≤ sizes.rows → KnownName work work' f sizes.enums name r
-      name_known l {f} I c room = ⊎_elim (λ K. K) (λ M. absurd (omega (arith, M.miss.is))) (E.go f I c room)
-
-      pub enum_taken : a ≡ true → b ≡ true → r < sizes.enums → Enters enum_named file work work' sizes o place (Broken 11)
-      unfolding is_some
-      enum_taken h g l =
+      pub enum_taken : {w : RecordsMut} (r : Option ℕ) → EnrolsNamed v w name r → a ≡ true → b ≡ true → rust.is_some r ≡ true → Enters enum_named v w o place (Err SecondEnum)
+      unfolding is_some number
+      enum_taken None E h g l = let z : ⊥ = cc in absurd z
+      enum_taken (Some n) E h g l =
           record {
-            go = λ f I c room here p s.
-                let K = name_known l I c room in
+            kept = keeps_stays E.stays;
+            go = λ f C room here p s.
+                let K = E.go f C.indexed C.sizes_are room in
                 record {
-                  rule = all_rules p s h g (sym (ap is_some (lookup_named name r I.index (omega (arith, K.hit.below, c.enums_are)) K.hit.equal))) ∙ broken_here 11 _ refl;
-                  memory = K.unchanged;
+                  rule = all_rules p s h g (sym (ap is_some (lookup_named name n C.indexed.index (omega (arith, K.hit.below, C.sizes_are.enums_are)) K.hit.equal))) ∙ broken_here 11 _ refl;
+                  memory = record { memory = K.unchanged; sizes_are = E.stays.sizes_are };
                 };
           }
 
       -- no enum has the name
-      name_new : sizes.enums ≤ r → {f : TermFile} → Indexed file f work sizes.rows → SizesOf f sizes → suc (length f) ≤ sizes.rows → NewName work work' sizes.rows f sizes.enums name r
-      name_new l {f} I c room = ⊎_elim (λ K. absurd (omega (arith, K.hit.below))) (λ M. M) (E.go f I c room)
-
-      pub enum_entered : {work₁ work₂ work₃ : List ℕ} → a ≡ true → b ≡ true → sizes.enums ≤ r → work₁ ≡ store work' sizes.rows enum_offset sizes.enums o → work₂ ≡ store work₁ sizes.rows enum_place sizes.enums place → work₃ ≡ store work₂ sizes.rows enum_list sizes.enums 0
-          → Enters enum_named file work work₃ sizes o place Done
+      pub enum_entered : {w x : RecordsMut} {m : ℕ} (r : Option ℕ) → EnrolsNamed v w name r → a ≡ true → b ≡ true → rust.is_some r ≡ false
+          → Rewritten v x (store (store (store w.work.now v.sizes.rows enum_offset v.sizes.enums o) v.sizes.rows enum_place v.sizes.enums place) v.sizes.rows enum_list v.sizes.enums 0) → m ≡ min (v.sizes.enums + 1) 4294967295
+          → Enters enum_named v (record { file = x.file; work = x.work; sizes = record { rows = x.sizes.rows; types = x.sizes.types; funs = x.sizes.funs; terms = x.sizes.terms; enums = m; inputs = x.sizes.inputs } }) o place (Ok tt)
       unfolding enum_named is_some
-      enum_entered h g l e₁ e₂ e₃ =
+      enum_entered (Some n) E h g l R more = let z : ⊥ = cc in absurd z
+      enum_entered None E h g l R more =
           record {
-            go = λ f I c room here p s.
-                let M = name_new l I c room in
+            kept = keeps_counted R _ refl;
+            go = λ f C room here p s.
+                let M = E.go f C.indexed C.sizes_are room in
+                let c = C.sizes_are in
                 record {
                   rule = all_rules p s h g (sym (ap is_some (lookup_unnamed f name (λ n m q. M.miss.none n (omega (arith, c.enums_are)) q)))) ∙ broken_later 11 _ refl ∙ none_broken;
-                  memory = rw (e₃, e₂, e₁, c.enums_are, here) (indexed_enum I room (rw (c.enums_are, name_is p s) at M) s);
+                  memory = record {
+                    indexed = indexed_as R (rw (c.enums_are, here) (indexed_enum C.indexed room (rw (c.enums_are, name_is p s) at M) s));
+                    sizes_are = sizes_enum (sizes_as R c) p.0 p.1 (one_more more (ap (λ (s : Sizes). s.enums) R.becomes.sizes_are) (omega (arith, c.enums_are, (counts_fewer f).enums_fewer, room, C.indexed.searchable.small)));
+                  };
                 };
           }

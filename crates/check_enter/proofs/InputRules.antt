@@ -1,7 +1,9 @@
 -- An input is entered: its body is the number of its term, which is stored with its offset and place.
 -- Assumes nothing.
 use mathlib.Core.Path.{◌≡◌, refl, sym, ap, ◌∙◌, subst}
-use Prim.Native.Nat.{ℕ, suc, ◌≤◌, ◌<◌}
+use Prim.Native.Nat.{ℕ, suc, ◌+◌, ◌≤◌, ◌<◌, min}
+use native.Mathlib.Omega.{arith}
+use Rattle.std.specs.Prelude.{Ok}
 use mathlib.Core.List.{List, [], ◌∷◌, ◌++◌}
 use mathlib.Core.Option.{some}
 use lib.ListN.{length}
@@ -18,6 +20,8 @@ use Rattle.index.specs.First.{InRange}
 use Rattle.index.specs.Standing.{loose, mark_at, body_at, entry_of, entry_at}
 use Rattle.index.specs.Meaning.{Stands, SizesOf}
 use Rattle.index.specs.declared.Sizes.{Sizes}
+use Rattle.index.specs.declared.RecordsMut.{RecordsMut}
+use Rattle.index.proofs.Growth.{counts_together}
 use Rattle.check_rules.specs.Marks.{mark_of}
 use Rattle.check_rules.proofs.Marks.{entry_mark}
 use Rattle.index_search.specs.Searchable.{Indexed}
@@ -25,7 +29,8 @@ use Rattle.index_search.proofs.Entered.{indexed_input}
 use Rattle.index.specs.Lists.{number_at}
 use Rattle.index_entry.proofs.Inverse.{bind_inverse, tested_inverse}
 use Rattle.check_enter.specs.Entering.{Enters}
-use Rattle.check_enter.specs.declared.Entered.TheVariants.{Done}
+use Rattle.check_enter.proofs.Rewritten.{Rewritten, keeps_counted, indexed_as, sizes_as, one_more}
+use Rattle.check_enter.proofs.Sizes.{sizes_input}
 
 -- the number in an input's body
 input_number : (body : Bytes) (n : ℕ) → entry_of (bytes "IN") body ≡ some (fields.input n) → number_at body 0 ≡ n
@@ -60,21 +65,34 @@ number_read file o n e =
     let mark_is : mark_at file o ≡ bytes "IN" = entry_mark (mark_at file o) (body_at file o) e in
     input_number (body_at file o) n (ap (λ (s : Bytes). entry_of s (body_at file o)) (sym mark_is) ∙ e)
 
-pub input_entered : (file : Bytes) (work : List ℕ) (sizes : Sizes) (o place : ℕ) {n : ℕ} {body : Bytes} {work₁ work₂ work₃ : List ℕ} → body ≡ body_at file o → n ≡ number_at body 0
-    → work₁ ≡ store work sizes.rows input_offset sizes.inputs o → work₂ ≡ store work₁ sizes.rows input_term sizes.inputs n → work₃ ≡ store work₂ sizes.rows input_place sizes.inputs place
-    → Enters input file work work₃ sizes o place Done
+pub input_entered : (v : RecordsMut) (o place : ℕ) {n m : ℕ} {body : Bytes} {w : RecordsMut} → body ≡ body_at v.file.now o → n ≡ number_at body 0
+    → Rewritten v w (store (store (store v.work.now v.sizes.rows input_offset v.sizes.inputs o) v.sizes.rows input_term v.sizes.inputs n) v.sizes.rows input_place v.sizes.inputs place) → m ≡ min (v.sizes.inputs + 1) 4294967295
+    → Enters input v (record { file = w.file; work = w.work; sizes = record { rows = w.sizes.rows; types = w.sizes.types; funs = w.sizes.funs; terms = w.sizes.terms; enums = w.sizes.enums; inputs = m } }) o place (Ok tt)
 unfolding rules broken
-input_entered file work sizes o place {n} {body} {work₁} {work₂} {work₃} hb hn e₁ e₂ e₃ = record { go = λ f I c room p t s. record { rule = refl; memory = stored f I c room p t s } }
+input_entered v o place {n} {m} {body} {w} hb hn R more =
+    record {
+      kept = keeps_counted R _ refl;
+      go = λ f C room p t s.
+          let c = C.sizes_are in
+          record {
+            rule = refl;
+            memory = record {
+              indexed = indexed_as R (stored f C.indexed c room p t s);
+              sizes_are = sizes_input (sizes_as R c) t (one_more more (ap (λ (s : Sizes). s.inputs) R.becomes.sizes_are) (omega (arith, c.inputs_are, counts_together f, room, C.indexed.searchable.small)));
+            };
+          };
+    }
   where
     k : ℕ
-    k = sizes.rows
+    k = v.sizes.rows
 
-    stored : (f : TermFile) → Indexed file f work k → SizesOf f sizes → suc (length f) ≤ k → place ≡ length f → (t : Tm) → Stands file f (earlier f) o (input t) → Indexed file (f ++ (input t ∷ [])) work₃ k
+    stored : (f : TermFile) → Indexed v.file.now f v.work.now k → SizesOf f v.sizes → suc (length f) ≤ k → place ≡ length f → (t : Tm) → Stands v.file.now f (earlier f) o (input t)
+        → Indexed v.file.now (f ++ (input t ∷ [])) (store (store (store v.work.now k input_offset v.sizes.inputs o) k input_term v.sizes.inputs n) k input_place v.sizes.inputs place) k
     stored f I c room p t s =
         let B = by_number f s.entry t s.names s.in_range in
-        let reads : entry_at file o ≡ some (fields.input B.number) = s.reads ∙ ap some B.is in
-        let n-is : n ≡ B.number = hn ∙ ap (λ (b : Bytes). number_at b 0) hb ∙ number_read file o B.number reads in
+        let reads : entry_at v.file.now o ≡ some (fields.input B.number) = s.reads ∙ ap some B.is in
+        let n-is : n ≡ B.number = hn ∙ ap (λ (b : Bytes). number_at b 0) hb ∙ number_read v.file.now o B.number reads in
         let i = length (inputs f) in
-        let row = store (store (store work k input_offset i o) k input_term i B.number) k input_place i (length f) in
-        let K : Indexed file (f ++ (input t ∷ [])) row k = subst (λ (u : Tm). Indexed file (f ++ (input u ∷ [])) row k) B.names (indexed_input I room o reads B.below) in
-        rw (e₃, e₂, e₁, c.inputs_are, n-is, p) K
+        let row = store (store (store v.work.now k input_offset i o) k input_term i B.number) k input_place i (length f) in
+        let K : Indexed v.file.now (f ++ (input t ∷ [])) row k = subst (λ (u : Tm). Indexed v.file.now (f ++ (input u ∷ [])) row k) B.names (indexed_input I room o reads B.below) in
+        rw (c.inputs_are, n-is, p) K

@@ -1,4 +1,6 @@
 pub mod FirstBroken
+pub mod Rewritten
+pub mod Sizes
 pub mod Parts
 pub mod Functions
 pub mod Types

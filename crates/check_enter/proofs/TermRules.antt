@@ -1,7 +1,9 @@
 -- A term is entered: the rules by its numbers, its type among those that are listed, and its row.
 -- Assumes nothing.
 use mathlib.Core.Path.{◌≡◌, refl, sym, ap, ◌∙◌, subst}
-use Prim.Native.Nat.{ℕ, suc, ◌+◌, ◌≤◌, ◌<◌}
+use Prim.Native.Nat.{ℕ, suc, ◌+◌, ◌≤◌, ◌<◌, min}
+use Rattle.std.specs.Prelude as rust
+use Rattle.std.specs.Prelude.{Result, Ok, Err}
 use native.Mathlib.Omega.{arith}
 use native.Mathlib.Numerals.{add-one}
 use borrow.Author.Tests.{lt-ltb, le-ltb, le-leb, lt-leb}
@@ -18,6 +20,12 @@ use Rattle.index.specs.Cells.{cell, store, term_offset, term_first, term_type, t
 use Rattle.index.specs.First.{or_else, first, first_type, InRange}
 use Rattle.index.specs.Meaning.{SizesOf}
 use Rattle.index.specs.declared.Sizes.{Sizes}
+use Rattle.index.specs.declared.RecordsMut.{RecordsMut}
+use Rattle.index.specs.Held.{Becomes}
+use Rattle.index.proofs.Growth.{counts_fewer}
+use Rattle.refusal.specs.Numbers.{number}
+use Rattle.refusal.specs.declared.Refusal.{Refusal}
+use Rattle.refusal.specs.declared.Refusal.TheVariants.{TypeNotListed, TooMany}
 use Rattle.index.specs.Rules.{greatest, limits, list_rules_by, rules_by, type_by, type_named}
 use Rattle.index.proofs.Renamed.{map_agree}
 use Rattle.index.proofs.Rules.{type_numbers}
@@ -26,36 +34,33 @@ use Rattle.index_compare.specs.View.{viewed, reference_numbers, segments_at}
 use Rattle.index_compare.specs.declared.compare.View.TheVariants.{Depth}
 use Rattle.index_compare.proofs.Listed.{greatest_term}
 use Rattle.index_search.specs.Searchable.{Indexed}
-use Rattle.index_search.specs.Found.{Enrols}
+use Rattle.index_search.specs.Found.{EnrolsIn}
 use Rattle.index_search.proofs.Entered.{indexed_term}
 use Rattle.check_rules.specs.Terms.{broken_rule, TermRule}
-use Rattle.check_rules.specs.declared.terms.Rules.{Rules}
-use Rattle.check_rules.specs.declared.terms.Rules.TheVariants as rules-as
-use Rattle.check_types.specs.Sought.{found_place, TypeSought}
-use Rattle.check_types.specs.declared.Found.{Found}
-use Rattle.check_types.specs.declared.Found.TheVariants as found_as
+use Rattle.index_search.specs.Enums.{found_place}
+use Rattle.check_types.specs.Sought.{TypeSought}
 use Rattle.check_enter.specs.Entering.{Enters}
 use Rattle.check_enter.specs.Terms.{StoresTerm}
 use Rattle.check_enter.proofs.Parts.{TermParts, term_parts, deepest, term_value, rules_by_lem, term_depth_is}
 use Rattle.check_enter.proofs.FirstBroken.{broken_here, broken_later, none_broken}
-use Rattle.check_enter.specs.declared.Entered.{Entered}
-use Rattle.check_enter.specs.declared.Entered.TheVariants.{Done, Broken}
+use Rattle.check_enter.proofs.Rewritten.{Rewritten, keeps_counted, keeps_left, keeps_then, unchanged_left, counted_left, indexed_as, sizes_as, one_more}
+use Rattle.check_enter.proofs.Sizes.{sizes_term}
 
-pub term_row_stored : (file : Bytes) (work : List ℕ) (sizes : Sizes) (o ty deep place : ℕ) {first : ℕ} {work₀ work₁ work₂ work₃ work₄ work₅ work₆ : List ℕ}
-    → Enrols file work work₀ sizes.rows term_offset term_first 2 sizes.terms o first
-    → work₁ ≡ store work₀ sizes.rows term_offset sizes.terms o → work₂ ≡ store work₁ sizes.rows term_first sizes.terms first → work₃ ≡ store work₂ sizes.rows term_type sizes.terms ty
-    → work₄ ≡ store work₃ sizes.rows term_depth sizes.terms deep → work₅ ≡ store work₄ sizes.rows term_place sizes.terms place → work₆ ≡ store work₅ sizes.rows note sizes.terms 0
-    → StoresTerm file work work₆ sizes o ty deep place
-term_row_stored file work sizes o ty deep place E e₁ e₂ e₃ e₄ e₅ e₆ =
-    record { go = λ f I c room t s below type_is type_first_is d few p. rw (e₆, e₅, e₄, e₃, e₂, e₁, c.terms_are, p) (indexed_term I room (rw c.terms_are at E) s below type_is type_first_is d few) }
-
--- a memory that was left as it was
-module _ {file : Bytes} {work work' : List ℕ} (left : work' ≡ work) where
-  pub enters_left : {sizes : Sizes} {o place : ℕ} {r : Entered} → Enters term file work work sizes o place r → Enters term file work work' sizes o place r
-  enters_left {sizes} {o} {place} {r} E = subst (λ (w : List ℕ). Enters term file work w sizes o place r) (sym left) E
-
-  pub stores_left : {work'' : List ℕ} {sizes : Sizes} {o ty deep place : ℕ} → StoresTerm file work' work'' sizes o ty deep place → StoresTerm file work work'' sizes o ty deep place
-  stores_left {work''} {sizes} {o} {ty} {deep} {place} S = subst (λ (w : List ℕ). StoresTerm file w work'' sizes o ty deep place) left S
+pub term_row_stored : (v : RecordsMut) (o ty deep place : ℕ) {first m : ℕ} {w₀ w : RecordsMut} → EnrolsIn v w₀ term_offset term_first 2 v.sizes.terms o first
+    → Rewritten v w
+    (store (store (store (store (store (store w₀.work.now v.sizes.rows term_offset v.sizes.terms o) v.sizes.rows term_first v.sizes.terms first) v.sizes.rows term_type v.sizes.terms ty) v.sizes.rows term_depth v.sizes.terms deep) v.sizes.rows term_place v.sizes.terms place) v.sizes.rows note v.sizes.terms 0)
+    → m ≡ min (v.sizes.terms + 1) 4294967295
+    → StoresTerm v (record { file = w.file; work = w.work; sizes = record { rows = w.sizes.rows; types = w.sizes.types; funs = w.sizes.funs; terms = m; enums = w.sizes.enums; inputs = w.sizes.inputs } }) o ty deep place
+term_row_stored v o ty deep place E R more =
+    record {
+      kept = keeps_counted R _ refl;
+      go = λ f C room t s below type_is type_first_is d few p.
+          let c = C.sizes_are in
+          record {
+            indexed = indexed_as R (rw (c.terms_are, p) (indexed_term C.indexed room (rw c.terms_are at E.enrols) s below type_is type_first_is d few));
+            sizes_are = sizes_term (sizes_as R c) t (one_more more (ap (λ (s : Sizes). s.terms) R.becomes.sizes_are) (omega (arith, c.terms_are, (counts_fewer f).terms_fewer, room, C.indexed.searchable.small)));
+          };
+    }
 
 -- ---- the rules
 
@@ -144,64 +149,92 @@ depth_positive : (t : Tm) → 0 < depth t
 unfolding depth
 depth_positive (node a ts) = omega arith
 
-module _ {file : Bytes} {work : List ℕ} (sizes : Sizes) {o n : ℕ} {r : Rules} (octets : Octets file) (is : n ≡ greatest (reference_numbers 4 (map (viewed work sizes.rows Depth) (segments_at file o)))) (R : TermRule file work sizes.rows o n r) where
+module _ (v : RecordsMut) {o n : ℕ} {r : Result (Unit {0}) Refusal} (octets : Octets v.file.now) (is : n ≡ greatest (reference_numbers 4 (map (viewed v.work.now v.sizes.rows Depth) (segments_at v.file.now o)))) (R : TermRule v o n r) where
   -- rules 9 and 10
-  told : {f : TermFile} {t : Tm} (I : Indexed file f work sizes.rows) (P : TermParts file f o t) → broken_rule r ≡ broken (list_rules_by f (cell work sizes.rows term_first) P.m P.rs)
+  told : {f : TermFile} {t : Tm} (I : Indexed v.file.now f v.work.now v.sizes.rows) (P : TermParts v.file.now f o t) → broken_rule r ≡ broken (list_rules_by f (cell v.work.now v.sizes.rows term_first) P.m P.rs)
   told {f} I P = R.go f P.m P.rs (λ i. depth (term_at f i)) (λ i. depth_positive (term_at f i)) (is ∙ deepest_is I P octets ∙ deepest_terms I P) P.reads
 
-  module _ {place : ℕ} where
-    pub term_broken : {rule : ℕ} → r ≡ rules-as.Broken rule → Enters term file work work sizes o place (Broken rule)
+  module _ {w : RecordsMut} (U : Becomes v w v.work.now) (place : ℕ) where
+    pub term_broken : {e : Refusal} → r ≡ Err e → Enters term v w o place (Err e)
     term_broken h =
-        record { go = λ f I c room p t s. let P = term_parts s in record { rule = ap broken (term_rules I P) ∙ broken_first _ (list_rules_by f (cell work sizes.rows term_first) P.m P.rs) (sym (told I P) ∙ ap broken_rule h); memory = refl } }
+        record {
+          kept = keeps_left U;
+          go = λ f C room p t s.
+              let P = term_parts s in
+              let I = C.indexed in
+              record {
+                rule = ap broken (term_rules I P) ∙ broken_first _ (list_rules_by f (cell v.work.now v.sizes.rows term_first) P.m P.rs) (sym (told I P) ∙ ap broken_rule h);
+                memory = unchanged_left U;
+              };
+        }
 
-  module _ {found : Found} (T : TypeSought file work sizes o found) (h : r ≡ rules-as.Kept) where
-    -- what is sought is the place of the type
-    sought_is : (f : TermFile) (I : Indexed file f work sizes.rows) → SizesOf f sizes → {t : Tm} (P : TermParts file f o t) → found_place found ≡ sought I P
-    unfolding sought
-    sought_is f I c P = T.go f I c P.m P.rs P.reads P.in_range
+    module _ {found : rust.Option ℕ} (T : TypeSought v.file.now v.work.now v.sizes o found) (h : r ≡ Ok tt) where
+      -- what is sought is the place of the type
+      sought_is : (f : TermFile) (I : Indexed v.file.now f v.work.now v.sizes.rows) → SizesOf f v.sizes → {t : Tm} (P : TermParts v.file.now f o t) → found_place found ≡ sought I P
+      unfolding sought
+      sought_is f I c P = T.go f I c P.m P.rs P.reads P.in_range
 
-    -- rules 12 and 13 are left
-    rules_left : {f : TermFile} {t : Tm} (I : Indexed file f work sizes.rows) (P : TermParts file f o t) → broken (rules f (term t)) ≡ broken ((12, is_some (sought I P)) ∷ (13, ltb (length (terms f)) 60000 && leb (suc (deepest work sizes.rows term_depth P)) 256) ∷ [])
-    rules_left {f} I P = ap broken (term_rules I P) ∙ broken_second _ (list_rules_by f (cell work sizes.rows term_first) P.m P.rs) (sym (told I P) ∙ ap broken_rule h)
+      -- rules 12 and 13 are left
+      rules_left : {f : TermFile} {t : Tm} (I : Indexed v.file.now f v.work.now v.sizes.rows) (P : TermParts v.file.now f o t)
+          → broken (rules f (term t)) ≡ broken ((12, is_some (sought I P)) ∷ (13, ltb (length (terms f)) 60000 && leb (suc (deepest v.work.now v.sizes.rows term_depth P)) 256) ∷ [])
+      rules_left {f} I P = ap broken (term_rules I P) ∙ broken_second _ (list_rules_by f (cell v.work.now v.sizes.rows term_first) P.m P.rs) (sym (told I P) ∙ ap broken_rule h)
 
-    -- rule 12 is kept
-    listed : {ty : ℕ} → found ≡ found_as.Listed ty → {f : TermFile} {t : Tm} (I : Indexed file f work sizes.rows) → SizesOf f sizes → (P : TermParts file f o t) → broken (rules f (term t)) ≡ broken ((13, ltb (length (terms f)) 60000 && leb (suc (deepest work sizes.rows term_depth P)) 256) ∷ [])
-    unfolding is_some
-    listed g {f} I c P = rules_left I P ∙ broken_later 12 _ (ap is_some (sym (sought_is f I c P) ∙ ap found_place g))
-
-    module _ {place : ℕ} where
-      pub term_unlisted : found ≡ found_as.NotListed → Enters term file work work sizes o place (Broken 12)
+      -- rule 12 is kept
+      listed : {ty : ℕ} → found ≡ rust.Some ty → {f : TermFile} {t : Tm} (I : Indexed v.file.now f v.work.now v.sizes.rows) → SizesOf f v.sizes → (P : TermParts v.file.now f o t)
+          → broken (rules f (term t)) ≡ broken ((13, ltb (length (terms f)) 60000 && leb (suc (deepest v.work.now v.sizes.rows term_depth P)) 256) ∷ [])
       unfolding is_some
+      listed g {f} I c P = rules_left I P ∙ broken_later 12 _ (ap is_some (sym (sought_is f I c P) ∙ ap found_place g))
+
+      pub term_unlisted : found ≡ rust.None → Enters term v w o place (Err TypeNotListed)
+      unfolding is_some number
       term_unlisted g =
           record {
-            go = λ f I c room p t s.
+            kept = keeps_left U;
+            go = λ f C room p t s.
                 let P = term_parts s in
-                let q : sought I P ≡ none = sym (sought_is f I c P) ∙ ap found_place g in
-                record { rule = rules_left I P ∙ broken_here 12 _ (ap is_some q); memory = refl };
+                let q : sought C.indexed P ≡ none = sym (sought_is f C.indexed C.sizes_are P) ∙ ap found_place g in
+                record { rule = rules_left C.indexed P ∙ broken_here 12 _ (ap is_some q); memory = unchanged_left U };
           }
 
-      module _ {ty : ℕ} (g : found ≡ found_as.Listed ty) where
-        pub term_many : 60000 ≤ sizes.terms → Enters term file work work sizes o place (Broken 13)
-        term_many d = record { go = λ f I c room p t s. let P = term_parts s in record { rule = listed g I c P ∙ broken_here 13 _ (rw (← c.terms_are, le-ltb sizes.terms 60000 d)); memory = refl } }
+      module _ {ty : ℕ} (g : found ≡ rust.Some ty) where
+        pub term_many : 60000 ≤ v.sizes.terms → Enters term v w o place (Err TooMany)
+        unfolding number
+        term_many d =
+            record {
+              kept = keeps_left U;
+              go = λ f C room p t s. let P = term_parts s in record { rule = listed g C.indexed C.sizes_are P ∙ broken_here 13 _ (rw (← C.sizes_are.terms_are, le-ltb v.sizes.terms 60000 d)); memory = unchanged_left U };
+            }
 
-        pub term_deep : sizes.terms < 60000 → 255 < n → Enters term file work work sizes o place (Broken 13)
+        pub term_deep : v.sizes.terms < 60000 → 255 < n → Enters term v w o place (Err TooMany)
+        unfolding number
         term_deep d e =
             record {
-              go = λ f I c room p t s.
+              kept = keeps_left U;
+              go = λ f C room p t s.
                   let P = term_parts s in
-                  let q : n ≡ deepest work sizes.rows term_depth P = is ∙ deepest_is I P octets in
-                  record { rule = listed g I c P ∙ broken_here 13 _ (rw (← c.terms_are, lt-ltb sizes.terms 60000 d, ← q, lt-leb (suc n) 256 (omega arith))); memory = refl };
+                  let q : n ≡ deepest v.work.now v.sizes.rows term_depth P = is ∙ deepest_is C.indexed P octets in
+                  record { rule = listed g C.indexed C.sizes_are P ∙ broken_here 13 _ (rw (← C.sizes_are.terms_are, lt-ltb v.sizes.terms 60000 d, ← q, lt-leb (suc n) 256 (omega arith))); memory = unchanged_left U };
             }
 
-        pub term_entered : {work' : List ℕ} → sizes.terms < 60000 → n ≤ 255 → StoresTerm file work work' sizes o ty (n + 1) place → Enters term file work work' sizes o place Done
+        pub term_entered : {x : RecordsMut} → v.sizes.terms < 60000 → n ≤ 255 → StoresTerm w x o ty (n + 1) place → Enters term v x o place (Ok tt)
         term_entered d e S =
             record {
-              go = λ f I c room p t s.
+              kept = keeps_then (keeps_left U) S.kept;
+              go = λ f C room p t s.
                   let P = term_parts s in
-                  let q : n ≡ deepest work sizes.rows term_depth P = is ∙ deepest_is I P octets in
-                  let F = type_found I P ty (sym (sought_is f I c P) ∙ ap found_place g) in
+                  let q : n ≡ deepest v.work.now v.sizes.rows term_depth P = is ∙ deepest_is C.indexed P octets in
+                  let F = type_found C.indexed P ty (sym (sought_is f C.indexed C.sizes_are P) ∙ ap found_place g) in
                   record {
-                    rule = listed g I c P ∙ broken_later 13 _ (rw (← c.terms_are, lt-ltb sizes.terms 60000 d, ← q, le-leb (suc n) 256 (omega arith))) ∙ none_broken;
-                    memory = S.go f I c room t s F.below F.type_is F.type_first_is (add-one n ∙ ap suc q ∙ term_depth_is I P) (omega arith) p;
+                    rule = listed g C.indexed C.sizes_are P ∙ broken_later 13 _ (rw (← C.sizes_are.terms_are, lt-ltb v.sizes.terms 60000 d, ← q, le-leb (suc n) 256 (omega arith))) ∙ none_broken;
+                    memory = S.go f (counted_left U C) (rw U.sizes_are room) t (rw U.file_is s) F.below F.type_is F.type_first_is (add-one n ∙ ap suc q ∙ term_depth_is C.indexed P) (omega arith) p;
                   };
             }
+
+-- a type that is given, and one that is not
+pub given : {found : rust.Option ℕ} {ty : ℕ} → rust.ok_or found TypeNotListed ≡ Ok ty → found ≡ rust.Some ty
+given {found = rust.None} e = let z : ⊥ = cc in absurd z
+given {found = rust.Some n} e = cc
+
+pub not_given : {found : rust.Option ℕ} {x : Refusal} → rust.ok_or found TypeNotListed ≡ Err x → (found ≡ rust.None) × (x ≡ TypeNotListed)
+not_given {found = rust.None} e = (refl, cc)
+not_given {found = rust.Some n} e = let z : ⊥ = cc in absurd z

@@ -1,36 +1,53 @@
 -- What entering a record into the index promises.
 -- Assumes nothing.
-use Rattle.std.specs.Prelude.{◌≡◌, ℕ, suc, ◌≤◌, List, [], ◌∷◌, ◌++◌, length}
+use Rattle.std.specs.Prelude.{◌≡◌, ℕ, suc, ◌≤◌, [], ◌∷◌, ◌++◌, length, Result, Ok, Err}
 use Rattle.std.proofs.Math.Option.{Option, none, some}
-use Rattle.script_spec.specs.Base.{Bytes}
 use Rattle.script_spec.specs.Tree.{Ty, depth}
 use Rattle.script_spec.specs.File.{TermFile, Named, type, earlier, rules, broken}
 use Rattle.index.specs.Meaning.{Stands, SizesOf}
-use Rattle.index.specs.declared.Sizes.{Sizes}
+use Rattle.index.specs.declared.RecordsMut.{RecordsMut}
 use Rattle.index_search.specs.Searchable.{Indexed}
-use Rattle.check_enter.specs.declared.Entered.{Entered}
-use Rattle.check_enter.specs.declared.Entered.TheVariants.{Done, Broken}
+use Rattle.refusal.specs.Numbers.{number}
+use Rattle.refusal.specs.declared.Refusal.{Refusal}
+
+-- w is v, with some memory of the same length in the same place, and as many rows
+pub record Keeps (v w : RecordsMut) : Type 0 where
+  pub file_is : w.file ≡ v.file
+  pub rows_are : w.sizes.rows ≡ v.sizes.rows
+  pub lent : w.work.ghost_name ≡ v.work.ghost_name
+  pub size : length w.work.now ≡ length v.work.now
 
 -- the rule that is broken, by document 01's number, as an answer says it
-abbrev pub entered_rule : Entered → Option ℕ
-entered_rule Done = none
-entered_rule (Broken n) = some n
+abbrev pub entered_rule : Result (Unit {0}) Refusal → Option ℕ
+entered_rule (Ok u) = none
+entered_rule (Err e) = some (number e)
 
--- the memory after an answer: the index with the record x, or as it was
-abbrev pub Memory : Bytes → TermFile → List ℕ → List ℕ → ℕ → Named → Entered → Type 0
-Memory file f work work' rows x Done = Indexed file (f ++ (x ∷ [])) work' rows
-Memory file f work work' rows x (Broken n) = work' ≡ work
+-- the memory of w is the index of the records f, and these are its sizes
+pub record Counted (f : TermFile) (w : RecordsMut) : Type 0 where
+  pub indexed : Indexed w.file.now f w.work.now w.sizes.rows
+  pub sizes_are : SizesOf f w.sizes
+
+-- the memory and the sizes are as they were
+pub record Unchanged (v w : RecordsMut) : Type 0 where
+  pub memory : w.work.now ≡ v.work.now
+  pub sizes_are : w.sizes ≡ v.sizes
+
+-- the records after an answer: with the record x, or as they were
+abbrev pub Memory : TermFile → RecordsMut → RecordsMut → Named → Result (Unit {0}) Refusal → Type 0
+Memory f v w x (Ok u) = Counted (f ++ (x ∷ [])) w
+Memory f v w x (Err e) = Unchanged v w
 
 -- the answer says the first rule that the record x breaks after the records f, if it breaks one
-pub record Outcome (file : Bytes) (f : TermFile) (work work' : List ℕ) (rows : ℕ) (x : Named) (r : Entered) : Type 0 where
+pub record Outcome (f : TermFile) (v w : RecordsMut) (x : Named) (r : Result (Unit {0}) Refusal) : Type 0 where
   pub rule : broken (rules f x) ≡ entered_rule r
-  pub memory : Memory file f work work' rows x r
+  pub memory : Memory f v w x r
 
--- a record of one kind at an offset is entered after the records f, of which these are the sizes and there are `place`
-pub record Enters {A : Type 0} (wrap : A → Named) (file : Bytes) (work work' : List ℕ) (sizes : Sizes) (o place : ℕ) (r : Entered) : Type 0 where
-  pub go : (f : TermFile) → Indexed file f work sizes.rows → SizesOf f sizes → suc (length f) ≤ sizes.rows → place ≡ length f → (a : A) → Stands file f (earlier f) o (wrap a) → Outcome file f work work' sizes.rows (wrap a) r
+-- a record of one kind at an offset is entered after the records f, of which there are `place`
+pub record Enters {A : Type 0} (wrap : A → Named) (v w : RecordsMut) (o place : ℕ) (r : Result (Unit {0}) Refusal) : Type 0 where
+  pub kept : Keeps v w
+  pub go : (f : TermFile) → Counted f v → suc (length f) ≤ v.sizes.rows → place ≡ length f → (a : A) → Stands v.file.now f (earlier f) o (wrap a) → Outcome f v w (wrap a) r
 
--- the row of a type of this depth and place is stored
-pub record StoresType (file : Bytes) (work work' : List ℕ) (sizes : Sizes) (o deep place : ℕ) : Type 0 where
-  pub go : (f : TermFile) → Indexed file f work sizes.rows → SizesOf f sizes → suc (length f) ≤ sizes.rows → (t : Ty) → Stands file f (earlier f) o (type t) → deep ≡ depth t → deep ≤ 256 → place ≡ length f
-      → Indexed file (f ++ (type t ∷ [])) work' sizes.rows
+-- the row of a type of this depth and place is stored, and the type is counted
+pub record StoresType (v w : RecordsMut) (o deep place : ℕ) : Type 0 where
+  pub kept : Keeps v w
+  pub go : (f : TermFile) → Counted f v → suc (length f) ≤ v.sizes.rows → (t : Ty) → Stands v.file.now f (earlier f) o (type t) → deep ≡ depth t → deep ≤ 256 → place ≡ length f → Counted (f ++ (type t ∷ [])) w

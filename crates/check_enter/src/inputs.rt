@@ -2,19 +2,19 @@
 ghost use Rattle.script_spec.specs.File.{input};
 ghost use Rattle.check_enter.specs.Entering.{Enters};
 
-use crate::Entered;
-use index::Sizes;
+use index::{Column, RecordsMut};
+use index_entry::records::{body_at, number_at};
+use refusal::Refusal;
 
-// Enters the input at an offset and a place, after the records of these sizes: the number of its term is its body.
-pub fn enter_input(file: &[u8], work: &mut [u32], sizes: Sizes, offset: u32, place: u32) -> Entered
-    ensures { Enters input file.now work.old work.new sizes offset place result }
+// Enters the input at an offset and a place: the number of its term is its body.
+pub fn enter_input(records: &mut RecordsMut<'_>, offset: u32, place: u32) -> Result<(), Refusal>
+    ensures { Enters input records.old records.new offset place result }
 {
-    let body = index_compare::record::body_at(file, offset as usize);
-    let term = index_entry::records::number_at(body, 0);
-    let rows = sizes.rows;
-    let n = sizes.inputs as usize;
-    index::set(work, rows, index::INPUT_OFFSET, n, offset);
-    index::set(work, rows, index::INPUT_TERM, n, term);
-    index::set(work, rows, index::INPUT_PLACE, n, place);
-    Entered::Done
+    let term = number_at(body_at(records.file, offset), 0);
+    let n = records.sizes.inputs;
+    records.set(Column::InputOffset, n, offset);
+    records.set(Column::InputTerm, n, term);
+    records.set(Column::InputPlace, n, place);
+    records.sizes.inputs = n.saturating_add(1);
+    Ok(())
 }

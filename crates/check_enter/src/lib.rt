@@ -1,4 +1,4 @@
-// Entering a record into the index: the rules that it must keep, and its row.
+// Entering a record into the index: the rules that it must keep, and its row; and it is counted.
 #![tactic(auto)]
 
 pub mod enums;
@@ -8,15 +8,11 @@ pub mod terms;
 ghost use Rattle.script_spec.specs.File.{type, func};
 ghost use Rattle.check_enter.specs.Entering.{Enters, StoresType};
 
-use index::Sizes;
-use index_search::search::Table;
-
-// The record is entered, or it breaks the rule of a number.
-#[derive(Clone, Copy)]
-pub enum Entered {
-    Done,
-    Broken(u32),
-}
+use index::{Column, RecordsMut};
+use index_compare::compare::greatest;
+use index_compare::segments::Referent;
+use index_search::search::Compared;
+use refusal::Refusal;
 
 // As many types as there may be, and as many terms.
 pub const MOST: u32 = 60000;
@@ -24,68 +20,49 @@ pub const MOST: u32 = 60000;
 // The greatest depth that a part of a type or of a term may have.
 pub const DEEPEST_PART: u32 = 255;
 
-// Enters the function at an offset and a place, after the records of these sizes, without a name.
-pub fn enter_fun(file: &[u8], work: &mut [u32], sizes: Sizes, offset: u32, place: u32) -> Entered
-    ensures { Enters func file.now work.old work.new sizes offset place result }
+// Enters the function at an offset and a place, without a name.
+pub fn enter_fun(records: &mut RecordsMut<'_>, offset: u32, place: u32) -> Result<(), Refusal>
+    ensures { Enters func records.old records.new offset place result }
 {
-    let first = index_search::search::enrol(
-        file,
-        work,
-        sizes.rows,
-        Table::Funs,
-        sizes.funs,
-        offset as usize,
-    );
-    let rows = sizes.rows;
-    let n = sizes.funs as usize;
-    index::set(work, rows, index::FUN_OFFSET, n, offset);
-    index::set(work, rows, index::FUN_FIRST, n, first);
-    index::set(work, rows, index::FUN_PLACE, n, place);
-    index::set(work, rows, index::FUN_NAME, n, 0);
-    Entered::Done
+    let n = records.sizes.funs;
+    let first = index_search::search::enrol(records, Compared::Funs, offset);
+    records.set(Column::FunOffset, n, offset);
+    records.set(Column::FunFirst, n, first);
+    records.set(Column::FunPlace, n, place);
+    records.set(Column::FunName, n, 0);
+    records.sizes.funs = n.saturating_add(1);
+    Ok(())
 }
 
-// Stores the row of a type, with its depth and its place, and without a list of attributes.
-fn store_type(file: &[u8], work: &mut [u32], sizes: Sizes, offset: u32, depth: u32, place: u32)
-    ensures { StoresType file.now work.old work.new sizes offset depth place }
+// Stores the row of a type, with its depth and its place, and without a list of attributes, and counts it.
+fn store_type(records: &mut RecordsMut<'_>, offset: u32, depth: u32, place: u32)
+    ensures { StoresType records.old records.new offset depth place }
 {
-    let first = index_search::search::enrol(
-        file,
-        work,
-        sizes.rows,
-        Table::Types,
-        sizes.types,
-        offset as usize,
-    );
-    let rows = sizes.rows;
-    let n = sizes.types as usize;
-    index::set(work, rows, index::TYPE_OFFSET, n, offset);
-    index::set(work, rows, index::TYPE_FIRST, n, first);
-    index::set(work, rows, index::TYPE_DEPTH, n, depth);
-    index::set(work, rows, index::TYPE_PLACE, n, place);
-    index::set(work, rows, index::TYPE_LIST, n, 0);
+    let n = records.sizes.types;
+    let first = index_search::search::enrol(records, Compared::Types, offset);
+    records.set(Column::TypeOffset, n, offset);
+    records.set(Column::TypeFirst, n, first);
+    records.set(Column::TypeDepth, n, depth);
+    records.set(Column::TypePlace, n, place);
+    records.set(Column::TypeList, n, 0);
+    records.sizes.types = n.saturating_add(1);
 }
 
-// Enters the type at an offset and a place, after the records of these sizes.
-pub fn enter_type(file: &[u8], work: &mut [u32], sizes: Sizes, offset: u32, place: u32) -> Entered
-    ensures { Enters type file.now work.old work.new sizes offset place result }
+// Enters the type at an offset and a place.
+pub fn enter_type(records: &mut RecordsMut<'_>, offset: u32, place: u32) -> Result<(), Refusal>
+    ensures { Enters type records.old records.new offset place result }
 {
-    if !check_rules::record::attributes_ascend(file, offset as usize) {
-        return Entered::Broken(9);
+    if !check_rules::record::attributes_ascend(records.file, offset) {
+        return Err(Refusal::NotAscending);
     }
-    if MOST <= sizes.types {
-        return Entered::Broken(13);
+    if MOST <= records.sizes.types {
+        return Err(Refusal::TooMany);
     }
-    let deepest = index_compare::compare::greatest(
-        file,
-        work,
-        sizes.rows,
-        offset as usize,
-        index_compare::compare::TYPE_REF,
-    );
+    index_search::octets(records.file);
+    let deepest = greatest(records.view(), offset, Referent::Type);
     if DEEPEST_PART < deepest {
-        return Entered::Broken(13);
+        return Err(Refusal::TooMany);
     }
-    store_type(file, work, sizes, offset, deepest + 1, place);
-    Entered::Done
+    store_type(records, offset, deepest + 1, place);
+    Ok(())
 }

@@ -1,101 +1,68 @@
 // Entering a term into the index.
+ghost use Rattle.std.specs.Prelude.{Some};
 ghost use Rattle.script_spec.specs.File.{term};
 ghost use Rattle.index.specs.Standing.{mark_at};
 ghost use Rattle.read_record.specs.Marks.{Marked};
-ghost use Rattle.check_enter.specs.Entering.{Enters};
+ghost use Rattle.check_enter.specs.Entering.{Keeps, Enters};
 ghost use Rattle.check_enter.specs.Terms.{StoresTerm, EntersTyped};
 
-use crate::{DEEPEST_PART, Entered, MOST};
-use check_rules::terms::Rules;
-use check_types::Found;
-use index::Sizes;
-use index_search::search::Table;
+use crate::{DEEPEST_PART, MOST};
+use index::{Column, RecordsMut};
+use index_compare::compare::greatest;
+use index_compare::segments::Referent;
+use index_search::search::Compared;
 use read_record::mark::Kind;
+use refusal::Refusal;
 
-// Stores the row of a term, with the number of its type, its depth and its place, and without a note.
-fn store_term(
-    file: &[u8],
-    work: &mut [u32],
-    sizes: Sizes,
-    offset: u32,
-    ty: u32,
-    depth: u32,
-    place: u32,
-)
-    ensures { StoresTerm file.now work.old work.new sizes offset ty depth place }
+// Stores the row of a term, with the number of its type, its depth and its place, and without a note, and counts it.
+fn store_term(records: &mut RecordsMut<'_>, offset: u32, ty: u32, depth: u32, place: u32)
+    ensures { StoresTerm records.old records.new offset ty depth place }
 {
-    let first = index_search::search::enrol(
-        file,
-        work,
-        sizes.rows,
-        Table::Terms,
-        sizes.terms,
-        offset as usize,
-    );
-    let rows = sizes.rows;
-    let n = sizes.terms as usize;
-    index::set(work, rows, index::TERM_OFFSET, n, offset);
-    index::set(work, rows, index::TERM_FIRST, n, first);
-    index::set(work, rows, index::TERM_TYPE, n, ty);
-    index::set(work, rows, index::TERM_DEPTH, n, depth);
-    index::set(work, rows, index::TERM_PLACE, n, place);
-    index::set(work, rows, index::NOTE, n, 0);
+    let n = records.sizes.terms;
+    let first = index_search::search::enrol(records, Compared::Terms, offset);
+    records.set(Column::TermOffset, n, offset);
+    records.set(Column::TermFirst, n, first);
+    records.set(Column::TermType, n, ty);
+    records.set(Column::TermDepth, n, depth);
+    records.set(Column::TermPlace, n, place);
+    records.set(Column::Note, n, 0);
+    records.sizes.terms = n.saturating_add(1);
 }
 
 // Enters a term of this kind; `found` says its type.
 fn enter_typed(
-    file: &[u8],
-    work: &mut [u32],
-    sizes: Sizes,
+    records: &mut RecordsMut<'_>,
     offset: u32,
     kind: Kind,
     place: u32,
-    found: Found,
-) -> Entered
-    ensures { EntersTyped file.now work.old work.new sizes offset kind place found result }
+    found: Option<u32>,
+) -> Result<(), Refusal>
+    ensures { EntersTyped records.old records.new offset kind place found result }
 {
-    let deepest = index_compare::compare::greatest(
-        file,
-        work,
-        sizes.rows,
-        offset as usize,
-        index_compare::compare::TERM_REF,
-    );
-    let rules = check_rules::terms::broken_rule(
-        file,
-        work,
-        sizes.rows,
-        offset as usize,
-        kind,
-        deepest,
-    );
-    if let Rules::Broken(n) = rules {
-        return Entered::Broken(n);
-    }
-    let Found::Listed(ty) = found else {
-        return Entered::Broken(12);
-    };
-    if MOST <= sizes.terms {
-        return Entered::Broken(13);
+    index_search::octets(records.file);
+    let deepest = greatest(records.view(), offset, Referent::Term);
+    check_rules::terms::broken_rule(records, offset, kind, deepest)?;
+    let ty = found.ok_or(Refusal::TypeNotListed)?;
+    if MOST <= records.sizes.terms {
+        return Err(Refusal::TooMany);
     }
     if DEEPEST_PART < deepest {
-        return Entered::Broken(13);
+        return Err(Refusal::TooMany);
     }
-    store_term(file, work, sizes, offset, ty, deepest + 1, place);
-    Entered::Done
+    store_term(records, offset, ty, deepest + 1, place);
+    Ok(())
 }
 
-// Enters the term at an offset and a place, of this kind, after the records of these sizes.
+// Enters the term at an offset and a place, of this kind.
 pub fn enter_term(
-    file: &[u8],
-    work: &mut [u32],
-    sizes: Sizes,
+    records: &mut RecordsMut<'_>,
     offset: u32,
     kind: Kind,
     place: u32,
-) -> Entered
-    ensures { Marked (mark_at file.now offset) kind → Enters term file.now work.old work.new sizes offset place result }
+) -> Result<(), Refusal>
+    ensures kept { Keeps records.old records.new }
+    ensures entered { Marked (mark_at records.old.file.now offset) (Some kind) → Enters term records.old records.new offset place result }
 {
-    let found = check_types::type_of(file, work, sizes, offset as usize, kind);
-    enter_typed(file, work, sizes, offset, kind, place, found)
+    let found = check_types::type_of(records.view(), offset, kind);
+    enter_typed(records, offset, kind, place, found)
 }

@@ -10,11 +10,13 @@ use Rattle.index.specs.Cells.{type_offsets}
 use Rattle.index.specs.declared.Sizes.{Sizes}
 use Rattle.read_record.specs.Bodies.{earlier_with}
 use Rattle.read_record.specs.Records.{NextRecord}
-use Rattle.read_record.specs.declared.Next.{Next}
+use Rattle.read_record.specs.declared.Record.{Record}
+use Rattle.refusal.specs.declared.Refusal.{Refusal}
+use Rattle.std.specs.Prelude.{Result}
 use Rattle.check_file.specs.Reading.{ReadsNext}
 use Rattle.check_file.proofs.Entities.{after_earlier}
 
-module _ (file : Bytes) (work : List ℕ) (at : ℕ) (sizes : Sizes) {r : Next} where
+module _ (file : Bytes) (work : List ℕ) (at : ℕ) (sizes : Sizes) {r : Result Record Refusal} where
   pub reads_next : {offsets : List ℕ} → offsets ≡ type_offsets work sizes.types → NextRecord (earlier_with sizes.types sizes.funs sizes.terms file offsets) file at r → ReadsNext file work at sizes r
   reads_next {offsets} is N =
       record {

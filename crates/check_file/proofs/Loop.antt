@@ -1,71 +1,115 @@
 -- The loop over the records: what is reached at a place of the file, from the start to the answer.
 -- Assumes nothing.
-use mathlib.Core.Path.{◌≡◌, ◌∙◌}
+use mathlib.Core.Path.{◌≡◌, refl, ap, ◌∙◌}
 use Prim.Native.Nat.{ℕ, ◌*◌, ◌/◌, ◌≤◌, ◌<◌}
 use native.Mathlib.Omega.{arith}
 use mathlib.Core.List.{List, [], ◌∷◌, ◌++◌}
-use lib.ListN.{length, drop, replicate, length-append}
-use Rattle.script_spec.specs.Base.{Bytes}
-use Rattle.script_spec.specs.Fields.{bad}
-use Rattle.script_spec.specs.File.{TermFile, next_record}
-use Rattle.index.specs.Cells.{cell, hash}
+use lib.ListN.{length, drop, length-append, length-take, length-drop, length-replicate}
+use native.Mathlib.Decide.{dec_le}
+use borrow.Author.Tests.{le-leb, lt-leb}
+use Rattle.std.specs.Prelude.{Ok, Err}
+use Rattle.script_spec.specs.Base.{collect}
+use Rattle.script_spec.specs.File.{TermFile, types, funs, terms, enums, inputs}
+use Rattle.index.specs.Cells.{cell, emptied, zeroed, hash}
+use Rattle.index.specs.Held.{Becomes}
 use Rattle.index.specs.Meaning.{SizesOf}
 use Rattle.index.specs.declared.Sizes.{Sizes}
+use Rattle.index.specs.declared.RecordsMut.{RecordsMut}
 use Rattle.index.proofs.Cells.{capacity_fits}
+use Rattle.index.proofs.Columns.{cell_emptied}
 use Rattle.index_search.proofs.Entered.{indexed_none}
-use Rattle.check_file.specs.Promise.{Accepts, Refuses}
-use Rattle.check_file.specs.Stepping.{Before, Stepped}
-use Rattle.check_file.proofs.Records.{Rest, rest_start, rest_end, rest_bad, rest_got, checked_long, checked_narrow, checked_records}
+use Rattle.refusal.specs.declared.Refusal.{Refusal}
+use Rattle.check_enter.specs.Entering.{Keeps, Counted}
+use Rattle.check_enter.proofs.Rewritten.{keeps_same, keeps_then}
+use Rattle.check_file.specs.Stepping.{Before, Stepped, TurnedBack, Steps, EntersAll}
+use Rattle.check_file.proofs.Records.{Rest, rest_start, rest_end, rest_bad, rest_got}
 
--- the records f stand before a place of the file, the memory has room for all, and the answer is what the rest of the file comes to
-pub record Reached (file : Bytes) (size : ℕ) (f : TermFile) (work : List ℕ) (at : ℕ) (sizes : Sizes) : Type 0 where
-  pub before : Before file f work at sizes
-  pub room : 2 * length file ≤ size
-  pub rest : Rest file f at
-  pub within : at ≤ length file
+-- ---- the start
 
-pub reached_start : (file : Bytes) (work : List ℕ) (sizes : Sizes) → length file ≤ 1048576 → 2 * length file ≤ length work → sizes.rows ≡ length file / 6 → ((i : ℕ) → cell work sizes.rows hash i ≡ 0) → SizesOf [] sizes → Reached file (length work) [] work 0 sizes
-reached_start file work sizes short room e empty S =
+-- no record is counted
+pub record Uncounted (sizes : Sizes) : Type 0 where
+  pub types_none : sizes.types ≡ 0
+  pub funs_none : sizes.funs ≡ 0
+  pub terms_none : sizes.terms ≡ 0
+  pub enums_none : sizes.enums ≡ 0
+  pub inputs_none : sizes.inputs ≡ 0
+
+-- the slots are part of the memory
+length_emptied : (work : List ℕ) (k : ℕ) → length (emptied work k hash) ≡ length work
+unfolding emptied zeroed
+length_emptied work k = go (dec_le (12 * k) (length work))
+  where
+    go : Dec (12 * k ≤ length work) → length (emptied work k hash) ≡ length work
+    go (yes l) = rw (le-leb (12 * k) (length work) l, emptied) (simp (length-append, length-take, length-replicate, length-drop) (omega arith))
+    go (no l) = rw (lt-leb (12 * k) (length work) (omega arith), emptied)
+
+pub same_length : {v w : RecordsMut} → Becomes v w (emptied v.work.now v.sizes.rows hash) → length w.work.now ≡ length v.work.now
+same_length {v} B = ap length B.memory ∙ length_emptied v.work.now v.sizes.rows
+
+pub begins : {v w : RecordsMut} → Becomes v w (emptied v.work.now v.sizes.rows hash) → length v.file.now ≤ 1048576 → 2 * length v.file.now ≤ length v.work.now → v.sizes.rows ≡ length v.file.now / 6 → Uncounted v.sizes → Before [] w 0
+unfolding types funs terms enums inputs collect
+begins {v} {w} B short room rows U =
+    let same = same_length B in
+    let empty : (i : ℕ) → cell w.work.now v.sizes.rows hash i ≡ 0 = λ i. rw B.memory (cell_emptied v.work.now v.sizes.rows hash (omega arith) i) in
     record {
-      before =
-          record {
-            short = short;
-            rows_are = e;
-            indexed = indexed_none file work sizes.rows (omega (arith, e, capacity_fits (length file))) (omega (arith, e, capacity_fits (length file))) empty;
-            sizes_are = S;
-            places = omega arith;
-          };
-      room = room;
-      rest = rest_start file;
-      within = omega arith;
+      short = rw B.file_is short;
+      rows_are = rw (B.file_is, B.sizes_are) rows;
+      counted = record {
+        indexed = rw (B.file_is, B.sizes_are) (indexed_none v.file.now w.work.now v.sizes.rows (omega (arith, rows, capacity_fits (length v.file.now))) (omega (arith, rows, capacity_fits (length v.file.now))) empty);
+        sizes_are = rw B.sizes_are record { types_are = U.types_none; funs_are = U.funs_none; terms_are = U.terms_none; enums_are = U.enums_none; inputs_are = U.inputs_none };
+      };
+      places = omega arith;
     }
 
-module _ {file : Bytes} {size : ℕ} {f : TermFile} {work : List ℕ} {at : ℕ} {sizes : Sizes} (R : Reached file size f work at sizes) where
-  pub reached_next : {work' : List ℕ} {to : ℕ} {sizes' : Sizes} (S : Stepped file f work' at to sizes') → Reached file size (f ++ (S.record_got ∷ [])) work' to sizes'
-  reached_next S =
-      record {
-        before = record { short = R.before.short; rows_are = S.rows_are; indexed = S.indexed; sizes_are = S.sizes_are; places = rw length-append (omega (arith, S.further, R.before.places)) };
-        room = R.room;
-        rest = rest_got R.rest (omega (arith, S.further)) (omega (arith, S.further, S.within)) S.next;
-        within = S.within;
-      }
+-- ---- a place of the file
 
-  pub reached_end : (work₀ : List ℕ) → length work₀ ≡ size → length file ≤ at → Accepts file work₀ work sizes
-  reached_end work₀ e h =
-      record {
-        records = f;
-        accepts = rw e (checked_records file size R.before.short R.room ∙ rest_end R.rest h);
-        rows_are = R.before.rows_are;
-        index = record { rows = R.before.indexed.index; sizes_are = R.before.sizes_are; small = omega (arith, R.before.rows_are, R.before.short, capacity_fits (length file)) };
-        unnamed = R.before.indexed.depths.unnamed;
-      }
+-- some records have been entered, and the answer is what the rest of the file comes to
+pub record Going (v w : RecordsMut) (at : ℕ) : Type 0 where
+  pub kept : Keeps v w
+  pub records : TermFile
+  pub before : Before records w at
+  pub rest : Rest v.file.now records at
+  pub within : at ≤ length v.file.now
 
-  pub reached_bad : (work₀ : List ℕ) {work' : List ℕ} {n : ℕ} → length work₀ ≡ size → at < length file → next_record f (drop at file) ≡ bad n → work' ≡ replicate size 0 → Refuses file work₀ work' n (length f)
-  reached_bad work₀ e h b z = record { refuses = rw e (checked_records file size R.before.short R.room ∙ rest_bad R.rest h b); cleared = rw e z }
+pub going_start : {v : RecordsMut} → Before [] v 0 → Going v v 0
+going_start {v} B = record { kept = keeps_same v; records = []; before = B; rest = rest_start v.file.now; within = omega arith }
 
--- refusals before the first record
-pub refuses_long : (file : Bytes) (work : List ℕ) {work' : List ℕ} → 1048576 < length file → work' ≡ replicate (length work) 0 → Refuses file work work' 1 0
-refuses_long file work h z = record { refuses = checked_long file (length work) h; cleared = z }
+module _ {v w : RecordsMut} {at : ℕ} (G : Going v w at) where
+  file_same : w.file.now ≡ v.file.now
+  file_same = ap (λ x. x.now) G.kept.file_is
 
-pub refuses_narrow : (file : Bytes) (work : List ℕ) {work' : List ℕ} → length file ≤ 1048576 → length work < 2 * length file → work' ≡ replicate (length work) 0 → Refuses file work work' 2 0
-refuses_narrow file work g h z = record { refuses = checked_narrow file (length work) g h; cleared = z }
+  pub going_end : length w.file.now ≤ at → EntersAll v w (Ok tt)
+  going_end h = record { kept = G.kept; told = record { records = G.records; is = rest_end G.rest (omega (arith, h, ap length file_same)); counted = G.before.counted } }
+
+  module _ {x : RecordsMut} where
+    pub going_on : {to : ℕ} → Steps w x at (Ok to) → Going v x to
+    going_on {to} S =
+        let D : Stepped G.records w x at to = S.go G.records G.before in
+        record {
+          kept = keeps_then G.kept S.kept;
+          records = G.records ++ (D.record_got ∷ []);
+          before = record {
+            short = rw S.kept.file_is G.before.short;
+            rows_are = S.kept.rows_are ∙ rw S.kept.file_is G.before.rows_are;
+            counted = D.counted;
+            places = rw length-append (omega (arith, D.further, G.before.places));
+          };
+          rest = rest_got G.rest (omega (arith, D.further)) (omega (arith, D.further, D.within, ap length file_same)) (rw file_same at D.next);
+          within = omega (arith, D.within, ap length file_same);
+        }
+
+    pub going_further : {to : ℕ} → Steps w x at (Ok to) → (at < to) × (to ≤ length v.file.now)
+    going_further {to} S = let D : Stepped G.records w x at to = S.go G.records G.before in (omega (arith, D.further), omega (arith, D.within, ap length file_same))
+
+    pub going_bad : {e : Refusal} → at < length w.file.now → Steps w x at (Err e) → EntersAll v x (Err e)
+    going_bad {e} h S =
+        let T : TurnedBack G.records w x at e = S.go G.records G.before in
+        record {
+          kept = keeps_then G.kept S.kept;
+          told = record {
+            records = G.records;
+            is = rest_bad G.rest (omega (arith, h, ap length file_same)) (rw file_same at T.next);
+            sizes_are = rw T.unchanged.sizes_are G.before.counted.sizes_are;
+            few = omega (arith, h, G.before.places, G.before.short);
+          };
+        }

@@ -4,7 +4,6 @@ use mathlib.Core.Path.{◌≡◌, refl, sym, ap, ◌∙◌}
 use Prim.Native.Nat.{ℕ}
 use native.Mathlib.Omega.{arith}
 use mathlib.Core.List.{List, [], ◌∷◌}
-use mathlib.Core.Option.{some, none-ne-some}
 use types.Run.{OneOf, miss}
 use denote.Enum.Declared.{tag_of}
 use lib.ListN.{get_or}
@@ -109,8 +108,8 @@ term_tags = 10 ∷ 11 ∷ 12 ∷ 13 ∷ 14 ∷ 15 ∷ 16 ∷ 17 ∷ 18 ∷ 19 �
 
 module _ (x : Entry) where
   -- the first byte of the mark
-  byte_is : {s : Bytes} → some s ≡ some (mark_of x) → get_or (mark_of x) 0 0 ≡ get_or s 0 0
-  byte_is {s} e = let q : s ≡ mark_of x = cc in ap (λ (m : Bytes). get_or m 0 0) (sym q)
+  byte_is : {s : Bytes} → s ≡ mark_of x → get_or (mark_of x) 0 0 ≡ get_or s 0 0
+  byte_is e = ap (λ (m : Bytes). get_or m 0 0) (sym e)
 
   pub marked_type : (k : Kind) → OneOf type_tags (tag_of the_type k) → HasMark k x → TypeRecord x
   unfolding mark Computes.base
@@ -136,7 +135,6 @@ module _ (x : Entry) where
   marked_type kind.XR h e = absurd (miss type_tags 19 tt h)
   marked_type kind.XA h e = absurd (miss type_tags 20 tt h)
   marked_type kind.IN h e = absurd (miss type_tags 21 tt h)
-  marked_type kind.Unknown h e = absurd (miss type_tags 22 tt h)
 
   pub marked_term : (k : Kind) → OneOf term_tags (tag_of the_type k) → HasMark k x → TermRecord x
   unfolding mark Computes.base
@@ -162,7 +160,6 @@ module _ (x : Entry) where
   marked_term kind.XR h e = (kind_of_entry x).a_term (byte_is e)
   marked_term kind.XA h e = (kind_of_entry x).a_term (byte_is e)
   marked_term kind.IN h e = absurd (miss term_tags 21 tt h)
-  marked_term kind.Unknown h e = absurd (miss term_tags 22 tt h)
 
   module _ {k : Kind} (e : HasMark k x) where
     pub marked_enum : k ≡ kind.EN → EnumRecord x
@@ -176,7 +173,3 @@ module _ (x : Entry) where
     pub marked_input : k ≡ kind.IN → InputRecord x
     unfolding mark Computes.base
     marked_input q = (kind_of_entry x).an_input (byte_is (ap mark (sym q) ∙ e))
-
-    pub marked_unknown : k ≡ kind.Unknown → ⊥
-    unfolding mark
-    marked_unknown q = none-ne-some (mark_of x) (ap mark (sym q) ∙ e)

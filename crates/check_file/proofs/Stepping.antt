@@ -1,58 +1,51 @@
 -- A step from the record that was read and the step over it.
 -- Assumes nothing.
-use mathlib.Core.Path.{◌≡◌, refl, sym, ap, ◌∙◌, subst}
+use mathlib.Core.Path.{◌≡◌, sym, ◌∙◌, subst}
 use Prim.Native.Nat.{ℕ}
 use native.Mathlib.Omega.{arith}
-use mathlib.Core.Bool.{true, true≢false}
-use mathlib.Core.List.{List}
-use mathlib.Core.Option.{Option, none, some}
-use lib.ListN.{take, drop}
-use Rattle.script_spec.specs.Base.{Bytes, is_some, lookup}
-use Rattle.script_spec.specs.Fields.{Earlier, Entry, marks}
+use lib.ListN.{drop}
+use Rattle.std.specs.Prelude.{Result, Ok, Err}
+use Rattle.script_spec.specs.Fields.{Entry}
 use Rattle.script_spec.specs.File.{TermFile, earlier}
 use Rattle.index.specs.Standing.{mark_at}
-use Rattle.index.specs.declared.Sizes.{Sizes}
+use Rattle.index.specs.declared.RecordsMut.{RecordsMut}
+use Rattle.refusal.specs.declared.Refusal.{Refusal}
 use Rattle.read_record.specs.Marks.{mark, MarkedAs}
-use Rattle.read_record.specs.Records.{Said}
-use Rattle.read_record.specs.declared.mark.Kind.{Kind}
-use Rattle.read_record.specs.declared.Next.{Next}
-use Rattle.read_record.specs.declared.Next.TheVariants as next
+use Rattle.read_record.specs.Records.{Said, IsRecord}
+use Rattle.read_record.specs.declared.Record.{Record}
+use Rattle.check_rules.specs.Marks.{mark_of}
+use Rattle.check_enter.proofs.Rewritten.{keeps_same, unchanged}
 use Rattle.check_file.specs.Reading.{ReadsNext}
-use Rattle.check_file.specs.Stepping.{Before, ReadUpTo, HasMark, StepsOver, Steps}
-use Rattle.check_file.specs.declared.kinds.Step.{Step}
-use Rattle.check_file.specs.declared.kinds.Step.TheVariants as step
-use Rattle.check_file.proofs.Reading.{next_bad, read_marked}
+use Rattle.check_file.specs.Stepping.{Before, ReadUpTo, HasMark, EnterTells, StepsOver, Steps}
+use Rattle.check_file.proofs.Reading.{next_bad}
 use Rattle.check_file.proofs.Over.{next_mark}
 
 -- ---- the step over a record of a kind
 
 -- what a step over a record of one kind is to a record of another name of that kind
-pub over_as : {Is Is' : Entry → Type 0} {file : Bytes} {work work' : List ℕ} {at to : ℕ} {sizes : Sizes} {r : Step} → ((x : Entry) → Is' x → Is x) → StepsOver Is file work work' at to sizes r → StepsOver Is' file work work' at to sizes r
-over_as same S = record { go = λ f B x R b. S.go f B x R (same x b) }
-
--- the mark of the kind that was told is that of the record
-mark_told : (s : Bytes) (o : Option Bytes) (e : Earlier) → MarkedAs s o → is_some (lookup s (marks e)) ≡ true → o ≡ some s
-unfolding MarkedAs is_some
-mark_told s none e h known = absurd (true≢false (sym known ∙ ap is_some (h e)))
-mark_told s (some m) e h known = ap some (sym h)
+pub over_as : {Is Is' : Entry → Type 0} {v w : RecordsMut} {at : ℕ} {r : Result (Unit {0}) Refusal} → ((x : Entry) → Is' x → Is x) → StepsOver Is v w at r → StepsOver Is' v w at r
+over_as same S = record { kept = S.kept; go = λ f B to x R b. S.go f B to x R (same x b) }
 
 -- ---- the step
 
-module _ {file : Bytes} {work : List ℕ} {at : ℕ} {sizes : Sizes} {r : Next} (N : ReadsNext file work at sizes r) where
-  said : {s : Next} → r ≡ s → (f : TermFile) → Before file f work at sizes → Said (earlier f) file at s
-  said e f B = subst (λ (r : Next). Said (earlier f) file at r) e (N.go f B.indexed.index B.sizes_are).is
+module _ {v : RecordsMut} {at : ℕ} {r : Result Record Refusal} (N : ReadsNext v.file.now v.work.now at v.sizes r) where
+  said : {s : Result Record Refusal} → r ≡ s → (f : TermFile) → Before f v at → Said (earlier f) v.file.now at s
+  said e f B = subst (λ (r : Result Record Refusal). Said (earlier f) v.file.now at r) e (N.go f B.counted.indexed.index B.counted.sizes_are).is
 
-  pub step_bad : {n : ℕ} → r ≡ next.Bad n → Steps file work work at sizes (step.Bad n)
+  pub step_bad : {e : Refusal} → r ≡ Err e → Steps v v at (Err e)
   unfolding Said
-  step_bad e = record { go = λ f B. record { next = next_bad f (drop at file) (said e f B); unchanged = refl } }
+  step_bad e = record { kept = keeps_same v; go = λ f B. record { next = next_bad f (drop at v.file.now) (said e f B); unchanged = unchanged v } }
 
-  pub step_over : {work' : List ℕ} {kind : Kind} {start end : ℕ} {s : Step} → r ≡ next.Record kind start end → StepsOver (HasMark kind) file work work' at end sizes s → Steps file work work' at sizes s
-  unfolding Said mark_at
-  step_over {kind = kind} {end = end} e S =
-      record {
-        go = λ f B.
-            let I = said e f B in
-            let R : ReadUpTo file f at end I.entry = record { read = I.is; further = omega (arith, I.starts, I.ends); within = I.within } in
-            let told = mark_told (take 2 (drop at file)) (mark kind) (earlier f) I.marked.is (read_marked (earlier f) (drop at file) I.entry (drop end file) I.is) in
-            S.go f B I.entry R (told ∙ ap some (next_mark B R));
-      }
+  module _ {w : RecordsMut} {x : Record} {s : Result (Unit {0}) Refusal} (is : r ≡ Ok x) (S : StepsOver (HasMark x.kind) v w at s) where
+    tells : (f : TermFile) → Before f v at → EnterTells f v w at x.end s
+    unfolding Said MarkedAs mark_at
+    tells f B =
+        let I : IsRecord (earlier f) v.file.now at x.kind x.start x.end = said is f B in
+        let R : ReadUpTo v.file.now f at x.end I.entry = record { read = I.is; further = omega (arith, I.starts, I.ends); within = I.within } in
+        S.go f B x.end I.entry R (sym I.marked.is ∙ next_mark B R)
+
+    pub step_entered : s ≡ Ok tt → Steps v w at (Ok x.end)
+    step_entered e = record { kept = S.kept; go = λ f B. subst (λ (s : Result (Unit {0}) Refusal). EnterTells f v w at x.end s) e (tells f B) }
+
+    pub step_refused : {e : Refusal} → s ≡ Err e → Steps v w at (Err e)
+    step_refused e = record { kept = S.kept; go = λ f B. subst (λ (s : Result (Unit {0}) Refusal). EnterTells f v w at x.end s) e (tells f B) }

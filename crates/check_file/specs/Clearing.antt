@@ -1,17 +1,11 @@
 -- What clearing the working memory promises on the way out.
 -- Assumes nothing.
 use Rattle.std.specs.Prelude.{◌≡◌, ℕ, List, length, replicate}
-use Rattle.check_file.specs.declared.Checked.{Checked}
-use Rattle.check_file.specs.declared.Checked.TheVariants as check
-use Rattle.check_file.specs.declared.Filled.{Filled}
-use Rattle.check_file.specs.declared.Filled.TheVariants as fill
+use Rattle.refusal.specs.declared.Refusal.{Refusal}
+use Rattle.refusal.specs.declared.Refused.{Refused}
 
--- a refusal of this number and place, with the memory all zero
-pub record Refusing (work work' : List ℕ) (n place : ℕ) (r : Filled) : Type 0 where
-  pub answer : r ≡ fill.Refused n place
-  pub cleared : work' ≡ replicate (length work) 0
-
--- acceptance, with the memory all zero
-pub record Accepting (work work' : List ℕ) (r : Checked) : Type 0 where
-  pub answer : r ≡ check.Accepted
+-- a refusal and its place, with the memory all zero
+pub record Refusing (work work' : List ℕ) (refusal : Refusal) (place : ℕ) (r : Refused) : Type 0 where
+  pub refusal_is : r.refusal ≡ refusal
+  pub place_is : r.place ≡ place
   pub cleared : work' ≡ replicate (length work) 0

@@ -1,21 +1,18 @@
 -- What check and fill promise: document 01's answer, and the working memory that they leave.
 -- Assumes nothing.
-use Rattle.std.specs.Prelude.{◌≡◌, ℕ, ◌+◌, ◌/◌, List, length, replicate}
+use Rattle.std.specs.Prelude.{◌≡◌, ℕ, ◌+◌, ◌/◌, List, length, replicate, Result}
 use Rattle.script_spec.specs.Base.{Bytes, Answer, accepted, refused}
 use Rattle.script_spec.specs.File.{TermFile, checked}
 use Rattle.index.specs.Meaning.{Unnamed, CheckedIndex}
 use Rattle.index.specs.declared.Sizes.{Sizes}
-use Rattle.check_file.specs.declared.Checked.{Checked}
-use Rattle.check_file.specs.declared.Checked.TheVariants as check
-use Rattle.check_file.specs.declared.Filled.{Filled}
-use Rattle.check_file.specs.declared.Filled.TheVariants as fill
+use Rattle.refusal.specs.Numbers.{answered}
+use Rattle.refusal.specs.declared.Refused.{Refused}
 
 -- ---- check
 
 -- check's answer in document 01's terms: acceptance alone, or the refusal's number and place
-unfoldable pub checked_as : Checked → Answer (Unit {0})
-checked_as check.Accepted = accepted tt
-checked_as (check.Refused n p) = refused n p
+unfoldable pub checked_as : Result (Unit {0}) Refused → Answer (Unit {0})
+checked_as r = answered (λ u. u) r
 
 -- an answer without the records that it accepts
 unfoldable pub without_records : Answer TermFile → Answer (Unit {0})
@@ -23,7 +20,7 @@ without_records (accepted f) = accepted tt
 without_records (refused n p) = refused n p
 
 -- check's promise on a file, the memory at entry and at exit, and its answer
-pub record Checks (file : Bytes) (work work' : List ℕ) (r : Checked) : Type 0 where
+pub record Checks (file : Bytes) (work work' : List ℕ) (r : Result (Unit {0}) Refused) : Type 0 where
   pub answer : checked_as r ≡ without_records (checked file (length work))
   pub cleared : work' ≡ replicate (length work) 0
 
@@ -47,9 +44,8 @@ pub record Refuses (file : Bytes) (work work' : List ℕ) (n p : ℕ) : Type 0 w
   pub cleared : work' ≡ replicate (length work) 0
 
 -- fill's answer in document 01's terms: acceptance, with the sizes of the index, or the refusal's number and place
-abbrev pub filled_as : Filled → Answer Sizes
-filled_as (fill.Done sizes) = accepted sizes
-filled_as (fill.Refused n p) = refused n p
+abbrev pub filled_as : Result Sizes Refused → Answer Sizes
+filled_as r = answered (λ sizes. sizes) r
 
 -- such an answer is document 01's, and the memory at exit is as it says
 abbrev pub Answers : Bytes → List ℕ → List ℕ → Answer Sizes → Type 0
@@ -57,5 +53,5 @@ Answers file work work' (accepted sizes) = Accepts file work work' sizes
 Answers file work work' (refused n p) = Refuses file work work' n p
 
 -- fill's promise on a file, the memory at entry and at exit, and its answer
-abbrev pub Fills : Bytes → List ℕ → List ℕ → Filled → Type 0
+abbrev pub Fills : Bytes → List ℕ → List ℕ → Result Sizes Refused → Type 0
 Fills file work work' r = Answers file work work' (filled_as r)

@@ -1,91 +1,94 @@
 // Check: a file's records one after the other, with refusals 1 to 13, and the index that this fills.
 #![tactic(auto)]
 
-pub mod kinds;
 pub mod next;
 pub mod step;
 
-ghost use Rattle.check_file.specs.Promise.{Fills, Checks};
-ghost use Rattle.check_file.specs.Clearing.{Refusing, Accepting};
+ghost use Rattle.std.specs.Prelude.{◌≡◌, ◌<◌, [], length, replicate};
+ghost use Rattle.check_file.specs.Promise.{together, Fills, Checks};
+ghost use Rattle.check_file.specs.Stepping.{Before, EntersAll};
+ghost use Rattle.check_file.specs.Clearing.{Refusing};
 
-use index::Sizes;
-use kinds::Step;
-
-// Check's answer: acceptance, or a refusal's number and place.
-#[derive(Clone, Copy)]
-pub enum Checked {
-    Accepted,
-    Refused(u32, u32),
-}
+use index::{Column, RecordsMut, Sizes};
+use refusal::{Refusal, Refused};
 
 // As many bytes as a file may have.
 const MOST_BYTES: usize = 1048576;
 
-// The answer of filling the index: its sizes, or a refusal's number and place.
-#[derive(Clone, Copy)]
-pub enum Filled {
-    Done(Sizes),
-    Refused(u32, u32),
+// How many records there are, or the greatest number of 32 bits where there are more.
+pub fn together(sizes: Sizes) -> u32
+    ensures { together sizes < 4294967296 → result ≡ together sizes }
+{
+    sizes
+        .types
+        .saturating_add(sizes.funs)
+        .saturating_add(sizes.terms)
+        .saturating_add(sizes.enums)
+        .saturating_add(sizes.inputs)
+}
+
+// Clears the memory.
+fn clear(work: &mut [u32])
+    ensures { work.new ≡ replicate (length work.old) 0 }
+{
+    work.fill(0);
 }
 
 // Refuses: clears the memory.
-fn refuse(work: &mut [u32], n: u32, place: u32) -> Filled
-    ensures { Refusing work.old work.new n place result }
+fn refuse(work: &mut [u32], refusal: Refusal, place: u32) -> Refused
+    ensures { Refusing work.old work.new refusal place result }
 {
-    write_bytes::clear_words(work);
-    Filled::Refused(n, place)
+    clear(work);
+    Refused { refusal, place }
 }
 
-// Enters the records of a file one after the other; the memory is their index, or all zero where one is refused. Only the slots of the
-// hash table are read before they are written, and so emptied first.
-pub fn fill(file: &[u8], work: &mut [u32]) -> Filled
+// Enters the records of a file one after the other, up to the first that is refused.
+fn enter_all(records: &mut RecordsMut<'_>) -> Result<(), Refusal>
+    requires { Before [] records.old 0 }
+    ensures { EntersAll records.old records.new result }
+{
+    let mut at = 0;
+    while at < records.file.len() {
+        at = step::step(records, at)?;
+    }
+    Ok(())
+}
+
+// Enters the records of a file; the memory is their index, or all zero where one is refused. Only the slots of the hash table are read before
+// they are written, and so emptied first.
+pub fn fill(file: &[u8], work: &mut [u32]) -> Result<Sizes, Refused>
     ensures { Fills file.now work.old work.new result }
 {
     if MOST_BYTES < file.len() {
-        return refuse(work, 1, 0);
+        return Err(refuse(work, Refusal::FileTooLong, 0));
     }
     if work.len() < 2 * file.len() {
-        return refuse(work, 2, 0);
+        return Err(refuse(work, Refusal::MemoryTooSmall, 0));
     }
-    let rows = index::capacity(file.len());
-    index::clear_column(work, rows, index::HASH);
-    let mut at = 0;
-    let mut sizes = Sizes {
-        rows,
+    let sizes = Sizes {
+        rows: index::capacity(file.len()),
         types: 0,
         funs: 0,
         terms: 0,
         enums: 0,
         inputs: 0,
     };
-    while at < file.len() {
-        match step::step(file, work, at, sizes) {
-            Step::Bad(n) => {
-                return refuse(work, n, kinds::next_place(sizes));
-            }
-            Step::To(to, next) => {
-                at = to;
-                sizes = next;
-            }
+    let mut records = RecordsMut { file, work, sizes };
+    records.clear_column(Column::Hash);
+    match enter_all(&mut records) {
+        Ok(()) => Ok(records.sizes),
+        Err(refusal) => {
+            let place = together(records.sizes);
+            Err(refuse(&mut *records.work, refusal, place))
         }
     }
-    Filled::Done(sizes)
-}
-
-// Accepts: clears the memory.
-fn accept(memory: &mut [u32]) -> Checked
-    ensures { Accepting memory.old memory.new result }
-{
-    write_bytes::clear_words(memory);
-    Checked::Accepted
 }
 
 // Checks a file; the memory is all zero afterwards.
-pub fn check(file: &[u8], work: &mut [u32]) -> Checked
+pub fn check(file: &[u8], work: &mut [u32]) -> Result<(), Refused>
     ensures { Checks file.now work.old work.new result }
 {
-    match fill(file, work) {
-        Filled::Refused(n, place) => Checked::Refused(n, place),
-        Filled::Done(_) => accept(work),
-    }
+    fill(file, work)?;
+    clear(work);
+    Ok(())
 }

@@ -1,21 +1,25 @@
 // A step of the loop: the next record is read, and entered by its kind.
 ghost use Rattle.check_file.specs.Stepping.{HasMark, StepsOver, Steps};
 
-use crate::kinds;
-use crate::kinds::Step;
-use index::Sizes;
-use read_record::Next;
+use check_enter::enums::enter_enum;
+use check_enter::inputs::enter_input;
+use check_enter::terms::enter_term;
+use check_enter::{enter_fun, enter_type};
+use index::RecordsMut;
 use read_record::mark::Kind;
+use refusal::Refusal;
 
-// Enters a record of a kind that was read from `at` up to `to`.
-fn enter_next(file: &[u8], work: &mut [u32], at: usize, to: usize, sizes: Sizes, kind: Kind) -> Step
-    ensures { StepsOver (HasMark kind) file.now work.old work.new at to sizes result }
+// Enters a record of a kind that was read from `at` on; its place is how many there are before it.
+fn enter_next(records: &mut RecordsMut<'_>, at: usize, kind: Kind) -> Result<(), Refusal>
+    ensures { StepsOver (HasMark kind) records.old records.new at result }
 {
+    let offset = u32::try_from(at).unwrap_or(0);
+    let place = crate::together(records.sizes);
     match kind {
         Kind::TB | Kind::TS | Kind::TV | Kind::TO | Kind::TC | Kind::TE | Kind::TX | Kind::TR =>
-            kinds::next_type(file, work, at, to, sizes),
-        Kind::EN => kinds::next_enum(file, work, at, to, sizes),
-        Kind::UF => kinds::next_fun(file, work, at, to, sizes),
+            enter_type(records, offset, place),
+        Kind::EN => enter_enum(records, offset, place),
+        Kind::UF => enter_fun(records, offset, place),
         Kind::XV
         | Kind::XB
         | Kind::XN
@@ -26,22 +30,16 @@ fn enter_next(file: &[u8], work: &mut [u32], at: usize, to: usize, sizes: Sizes,
         | Kind::X1
         | Kind::XC
         | Kind::XR
-        | Kind::XA => kinds::next_term(file, work, at, to, sizes, kind),
-        Kind::IN => kinds::next_input(file, work, at, to, sizes),
-        Kind::Unknown => Step::Bad(4),
+        | Kind::XA => enter_term(records, offset, kind, place),
+        Kind::IN => enter_input(records, offset, place),
     }
 }
 
-// Reads the record at a place, and enters it.
-pub fn step(file: &[u8], work: &mut [u32], at: usize, sizes: Sizes) -> Step
-    ensures { Steps file.now work.old work.new at sizes result }
+// Reads the record at a place and enters it; the place after it.
+pub fn step(records: &mut RecordsMut<'_>, at: usize) -> Result<usize, Refusal>
+    ensures { Steps records.old records.new at result }
 {
-    match crate::next::read_next(file, at, work, sizes) {
-        Next::Bad(n) => Step::Bad(n),
-        Next::Record {
-            kind,
-            start: _,
-            end,
-        } => enter_next(file, work, at, end, sizes, kind),
-    }
+    let record = crate::next::read_next(records.view(), at)?;
+    enter_next(records, at, record.kind)?;
+    Ok(record.end)
 }

@@ -3,11 +3,12 @@
 use mathlib.Core.Path.{◌≡◌, refl, sym, ap, ◌∙◌}
 use Prim.Native.Nat.{ℕ}
 use mathlib.Core.List.{List, [], ◌∷◌}
-use mathlib.Core.Option.{Option, none, some, none-ne-some}
+use mathlib.Core.Option.{some, some_inj, none-ne-some}
+use Rattle.std.specs.Prelude.{Option as Optional, None as Nothing, Some as Just}
 use Rattle.script_spec.specs.Base.{Bytes, bytes, lookup}
 use Rattle.script_spec.specs.Tree.{TypeMark, Bool·, String·, Option·, Set·, BitVec·, Declared, entity, extension, record_of}
 use Rattle.script_spec.specs.Tree.{TermMark, Var, BoolLit, BitVecLit, StringLit, Entity, ExtLit, None, Some, Set, Record, App}
-use Rattle.script_spec.specs.Fields.{Entry, type, enum, func, term, input, Reader, marks}
+use Rattle.script_spec.specs.Fields.{Entry, type, enum, func, term, input}
 use Rattle.script_spec.proofs.Computes
 use Rattle.index.specs.Standing.{loose, entry_at, mark_at, body_at}
 use Rattle.index_compare.proofs.Standing.{entry_of_inverse}
@@ -53,7 +54,7 @@ kind_of (term m rs) = term_kind m
 kind_of (input n) = kind.IN
 
 -- its mark is the entry's
-type_mark : (m : TypeMark) → mark (type_kind m) ≡ some (type_bytes m)
+type_mark : (m : TypeMark) → mark (type_kind m) ≡ type_bytes m
 unfolding mark type_kind type_bytes datatype_bytes
 type_mark Bool· = refl
 type_mark String· = refl
@@ -64,7 +65,7 @@ type_mark (Declared (entity n)) = refl
 type_mark (Declared (extension x)) = refl
 type_mark (Declared (record_of names)) = refl
 
-term_mark : (m : TermMark ℕ ℕ) → mark (term_kind m) ≡ some (term_bytes m)
+term_mark : (m : TermMark ℕ ℕ) → mark (term_kind m) ≡ term_bytes m
 unfolding mark term_kind term_bytes
 term_mark (Var id n) = refl
 term_mark (BoolLit b) = refl
@@ -78,7 +79,7 @@ term_mark (Set n) = refl
 term_mark (Record names) = refl
 term_mark (App n op) = refl
 
-kind_mark : (x : Entry) → mark (kind_of x) ≡ some (mark_of x)
+kind_mark : (x : Entry) → mark (kind_of x) ≡ mark_of x
 unfolding mark kind_of mark_of
 kind_mark (type m rs) = type_mark m
 kind_mark (enum n ms) = refl
@@ -96,53 +97,40 @@ kinds =
     ∷ (bytes "XN", kind.XN) ∷ (bytes "XS", kind.XS) ∷ (bytes "XE", kind.XE) ∷ (bytes "XX", kind.XX) ∷ (bytes "X0", kind.X0) ∷ (bytes "X1", kind.X1)
     ∷ (bytes "XC", kind.XC) ∷ (bytes "XR", kind.XR) ∷ (bytes "XA", kind.XA) ∷ (bytes "IN", kind.IN) ∷ []
 
--- the kind that the table has, `Unknown` where it has none
-unfoldable known : Option Kind → Kind
-known none = kind.Unknown
-known (some k) = k
+kinds_mark : (k : Kind) → lookup (mark k) kinds ≡ some k
+unfolding mark kinds Computes.base
+kinds_mark kind.TB = refl
+kinds_mark kind.TS = refl
+kinds_mark kind.TV = refl
+kinds_mark kind.TO = refl
+kinds_mark kind.TC = refl
+kinds_mark kind.TE = refl
+kinds_mark kind.TX = refl
+kinds_mark kind.TR = refl
+kinds_mark kind.EN = refl
+kinds_mark kind.UF = refl
+kinds_mark kind.XV = refl
+kinds_mark kind.XB = refl
+kinds_mark kind.XN = refl
+kinds_mark kind.XS = refl
+kinds_mark kind.XE = refl
+kinds_mark kind.XX = refl
+kinds_mark kind.X0 = refl
+kinds_mark kind.X1 = refl
+kinds_mark kind.XC = refl
+kinds_mark kind.XR = refl
+kinds_mark kind.XA = refl
+kinds_mark kind.IN = refl
 
-unfoldable kind_by : Option Bytes → Kind
-kind_by none = kind.Unknown
-kind_by (some s) = known (lookup s kinds)
-
-kind_by_lem : (k : Kind) → kind_by (mark k) ≡ k
-unfolding mark kind_by known kinds Computes.base
-kind_by_lem kind.TB = refl
-kind_by_lem kind.TS = refl
-kind_by_lem kind.TV = refl
-kind_by_lem kind.TO = refl
-kind_by_lem kind.TC = refl
-kind_by_lem kind.TE = refl
-kind_by_lem kind.TX = refl
-kind_by_lem kind.TR = refl
-kind_by_lem kind.EN = refl
-kind_by_lem kind.UF = refl
-kind_by_lem kind.XV = refl
-kind_by_lem kind.XB = refl
-kind_by_lem kind.XN = refl
-kind_by_lem kind.XS = refl
-kind_by_lem kind.XE = refl
-kind_by_lem kind.XX = refl
-kind_by_lem kind.X0 = refl
-kind_by_lem kind.X1 = refl
-kind_by_lem kind.XC = refl
-kind_by_lem kind.XR = refl
-kind_by_lem kind.XA = refl
-kind_by_lem kind.IN = refl
-kind_by_lem kind.Unknown = refl
-
--- ---- the kind of the mark that an entry stands under
-
--- bytes that have a reader are the mark of their kind
-told_mark : (s : Bytes) (o : Option Bytes) {r : Reader Entry} → MarkedAs s o → lookup s (marks loose) ≡ some r → o ≡ some s
-unfolding MarkedAs
-told_mark s none {r} h e = absurd (none-ne-some r (sym (h loose) ∙ e))
-told_mark s (some m) h e = ap some (sym h)
-
-pub entry_kind : (file : Bytes) (o : ℕ) {k : Kind} {x : Entry} → Marked (mark_at file o) k → entry_at file o ≡ some x → k ≡ kind_of x
-unfolding entry_at
+-- the kind of the mark that an entry stands under
+pub entry_kind : (file : Bytes) (o : ℕ) {k : Kind} {x : Entry} → Marked (mark_at file o) (Just k) → entry_at file o ≡ some x → k ≡ kind_of x
+unfolding entry_at MarkedAs
 entry_kind file o {k} {x} M e =
-    let s = mark_at file o in
-    let h = entry_of_inverse s (body_at file o) e in
-    let same : mark k ≡ mark (kind_of x) = told_mark s (mark k) M.is h.found ∙ ap some (entry_mark s (body_at file o) e) ∙ sym (kind_mark x) in
-    sym (kind_by_lem k) ∙ ap kind_by same ∙ kind_by_lem (kind_of x)
+    let same : mark k ≡ mark (kind_of x) = sym M.is ∙ entry_mark (mark_at file o) (body_at file o) e ∙ sym (kind_mark x) in
+    some_inj.0 (sym (kinds_mark k) ∙ ap (λ (s : Bytes). lookup s kinds) same ∙ kinds_mark (kind_of x))
+
+-- an entry stands under a mark
+pub entry_marked : (file : Bytes) (o : ℕ) {k : Optional Kind} {x : Entry} → Marked (mark_at file o) k → entry_at file o ≡ some x → k ≡ Just (kind_of x)
+unfolding entry_at MarkedAs
+entry_marked file o {k = Just k} M e = ap Just (entry_kind file o M e)
+entry_marked file o {k = Nothing} M e = let h = entry_of_inverse (mark_at file o) (body_at file o) e in absurd (none-ne-some h.reader (sym (M.is loose) ∙ h.found))

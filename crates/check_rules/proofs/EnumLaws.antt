@@ -13,7 +13,11 @@ use Rattle.script_spec.specs.Base.{Bytes, ascending, empty}
 use Rattle.script_spec.specs.Fields.{got, text, u32, times, list, enum}
 use Rattle.script_spec.proofs.Laws.{never}
 use Rattle.script_spec.proofs.Readers.{bind_inverse, pure_inverse}
-use Rattle.read_field.specs.Reads.{value, refusal, as_read, Reads}
+use denote.Ref.{Bor}
+use Rattle.refusal.specs.declared.Refusal.{Refusal}
+use Rattle.read_field.specs.Reads.{as_read}
+use Rattle.read_field.specs.declared.Cursor.{Cursor}
+use Rattle.read_field.specs.Takes.{TakesTo, RefusesAt}
 use Rattle.index.specs.Standing.{entry_at, mark_at, body_at}
 use Rattle.check_rules.specs.Decided.{DecidesList}
 use Rattle.check_rules.specs.Tests.{item_text, any_given}
@@ -23,22 +27,27 @@ use Rattle.check_rules.proofs.Shapes.{enum_read}
 
 -- ---- the parts of the body
 
-module _ {body : Bytes} where
-  pub name_is_read : {t name : Bytes} {to : ℕ} → Reads text body 0 (value t to) → name ≡ t → NameRead body name
-  unfolding as_read
-  name_is_read h q = record { go = λ u left e. q ∙ cc (h.is, e) }
+-- the text that a cursor at the start of a body takes, or not
+here : {body : Bor Bytes} {c : Cursor} → (c.body ≡ body) × (c.at ≡ 0) → drop c.at c.body.now ≡ body.now
+here {c = c} starts = ap (λ (n : ℕ). drop n c.body.now) starts.1 ∙ ap (λ (b : Bor Bytes). b.now) starts.0
 
-  pub name_bad : {n : ℕ} (name : Bytes) → Reads text body 0 (refusal n) → NameRead body name
+module _ {body : Bor Bytes} {c : Cursor} (starts : (c.body ≡ body) × (c.at ≡ 0)) where
+  pub name_is_read : {d : Cursor} {t : Bytes} → TakesTo text c d t → NameRead body.now t
   unfolding as_read
-  name_bad name h = record { go = λ u left e. never (cc (h.is, e)) }
+  name_is_read h = let r = rw (here starts) at h.reads.is in record { go = λ u left e. cc (r, e) }
 
-  pub members_from : {t : Bytes} {to : ℕ} → Reads text body 0 (value t to) → MembersFrom body to
+  pub name_bad : {x : Refusal} (name : Bytes) → RefusesAt text c x → NameRead body.now name
   unfolding as_read
-  members_from h = record { go = λ u left e. cc (h.is, e) }
+  name_bad name h = let r = rw (here starts) at h.reads.is in record { go = λ u left e. never (cc (r, e)) }
 
-  pub members_bad : {n : ℕ} (at : ℕ) → Reads text body 0 (refusal n) → MembersFrom body at
+  -- the members stand after the name, if it can be read
+  pub members_after : {d : Cursor} {t : Bytes} → TakesTo text c d t → (d.body ≡ body) × MembersFrom body.now d.at
   unfolding as_read
-  members_bad at h = record { go = λ u left e. never (cc (h.is, e)) }
+  members_after h = let r = rw (here starts) at h.reads.is in let b = ap (λ (b : Bor Bytes). b.now) starts.0 in (h.body ∙ starts.0, record { go = λ u left e. rw (← b) (cc (r, e)) })
+
+  pub members_bad : {x : Refusal} (at : ℕ) → RefusesAt text c x → MembersFrom body.now at
+  unfolding as_read
+  members_bad at h = let r = rw (here starts) at h.reads.is in record { go = λ u left e. never (cc (r, e)) }
 
 -- a list has items where its count is not 0
 times_given : (n : ℕ) (s rest : Bytes) (ts : List Bytes) → times n text s ≡ got ts rest → ltb 0 n ≡ any_given ts
@@ -50,30 +59,30 @@ times_given (suc n) s rest ts e =
     let h = pure_inverse (b.value ∷ c.value) c.mid c.after in
     rw (← h.0) (lt-ltb 0 (suc n) (omega arith))
 
-pub list_given : {body : Bytes} {at n to : ℕ} → Reads u32 body at (value n to) → DecidesList text any_given body at (ltb 0 n)
-list_given {body} {n} {to} h = decides_list h (record { go = λ ts rest e. times_given n (drop to body) rest ts e })
+pub list_given : {c d : Cursor} {n : ℕ} → TakesTo u32 c d n → DecidesList text any_given c.body.now c.at (ltb 0 n)
+list_given {d = d} {n} h = decides_list h (record { go = λ ts rest e. times_given n (drop d.at d.body.now) rest ts e })
 
 -- ---- the enum at an offset
 
-module _ (file : Bytes) (o : ℕ) {body : Bytes} (is : body ≡ body_at file o) where
+module _ (file : Bytes) (o : ℕ) (body : Bor Bytes) (is : body.now ≡ body_at file o) where
   -- the test of the list after the name is the test of the members
-  members_test : (test : List Bytes → Bool) {at : ℕ} {b : Bool} → MembersFrom body at → DecidesList text test body at b → (name : Bytes) (members : List Bytes) → entry_at file o ≡ some (enum name members) → b ≡ test members
+  members_test : (test : List Bytes → Bool) {at : ℕ} {b : Bool} → MembersFrom body.now at → DecidesList text test body.now at b → (name : Bytes) (members : List Bytes) → entry_at file o ≡ some (enum name members) → b ≡ test members
   unfolding entry_at
   members_test test {at} M D name members e =
       let x = enum_read (mark_at file o) (body_at file o) e in
       D.go members [] (subst (λ (s : Bytes). list text s ≡ got members []) (M.go name x.left (ap text is ∙ x.name_is_read)) x.members_read)
 
-  pub enum_ascends : {at : ℕ} {b : Bool} → MembersFrom body at → DecidesList (item_text false) ascending body at b → EnumAscends file o b
+  pub enum_ascends : {c : Cursor} {b : Bool} → (c.body ≡ body) × MembersFrom body.now c.at → DecidesList (item_text false) ascending c.body.now c.at b → EnumAscends file o b
   unfolding item_text
-  enum_ascends M D = record { go = members_test ascending M D }
+  enum_ascends M D = record { go = members_test ascending M.1 (rw M.0 at D) }
 
-  pub enum_given : {at : ℕ} {b : Bool} → MembersFrom body at → DecidesList text any_given body at b → EnumGiven file o b
+  pub enum_given : {c : Cursor} {b : Bool} → (c.body ≡ body) × MembersFrom body.now c.at → DecidesList text any_given c.body.now c.at b → EnumGiven file o b
   unfolding any_given
-  enum_given M D = record { go = members_test any_given M D }
+  enum_given M D = record { go = members_test any_given M.1 (rw M.0 at D) }
 
-  name_is : {t : Bytes} → NameRead body t → (name : Bytes) (members : List Bytes) → entry_at file o ≡ some (enum name members) → t ≡ name
+  name_is : {t : Bytes} → NameRead body.now t → (name : Bytes) (members : List Bytes) → entry_at file o ≡ some (enum name members) → t ≡ name
   unfolding entry_at
   name_is N name members e = let x = enum_read (mark_at file o) (body_at file o) e in N.go name x.left (ap text is ∙ x.name_is_read)
 
-  pub name_at_lem : {t : Bytes} → NameRead body t → NameAt file o t
+  pub name_at_lem : {t : Bytes} → NameRead body.now t → NameAt file o t
   name_at_lem N = record { go = name_is N }

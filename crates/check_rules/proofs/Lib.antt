@@ -1,3 +1,4 @@
+pub mod Held
 pub mod References
 pub mod Noting
 pub mod Texts

@@ -16,8 +16,10 @@ use Rattle.index.specs.Cells.{cell, term_first}
 use Rattle.index.specs.Lists.{number_at}
 use Rattle.index.specs.Rules.{different}
 use Rattle.check_rules.specs.Repeats.{ref_at, first_at, Repeated, Different, RepeatsTold, Tells}
-use Rattle.check_rules.specs.declared.repeats.Answer.{Answer}
-use Rattle.check_rules.specs.declared.repeats.Answer.TheVariants.{Never, Once}
+use Rattle.std.specs.Prelude.{Option, Some}
+use Rattle.index.specs.declared.Records.{Records}
+use Rattle.index.specs.declared.RecordsMut.{RecordsMut}
+use Rattle.check_rules.proofs.Noting.{Views}
 use Rattle.check_rules.proofs.References.{ref_there}
 use Rattle.check_rules.specs.Decided.{DecidesItems, LeavesMemory}
 use Rattle.check_rules.specs.Tests.{different_terms}
@@ -107,11 +109,12 @@ length_map : (φ : ℕ → ℕ) (xs : List ℕ) → length (map φ xs) ≡ lengt
 length_map φ [] = refl
 length_map φ (x ∷ xs) = ap suc (length_map φ xs)
 
-module _ (body : Bytes) (work work' : List ℕ) (k from count : ℕ) {r : Answer} (T : Tells body work work' k from count r) where
-  says : {a : Answer} → r ≡ a → RepeatsTold (first_at body work k from) count a
-  says e = subst (λ (r : Answer). RepeatsTold (first_at body work k from) count r) e T.answer
+-- by the answer of the notes
+module _ {body : Bytes} {v w : RecordsMut} {from count : ℕ} {r : Option Bool} (T : Tells body v w from count r) where
+  says : {a : Option Bool} → r ≡ a → RepeatsTold (first_at body v.work.now v.sizes.rows from) count a
+  says e = subst (λ (r : Option Bool). RepeatsTold (first_at body v.work.now v.sizes.rows from) count r) e T.answer
 
-  pub never_differ : r ≡ Never → LeavesMemory work work' (DecidesItems u32 (different_terms work k) body from count true)
+  never_differ : r ≡ Some false → LeavesMemory v w (DecidesItems u32 (different_terms v.work.now v.sizes.rows) body from count true)
   unfolding different_terms
   never_differ e =
       record {
@@ -120,9 +123,9 @@ module _ (body : Bytes) (work work' : List ℕ) (k from count : ℕ) {r : Answer
             record {
               go = λ xs rest q.
                   let R = references_read body count from xs rest q in
-                  let n = length_map (cell work k term_first) xs ∙ R.size in
-                  let at = numbers_are body work k from count xs R in
-                  sym (different_all (cell work k term_first 0) (map (cell work k term_first) xs)
+                  let n = length_map (cell v.work.now v.sizes.rows term_first) xs ∙ R.size in
+                  let at = numbers_are body v.work.now v.sizes.rows from count xs R in
+                  sym (different_all (cell v.work.now v.sizes.rows term_first 0) (map (cell v.work.now v.sizes.rows term_first) xs)
                   (record {
                     go = λ P.
                         let m : P.second < count = rw (← n) P.below in
@@ -131,22 +134,26 @@ module _ (body : Bytes) (work work' : List ℕ) (k from count : ℕ) {r : Answer
             };
       }
 
-  pub once_differ : r ≡ Once → LeavesMemory work work' (DecidesItems u32 (different_terms work k) body from count false)
+  once_differ : r ≡ Some true → LeavesMemory v w (DecidesItems u32 (different_terms v.work.now v.sizes.rows) body from count false)
   unfolding different_terms
   once_differ e =
-      let P : Repeated (first_at body work k from) count = says e in
+      let P : Repeated (first_at body v.work.now v.sizes.rows from) count = says e in
       record {
         unchanged = T.unchanged;
         told =
             record {
               go = λ xs rest q.
                   let R = references_read body count from xs rest q in
-                  let n = length_map (cell work k term_first) xs ∙ R.size in
-                  let at = numbers_are body work k from count xs R in
-                  sym (different_not (cell work k term_first 0) (map (cell work k term_first) xs) P.first P.second P.ordered (rw n P.below)
+                  let n = length_map (cell v.work.now v.sizes.rows term_first) xs ∙ R.size in
+                  let at = numbers_are body v.work.now v.sizes.rows from count xs R in
+                  sym (different_not (cell v.work.now v.sizes.rows term_first 0) (map (cell v.work.now v.sizes.rows term_first) xs) P.first P.second P.ordered (rw n P.below)
                   (at P.first (omega (arith, P.ordered, P.below)) ∙ P.equal ∙ sym (at P.second P.below)));
             };
       }
 
-  pub pairs_differ : {b : Bool} → DecidesItems u32 (different_terms work' k) body from count b → LeavesMemory work work' (DecidesItems u32 (different_terms work k) body from count b)
-  pairs_differ D = record { unchanged = T.unchanged; told = rw T.unchanged at D }
+  pub told_differ : (b : Bool) → r ≡ Some b → LeavesMemory v w (DecidesItems u32 (different_terms v.work.now v.sizes.rows) body from count (not b))
+  told_differ true e = once_differ e
+  told_differ false e = never_differ e
+
+  pub pairs_differ : (x : Records) {b : Bool} → Views x w → DecidesItems u32 (different_terms x.work.now x.sizes.rows) body from count b → LeavesMemory v w (DecidesItems u32 (different_terms v.work.now v.sizes.rows) body from count b)
+  pairs_differ x V D = record { unchanged = T.unchanged; told = rw (V.1, V.2, T.unchanged.memory, T.unchanged.sizes_are) at D }

@@ -15,7 +15,12 @@ use Rattle.script_spec.proofs.Laws.{never}
 use Rattle.index.specs.Cells.{placed, offset, cell, store, term_first, note}
 use Rattle.index.proofs.Cells.{shared, length_store, cell_store_same, cell_store_apart}
 use Rattle.check_rules.specs.Repeats.{ref_at, first_at, noted, Noted, Notes, Clears, Repeated, Different, SameEarlier, Tells}
-use Rattle.check_rules.specs.declared.repeats.Answer.TheVariants.{Never, Once, Unknown}
+use Rattle.std.specs.Prelude.{Some, None}
+use Rattle.index.specs.Held.{Becomes}
+use Rattle.index.specs.declared.Records.{Records}
+use Rattle.index.specs.declared.Sizes.{Sizes}
+use Rattle.index.specs.declared.RecordsMut.{RecordsMut}
+use Rattle.check_rules.proofs.Held.{becomes_same, becomes_then}
 
 -- ---- a store that is undone
 
@@ -81,82 +86,99 @@ first_noted body work k from φ n i = noted_other work k φ n term_first (ref_at
 
 -- ---- noting
 
-module _ (body : Bytes) (work : List ℕ) (k from count : ℕ) where
+-- what a view shows of records
+abbrev pub Views : Records → RecordsMut → Type 0
+Views x v = (x.file.now ≡ v.file.now) × (x.work.now ≡ v.work.now) × (x.sizes ≡ v.sizes)
+
+-- a first equal number that is read by a view
+viewed : (body : Bytes) (x : Records) (v : RecordsMut) → Views x v → (from i : ℕ) → first_at body x.work.now x.sizes.rows from i ≡ first_at body v.work.now v.sizes.rows from i
+viewed body x v h from i = ap (λ (w : List ℕ). first_at body w x.sizes.rows from i) h.1 ∙ ap (λ (z : Sizes). first_at body v.work.now z.rows from i) h.2
+
+module _ (body : Bytes) (v : RecordsMut) (from count : ℕ) where
   -- some references are noted, and the memory has the column
-  pub record Noting (work' : List ℕ) (i : ℕ) : Type 0 where
-    pub has : 12 * k ≤ length work
+  pub record Noting (w : RecordsMut) (i : ℕ) : Type 0 where
+    pub becomes : Becomes v w w.work.now
+    pub has : 12 * v.sizes.rows ≤ length v.work.now
     pub most : i ≤ count
-    pub notes : Noted work work' k (first_at body work k from) i
+    pub notes : Noted v.work.now w.work.now v.sizes.rows (first_at body v.work.now v.sizes.rows from) i
 
-module _ {body : Bytes} {work : List ℕ} {k from count : ℕ} where
-  pub none_noted : Notes body work work k from count 0
+module _ {body : Bytes} {v : RecordsMut} {from count : ℕ} where
+  pub none_noted : Notes body v v from count 0
   unfolding noted
-  none_noted = record { most = omega arith; notes = record { is = refl; fits = λ h. absurd (omega arith); below = λ i l. absurd (omega arith); free = λ i l. absurd (omega arith) } }
+  none_noted = record { most = omega arith; becomes = becomes_same; notes = record { is = refl; fits = λ h. absurd (omega arith); below = λ i l. absurd (omega arith); free = λ i l. absurd (omega arith) } }
 
-  pub noting_start : k ≤ length work / 12 → Noting body work k from count work 0
+  pub noting_start : v.sizes.rows ≤ length v.work.now / 12 → Noting body v from count v 0
   unfolding noted
   noting_start h =
       record {
-        has = let p : 0 < 12 = omega arith in omega (arith, div-add-mod' (length work) 12, mod-lt (length work) p);
+        becomes = becomes_same;
+        has = let p : 0 < 12 = omega arith in omega (arith, div-add-mod' (length v.work.now) 12, mod-lt (length v.work.now) p);
         most = omega arith;
         notes = record { is = refl; fits = λ h. absurd (omega arith); below = λ i l. absurd (omega arith); free = λ i l. absurd (omega arith) };
       }
 
-  module _ {work₁ : List ℕ} {i : ℕ} (N : Noting body work k from count work₁ i) where
-    pub noting_size : length work₁ ≡ length work
-    noting_size = ap length N.notes.is ∙ noted_length work k (first_at body work k from) i
+  module _ {w : RecordsMut} {i : ℕ} (N : Noting body v from count w i) where
+    pub noting_stop : {n : ℕ} → i ≡ n → Notes body v w from count n
+    noting_stop e = rw (← e) (record { most = N.most; becomes = N.becomes; notes = N.notes })
 
-    pub noting_stop : Notes body work work₁ k from count i
-    noting_stop = record { most = N.most; notes = N.notes }
-
-    pub noting_more : {f v : ℕ} {work₂ : List ℕ} → i < count → f ≡ first_at body work₁ k from i → f < k → v ≡ cell work₁ k note f → v ≡ 0 → work₂ ≡ store work₁ k note f (i + 1)
-        → Noting body work k from count work₂ (i + 1)
+    pub noting_more : (x : Records) {f n : ℕ} {u : RecordsMut} → i < count → Views x w → f ≡ first_at body x.work.now x.sizes.rows from i → f < v.sizes.rows → n ≡ cell w.work.now w.sizes.rows note f → n ≡ 0 → Becomes w u (store w.work.now w.sizes.rows note f (i + 1))
+        → Noting body v from count u (i + 1)
     unfolding noted
-    noting_more {f} l e g q z s =
+    noting_more x {f} {n} {u} l V e g q z s =
+        let work = v.work.now in
+        let k = v.sizes.rows in
+        let rows : w.sizes.rows ≡ k = ap (λ (z : Sizes). z.rows) N.becomes.sizes_are in
         let φ = first_at body work k from in
-        let same : f ≡ φ i = e ∙ ap (λ (w : List ℕ). first_at body w k from i) N.notes.is ∙ first_noted body work k from φ i i in
+        let read : f ≡ first_at body w.work.now k from i = e ∙ viewed body x w V from i ∙ ap (λ (m : ℕ). first_at body w.work.now m from i) rows in
+        let same : f ≡ φ i = read ∙ ap (λ (w : List ℕ). first_at body w k from i) N.notes.is ∙ first_noted body work k from φ i i in
+        let empty : n ≡ cell w.work.now k note f = q ∙ ap (λ (m : ℕ). cell w.work.now m note f) rows in
+        let is : u.work.now ≡ store w.work.now k note f (i + 1) = s.memory ∙ ap (λ (m : ℕ). store w.work.now m note f (i + 1)) rows in
         record {
+          becomes = becomes_then N.becomes (record { file_is = s.file_is; sizes_are = s.sizes_are; lent = s.lent; memory = refl });
           has = N.has;
           most = omega arith;
           notes =
               rw (add-one i)
               (record {
-                is = s ∙ ap (λ (w : List ℕ). store w k note f (i + 1)) N.notes.is ∙ rw (same, add-one i);
+                is = is ∙ ap (λ (w : List ℕ). store w k note f (i + 1)) N.notes.is ∙ rw (same, add-one i);
                 fits = λ h. N.has;
                 below = λ j m. below_more (λ j. φ j < k) i N.notes.below (rw (← same) g) j (omega arith);
-                free = λ j m. below_more (λ j. cell (noted work k φ j) k note (φ j) ≡ 0) i N.notes.free (rw (← N.notes.is, ← same) (sym q ∙ z)) j (omega arith);
+                free = λ j m. below_more (λ j. cell (noted work k φ j) k note (φ j) ≡ 0) i N.notes.free (rw (← N.notes.is, ← same) (sym empty ∙ z)) j (omega arith);
               });
         }
 
 -- ---- clearing
 
 -- the notes from the reference i on are cleared
-pub record Clearing (body : Bytes) (work work' : List ℕ) (k from n i : ℕ) : Type 0 where
+pub record Clearing (body : Bytes) (v w : RecordsMut) (from n i : ℕ) : Type 0 where
+  pub becomes : Becomes v w w.work.now
   pub most : i ≤ n
-  pub same_size : length work' ≡ length work
-  pub go : (work₀ : List ℕ) → Noted work₀ work k (first_at body work₀ k from) n → work' ≡ noted work₀ k (first_at body work₀ k from) i
+  pub go : (work₀ : List ℕ) → Noted work₀ v.work.now v.sizes.rows (first_at body work₀ v.sizes.rows from) n → w.work.now ≡ noted work₀ v.sizes.rows (first_at body work₀ v.sizes.rows from) i
 
-module _ {body : Bytes} {work : List ℕ} {k from n : ℕ} where
-  pub clearing_start : Clearing body work work k from n n
-  clearing_start = record { most = omega arith; same_size = refl; go = λ work₀ N. N.is }
+module _ {body : Bytes} {v : RecordsMut} {from n : ℕ} where
+  pub clearing_start : {i : ℕ} → i ≡ n → Clearing body v v from n i
+  clearing_start e = rw e (record { becomes = becomes_same; most = omega arith; go = λ work₀ N. N.is })
 
-  module _ {work₁ : List ℕ} {i : ℕ} (C : Clearing body work work₁ k from n i) where
-    pub clearing_end : i ≤ 0 → Clears body work work₁ k from n
+  module _ {w : RecordsMut} {i : ℕ} (C : Clearing body v w from n i) where
+    pub clearing_end : i ≡ 0 → Clears body v w from n
     unfolding noted
-    clearing_end h = record { go = λ work₀ N. let z : i ≡ 0 = omega arith in C.go work₀ N ∙ rw z }
+    clearing_end z = record { becomes = C.becomes; go = λ work₀ N. C.go work₀ N ∙ rw z }
 
-    pub clearing_more : {f : ℕ} {work₂ : List ℕ} → 0 < i → f ≡ first_at body work₁ k from (i - 1) → work₂ ≡ store work₁ k note f 0 → Clearing body work work₂ k from n (i - 1)
+    pub clearing_more : (x : Records) {f j : ℕ} {u : RecordsMut} → i ≡ suc j → Views x w → f ≡ first_at body x.work.now x.sizes.rows from j → Becomes w u (store w.work.now w.sizes.rows note f 0) → Clearing body v u from n j
     unfolding noted
-    clearing_more {f} l e s =
+    clearing_more x {f} {j} {u} z V e s =
+        let k = v.sizes.rows in
+        let rows : w.sizes.rows ≡ k = ap (λ (z : Sizes). z.rows) C.becomes.sizes_are in
+        let read : f ≡ first_at body w.work.now k from j = e ∙ viewed body x w V from j ∙ ap (λ (m : ℕ). first_at body w.work.now m from j) rows in
+        let stored : u.work.now ≡ store w.work.now k note f 0 = s.memory ∙ ap (λ (m : ℕ). store w.work.now m note f 0) rows in
         record {
+          becomes = becomes_then C.becomes (record { file_is = s.file_is; sizes_are = s.sizes_are; lent = s.lent; memory = refl });
           most = omega (arith, C.most);
-          same_size = ap length s ∙ length_store work₁ k note f 0 ∙ C.same_size;
           go = λ work₀ N.
               let φ = first_at body work₀ k from in
-              let z : i ≡ suc (i - 1) = omega arith in
-              let is : work₁ ≡ noted work₀ k φ (suc (i - 1)) = C.go work₀ N ∙ ap (noted work₀ k φ) z in
-              let same : f ≡ φ (i - 1) = e ∙ ap (λ (w : List ℕ). first_at body w k from (i - 1)) is ∙ first_noted body work₀ k from φ (suc (i - 1)) (i - 1) in
-              s ∙ ap (λ (w : List ℕ). store w k note f 0) is ∙ rw same (store_undone (noted work₀ k φ (i - 1)) k note (φ (i - 1)) (suc (i - 1)) (N.free (i - 1) (omega (arith, C.most))));
+              let is : w.work.now ≡ noted work₀ k φ (suc j) = C.go work₀ N ∙ ap (noted work₀ k φ) z in
+              let same : f ≡ φ j = read ∙ ap (λ (w : List ℕ). first_at body w k from j) is ∙ first_noted body work₀ k from φ (suc j) j in
+              stored ∙ ap (λ (w : List ℕ). store w k note f 0) is ∙ rw same (store_undone (noted work₀ k φ j) k note (φ j) (suc j) (N.free j (omega (arith, C.most))));
         }
 
 -- ---- answers
@@ -168,15 +190,21 @@ module _ {body : Bytes} {work : List ℕ} {k from : ℕ} where
   pub maybe_earlier : {v n a b : ℕ} {r : Bool} → (v ≡ 0 → ⊥) → v ≤ n → a ≡ first_at body work k from (v - 1) → b ≡ first_at body work k from n → (r ≡ true → a ≡ b) → SameEarlier body work k from n r
   maybe_earlier {v} {n} z l e q h = record { go = λ t. record { first = v - 1; second = n; ordered = omega (arith, z); below = omega arith; equal = sym e ∙ h t ∙ q } }
 
-module _ {body : Bytes} {work work₁ work₂ : List ℕ} {k from count n : ℕ} (N : Notes body work work₁ k from count n) (C : Clears body work₁ work₂ k from n) where
-  pub repeats_never : n ≡ count → Tells body work work₂ k from count Never
-  repeats_never e = record { unchanged = C.go work N.notes; answer = rw (← e) (noted_different N.notes) }
+module _ {body : Bytes} {v w u : RecordsMut} {from count n : ℕ} (N : Notes body v w from count n) (C : Clears body w u from n) where
+  back : Becomes v u v.work.now
+  back =
+      let b = becomes_then N.becomes C.becomes in
+      let noted : Noted v.work.now w.work.now w.sizes.rows (first_at body v.work.now w.sizes.rows from) n = rw (N.becomes.sizes_are) N.notes in
+      record { file_is = b.file_is; sizes_are = b.sizes_are; lent = b.lent; memory = C.go v.work.now noted }
 
-  pub repeats_unknown : Tells body work work₂ k from count Unknown
-  repeats_unknown = record { unchanged = C.go work N.notes; answer = tt }
+  pub repeats_never : n ≡ count → Tells body v u from count (Some false)
+  repeats_never e = record { unchanged = back; answer = rw (← e) (noted_different N.notes) }
 
-  pub repeats_once : {r : Bool} → (n ≡ count → ⊥) → SameEarlier body work₂ k from n r → r ≡ true → Tells body work work₂ k from count Once
-  repeats_once h E t =
-      let same = C.go work N.notes in
-      let R : Repeated (first_at body work k from) (suc n) = rw same at (E.go t) in
-      record { unchanged = same; answer = record { first = R.first; second = R.second; ordered = R.ordered; below = omega (arith, R.below, N.most, h); equal = R.equal } }
+  pub repeats_unknown : Tells body v u from count None
+  repeats_unknown = record { unchanged = back; answer = tt }
+
+  pub repeats_once : (x : Records) {r : Bool} → Views x u → (n ≡ count → ⊥) → SameEarlier body x.work.now x.sizes.rows from n r → r ≡ true → Tells body v u from count (Some true)
+  repeats_once x V h E t =
+      let R₀ = E.go t in
+      let R : Repeated (first_at body v.work.now v.sizes.rows from) (suc n) = rw (V.1, V.2, back.memory, back.sizes_are) at R₀ in
+      record { unchanged = back; answer = record { first = R.first; second = R.second; ordered = R.ordered; below = omega (arith, R.below, N.most, h); equal = R.equal } }

@@ -1,37 +1,25 @@
--- Texts compared from a place on: what the bytes there decide.
+-- The order of texts in the definitions is that of slices in the library.
 -- Assumes nothing.
 use mathlib.Core.Path.{◌≡◌, refl}
-use Prim.Native.Nat.{ℕ, ◌+◌, ◌≤◌, ◌<◌}
-use native.Mathlib.Omega.{arith}
-use native.Mathlib.Numerals.{add-one}
-use mathlib.Core.Bool.{true, false}
+use mathlib.Core.Bool.{Bool, true, false, ◌&&◌, ◌||◌}
 use mathlib.Core.List.{[], ◌∷◌}
-use borrow.Author.Tests.{eq-eqb, ne_eqb, lt-ltb, le-ltb}
-use lib.ListN.{length, drop, get_or, drop_of_length-le}
-use lib.Seq.{drop-cons}
+use lib.Dec.{ltb, eqb}
+use Rattle.std.specs.Prelude.{Option, Some, cond}
+use Rattle.std.specs.declared.cmp.Ordering.{Ordering}
+use Rattle.std.specs.declared.cmp.Ordering.TheVariants.{Less, Equal, Greater}
+use Rattle.std.specs.Ordering.{is_lt, is_some_and, nat_cmp, partial_ordering_then}
+use Rattle.std.specs.Cmp.Lexicographic.{slice_partial_cmp}
 use Rattle.script_spec.specs.Base.{Bytes, before}
 
-before_nil : (a : Bytes) → before a [] ≡ false
+-- the first bytes decide, or else the others do
+first_decides : (t u : Bool) (o : Option Ordering) (r : Bool) → is_some_and is_lt o ≡ r → is_some_and is_lt (partial_ordering_then (Some (cond t Less (cond u Equal Greater))) o) ≡ (t || (u && r))
+first_decides true u o r h = refl
+first_decides false true o r h = h
+first_decides false false o r h = refl
+
+pub before_is : (a b : Bytes) → is_some_and is_lt (slice_partial_cmp (λ x y. Some (nat_cmp x y)) a b) ≡ before a b
 unfolding before
-before_nil [] = refl
-before_nil (x ∷ a) = refl
-
-module _ (a b : Bytes) (i : ℕ) where
-  pub before_next : i < length a → i < length b → get_or a i 0 ≡ get_or b i 0 → before (drop i a) (drop i b) ≡ before (drop (i + 1) a) (drop (i + 1) b)
-  unfolding before
-  before_next h k e = rw (add-one, drop-cons a i 0 h, drop-cons b i 0 k, eq-eqb (get_or a i 0) (get_or b i 0) e, le-ltb (get_or a i 0) (get_or b i 0) (omega arith))
-
-  pub before_less : i < length a → i < length b → get_or a i 0 < get_or b i 0 → before (drop i a) (drop i b) ≡ true
-  unfolding before
-  before_less h k l = rw (drop-cons a i 0 h, drop-cons b i 0 k, lt-ltb (get_or a i 0) (get_or b i 0) l)
-
-  pub before_more : i < length a → i < length b → get_or b i 0 < get_or a i 0 → before (drop i a) (drop i b) ≡ false
-  unfolding before
-  before_more h k l = rw (drop-cons a i 0 h, drop-cons b i 0 k, le-ltb (get_or a i 0) (get_or b i 0) (omega arith), ne_eqb (get_or a i 0) (get_or b i 0) (λ e. omega arith))
-
-  pub before_short : length a ≤ i → i < length b → before (drop i a) (drop i b) ≡ true
-  unfolding before
-  before_short h k = rw (drop_of_length-le a {i = i} h, drop-cons b i 0 k)
-
-  pub before_end : length b ≤ i → before (drop i a) (drop i b) ≡ false
-  before_end h = rw (drop_of_length-le b {i = i} h) (before_nil (drop i a))
+before_is [] [] = refl
+before_is [] (y ∷ b) = refl
+before_is (x ∷ a) [] = refl
+before_is (x ∷ a) (y ∷ b) = first_decides (ltb x y) (eqb x y) (slice_partial_cmp (λ x y. Some (nat_cmp x y)) a b) (before a b) (before_is a b)

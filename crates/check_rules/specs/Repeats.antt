@@ -1,11 +1,11 @@
 -- References of a list that repeat, by the numbers of first equal terms, and the notes that are made to find them.
 -- Assumes nothing.
-use Rattle.std.specs.Prelude.{◌≡◌, ℕ, zero, suc, ◌+◌, ◌*◌, ◌≤◌, ◌<◌, Bool, true, List, length}
+use Rattle.std.specs.Prelude.{◌≡◌, ℕ, zero, suc, ◌+◌, ◌*◌, ◌≤◌, ◌<◌, Bool, true, false, List, Option, None, Some, length}
 use Rattle.script_spec.specs.Base.{Bytes}
 use Rattle.index.specs.Cells.{cell, store, term_first, note}
 use Rattle.index.specs.Lists.{number_at}
-use Rattle.check_rules.specs.declared.repeats.Answer.{Answer}
-use Rattle.check_rules.specs.declared.repeats.Answer.TheVariants.{Never, Once, Unknown}
+use Rattle.index.specs.Held.{Becomes}
+use Rattle.index.specs.declared.RecordsMut.{RecordsMut}
 
 -- the reference with number i of those from a place of the body on, 0 where there is none
 unfoldable pub ref_at : Bytes → ℕ → ℕ → ℕ
@@ -30,13 +30,15 @@ pub record Noted (work work' : List ℕ) (rows : ℕ) (φ : ℕ → ℕ) (n : �
   pub free : (i : ℕ) → i < n → cell (noted work rows φ i) rows note (φ i) ≡ 0
 
 -- the first equal numbers of the first n of so many references are noted
-pub record Notes (body : Bytes) (work work' : List ℕ) (rows from count n : ℕ) : Type 0 where
+pub record Notes (body : Bytes) (v w : RecordsMut) (from count n : ℕ) : Type 0 where
   pub most : n ≤ count
-  pub notes : Noted work work' rows (first_at body work rows from) n
+  pub becomes : Becomes v w w.work.now
+  pub notes : Noted v.work.now w.work.now v.sizes.rows (first_at body v.work.now v.sizes.rows from) n
 
 -- the notes of the first n references are cleared
-pub record Clears (body : Bytes) (work work' : List ℕ) (rows from n : ℕ) : Type 0 where
-  pub go : (work₀ : List ℕ) → Noted work₀ work rows (first_at body work₀ rows from) n → work' ≡ work₀
+pub record Clears (body : Bytes) (v w : RecordsMut) (from n : ℕ) : Type 0 where
+  pub becomes : Becomes v w w.work.now
+  pub go : (work₀ : List ℕ) → Noted work₀ v.work.now v.sizes.rows (first_at body work₀ v.sizes.rows from) n → w.work.now ≡ work₀
 
 -- ---- answers
 
@@ -57,12 +59,12 @@ pub record SameEarlier (body : Bytes) (work : List ℕ) (rows from n : ℕ) (r :
   pub go : r ≡ true → Repeated (first_at body work rows from) (suc n)
 
 -- what the answer says of some numbers
-abbrev pub RepeatsTold : (ℕ → ℕ) → ℕ → Answer → Type 0
-RepeatsTold φ count Never = Different φ count
-RepeatsTold φ count Once = Repeated φ count
-RepeatsTold φ count Unknown = Unit {0}
+abbrev pub RepeatsTold : (ℕ → ℕ) → ℕ → Option Bool → Type 0
+RepeatsTold φ count (Some false) = Different φ count
+RepeatsTold φ count (Some true) = Repeated φ count
+RepeatsTold φ count None = Unit {0}
 
 -- the answer, and the memory is as it was
-pub record Tells (body : Bytes) (work work' : List ℕ) (rows from count : ℕ) (r : Answer) : Type 0 where
-  pub unchanged : work' ≡ work
-  pub answer : RepeatsTold (first_at body work rows from) count r
+pub record Tells (body : Bytes) (v w : RecordsMut) (from count : ℕ) (r : Option Bool) : Type 0 where
+  pub unchanged : Becomes v w v.work.now
+  pub answer : RepeatsTold (first_at body v.work.now v.sizes.rows from) count r

@@ -1,88 +1,52 @@
 // Texts of a list that ascend strictly.
-ghost use Rattle.std.specs.Prelude.{take, drop};
-ghost use Rattle.read_field.specs.Reads.{Reads};
-ghost use Rattle.read_field.specs.Answers.{text_told};
 ghost use Rattle.script_spec.specs.Base.{ascending};
+ghost use Rattle.read_field.specs.Takes.{Takes, bytes_of};
 ghost use Rattle.check_rules.specs.Decided.{DecidesItems};
-ghost use Rattle.check_rules.specs.Tests.{named_text, item_text, ascending_after};
+ghost use Rattle.check_rules.specs.Tests.{item_text, ascending_after};
 
-use read_field::{Cursor, ReadNumber, ReadText};
+use read_field::Cursor;
+use refusal::Refusal;
 
-// The text of an item with a reference after it.
-fn named_text(c: Cursor, body: &[u8]) -> ReadText
-    ensures { Reads named_text body.now c.at (text_told body.now result) }
+// The text of an item, which stands alone or before a reference.
+fn item_text<'a, const NAMED: bool>(c: Cursor<'a>) -> Result<(&'a [u8], Cursor<'a>), Refusal>
+    ensures { Takes (item_text NAMED) c.entry (bytes_of result) }
 {
-    match c.text(body) {
-        ReadText::Bad(n) => ReadText::Bad(n),
-        ReadText::Bytes(span, d) => match d.u32_le(body) {
-            ReadNumber::Bad(n) => ReadText::Bad(n),
-            ReadNumber::Value(_, e) => ReadText::Bytes(span, e),
-        },
+    if !NAMED {
+        return c.text();
     }
+    let (text, rest) = c.text()?;
+    let (_, after) = rest.u32_le()?;
+    Ok((text, after))
 }
 
-fn item_text(c: Cursor, body: &[u8], named: bool) -> ReadText
-    ensures { Reads (item_text named) body.now c.at (text_told body.now result) }
+// Whether so many texts ascend after a first one.
+fn ascend_after<'a, const NAMED: bool>(rest: Cursor<'a>, first: &'a [u8], count: u32) -> bool
+    ensures { DecidesItems (item_text NAMED) (ascending_after first.now) rest.entry.body.now rest.entry.at count result }
 {
-    if named {
-        return named_text(c, body);
-    }
-    c.text(body)
-}
-
-// Whether so many texts ascend after the one at a start with a length.
-fn ascend_after(
-    body: &[u8],
-    named: bool,
-    first: usize,
-    size: usize,
-    from: usize,
-    count: u32,
-) -> bool
-    ensures { DecidesItems (item_text named) (ascending_after (take size (drop first body.now))) body.now from count result }
-{
-    let mut start = first;
-    let mut len = size;
-    let mut at = from;
-    let mut left = count;
-    while 0 < left {
-        match item_text(Cursor { at }, body, named) {
-            ReadText::Bad(_) => {
-                return true;
-            }
-            ReadText::Bytes(span, d) => {
-                let previous = read_field::part_of(body, start, len);
-                let next = read_field::part_of(body, span.start, span.len);
-                if crate::text::before(previous, next) {
-                    start = span.start;
-                    len = span.len;
-                    at = d.at;
-                } else {
-                    return false;
-                }
-            }
+    let mut c = rest;
+    let mut previous = first;
+    for _ in 0..count {
+        let Ok((next, after)) = item_text::<NAMED>(c) else {
+            return true;
+        };
+        if !crate::text::before(previous, next) {
+            return false;
         }
-        left -= 1;
+        previous = next;
+        c = after;
     }
     true
 }
 
-// Whether so many texts from a place of the body on ascend.
-pub fn ascend(body: &[u8], named: bool, at: usize, count: u32) -> bool
-    ensures { DecidesItems (item_text named) ascending body.now at count result }
+// Whether so many texts ascend.
+pub fn ascend<const NAMED: bool>(rest: Cursor<'_>, count: u32) -> bool
+    ensures { DecidesItems (item_text NAMED) ascending rest.entry.body.now rest.entry.at count result }
 {
     if count == 0 {
         return true;
     }
-    match item_text(Cursor { at }, body, named) {
-        ReadText::Bad(_) => true,
-        ReadText::Bytes(span, d) => ascend_after(
-            body,
-            named,
-            span.start,
-            span.len,
-            d.at,
-            count - 1,
-        ),
-    }
+    let Ok((first, after)) = item_text::<NAMED>(rest) else {
+        return true;
+    };
+    ascend_after::<NAMED>(after, first, count - 1)
 }

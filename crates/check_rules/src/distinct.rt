@@ -3,63 +3,50 @@ ghost use Rattle.script_spec.specs.Fields.{u32};
 ghost use Rattle.check_rules.specs.Decided.{DecidesItems, LeavesMemory};
 ghost use Rattle.check_rules.specs.Tests.{any_first, different_terms};
 
-use crate::repeats::Answer;
-use read_field::{Cursor, ReadNumber};
+use index::{Column, Records, RecordsMut};
+use read_field::Cursor;
 
 // Whether one of so many references has a first equal number.
-fn any_first(body: &[u8], work: &[u32], rows: usize, first: u32, from: usize, count: u32) -> bool
-    ensures { DecidesItems u32 (any_first work.now rows first) body.now from count result }
+fn any_first(rest: Cursor<'_>, records: Records<'_>, first: u32, count: u32) -> bool
+    ensures { DecidesItems u32 (any_first records.entry.work.now records.entry.sizes.rows first) rest.entry.body.now rest.entry.at count result }
 {
-    let mut at = from;
-    let mut left = count;
-    while 0 < left {
-        match (Cursor { at }).u32_le(body) {
-            ReadNumber::Bad(_) => {
-                return false;
-            }
-            ReadNumber::Value(n, d) => {
-                if index::get(work, rows, index::TERM_FIRST, n as usize) == first {
-                    return true;
-                }
-                at = d.at;
-            }
+    let mut c = rest;
+    for _ in 0..count {
+        let Ok((n, after)) = c.u32_le() else {
+            return false;
+        };
+        if records.get(Column::TermFirst, n) == first {
+            return true;
         }
-        left -= 1;
+        c = after;
     }
     false
 }
 
-// Whether no two of so many references from a place of the body on have the same first equal number, each compared with the others.
-fn differ_in_pairs(body: &[u8], work: &[u32], rows: usize, from: usize, count: u32) -> bool
-    ensures { DecidesItems u32 (different_terms work.now rows) body.now from count result }
+// Whether no two of so many references have the same first equal number, each compared with the others.
+fn differ_in_pairs(rest: Cursor<'_>, records: Records<'_>, count: u32) -> bool
+    ensures { DecidesItems u32 (different_terms records.entry.work.now records.entry.sizes.rows) rest.entry.body.now rest.entry.at count result }
 {
-    let mut at = from;
-    let mut left = count;
-    while 0 < left {
-        match (Cursor { at }).u32_le(body) {
-            ReadNumber::Bad(_) => {
-                return true;
-            }
-            ReadNumber::Value(n, d) => {
-                let first = index::get(work, rows, index::TERM_FIRST, n as usize);
-                if any_first(body, work, rows, first, d.at, left - 1) {
-                    return false;
-                }
-                at = d.at;
-            }
+    let mut c = rest;
+    for i in 0..count {
+        let Ok((n, after)) = c.u32_le() else {
+            return true;
+        };
+        let first = records.get(Column::TermFirst, n);
+        if any_first(after, records, first, count - i - 1) {
+            return false;
         }
-        left -= 1;
+        c = after;
     }
     true
 }
 
-// Whether no two of so many references from a place of the body on have the same first equal number; the memory is as it was.
-pub fn differ(body: &[u8], work: &mut [u32], rows: usize, from: usize, count: u32) -> bool
-    ensures { LeavesMemory work.old work.new (DecidesItems u32 (different_terms work.old rows) body.now from count result) }
+// Whether no two of so many references have the same first equal number; the memory is as it was.
+pub fn differ(rest: Cursor<'_>, records: &mut RecordsMut<'_>, count: u32) -> bool
+    ensures { LeavesMemory records.old records.new (DecidesItems u32 (different_terms records.old.work.now records.old.sizes.rows) rest.entry.body.now rest.entry.at count result) }
 {
-    match crate::repeats::repeats(body, work, rows, from, count) {
-        Answer::Never => true,
-        Answer::Once => false,
-        Answer::Unknown => differ_in_pairs(body, work, rows, from, count),
+    match crate::repeats::repeats(rest, records, count) {
+        Some(repeated) => !repeated,
+        None => differ_in_pairs(rest, records.view(), count),
     }
 }

@@ -5,36 +5,40 @@ ghost use Rattle.check_rules.specs.Decided.{DecidesList, LeavesMemory};
 ghost use Rattle.check_rules.specs.Tests.{item_text, different_terms};
 ghost use Rattle.check_rules.specs.Records.{TypeAscends};
 
+use index::RecordsMut;
 use index_compare::record::{body_at, kind_at};
-use read_field::{Cursor, ReadNumber};
+use read_field::Cursor;
 use read_record::mark::Kind;
 
-// Whether the texts of a list at a place of the body ascend.
-pub fn list_ascends(body: &[u8], named: bool, at: usize) -> bool
-    ensures { DecidesList (item_text named) ascending body.now at result }
+// Whether the texts of a list ascend.
+pub fn list_ascends<const NAMED: bool>(list: Cursor<'_>) -> bool
+    ensures { DecidesList (item_text NAMED) ascending list.entry.body.now list.entry.at result }
 {
-    match (Cursor { at }).u32_le(body) {
-        ReadNumber::Bad(_) => true,
-        ReadNumber::Value(n, d) => crate::ascending::ascend(body, named, d.at, n),
+    match list.u32_le() {
+        Ok((n, rest)) => crate::ascending::ascend::<NAMED>(rest, n),
+        Err(_) => true,
     }
 }
 
-// Whether the terms of a list at a place of the body differ; the memory is as it was.
-pub fn list_differs(body: &[u8], work: &mut [u32], rows: usize, at: usize) -> bool
-    ensures { LeavesMemory work.old work.new (DecidesList u32 (different_terms work.old rows) body.now at result) }
+// Whether the terms of a list differ; the memory is as it was.
+pub fn list_differs(list: Cursor<'_>, records: &mut RecordsMut<'_>) -> bool
+    ensures { LeavesMemory records.old records.new (DecidesList u32 (different_terms records.old.work.now records.old.sizes.rows) list.entry.body.now list.entry.at result) }
 {
-    match (Cursor { at }).u32_le(body) {
-        ReadNumber::Bad(_) => true,
-        ReadNumber::Value(n, d) => crate::distinct::differ(body, work, rows, d.at, n),
+    match list.u32_le() {
+        Ok((n, rest)) => crate::distinct::differ(rest, records, n),
+        Err(_) => true,
     }
 }
 
 // Rule 9 of a type: the attributes of a record type ascend.
-pub fn attributes_ascend(file: &[u8], offset: usize) -> bool
+pub fn attributes_ascend(file: &[u8], offset: u32) -> bool
     ensures { TypeAscends file.now offset result }
 {
-    match kind_at(file, offset) {
-        Kind::TR => list_ascends(body_at(file, offset), true, 0),
+    let Some(kind) = kind_at(file, offset) else {
+        return true;
+    };
+    match kind {
+        Kind::TR => list_ascends::<true>(Cursor::new(body_at(file, offset))),
         _ => true,
     }
 }

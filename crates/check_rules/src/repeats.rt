@@ -3,103 +3,87 @@
 ghost use Rattle.std.specs.Prelude.{◌≡◌};
 ghost use Rattle.check_rules.specs.Repeats.{ref_at, first_at, Notes, Clears, SameEarlier, Tells};
 
-use index_compare::segments::Word;
+use index::{Column, Records, RecordsMut};
+use read_field::Cursor;
 
-// No two references are to equal terms; two are; or that is not told, as where the column had other notes.
-#[derive(Clone, Copy)]
-pub enum Answer {
-    Never,
-    Once,
-    Unknown,
-}
-
-// The reference with number i of those from a place of the body on, 0 where there is none.
-fn ref_at(body: &[u8], from: usize, i: u32) -> u32
-    ensures { result ≡ ref_at body.now from i }
+// The reference with number i of those at a cursor, 0 where there is none.
+fn ref_at(list: Cursor<'_>, i: u32) -> u32
+    ensures { result ≡ ref_at list.entry.body.now list.entry.at i }
 {
     let step = 4 * (i as usize);
-    if body.len() < from {
+    if list.left() < step {
         return 0;
     }
-    if body.len() - from < step {
-        return 0;
+    let at = list.at + step;
+    let body = list.body;
+    match (Cursor { body, at }).u32_le() {
+        Ok((n, _)) => n,
+        Err(_) => 0,
     }
-    let Word::Value(n) = index_compare::segments::read_word(body, from + step) else {
-        return 0;
-    };
-    n
 }
 
 // Its first equal number.
-fn first_at(body: &[u8], work: &[u32], rows: usize, from: usize, i: u32) -> u32
-    ensures { result ≡ first_at body.now work.now rows from i }
+fn first_at(list: Cursor<'_>, records: Records<'_>, i: u32) -> u32
+    ensures { result ≡ first_at list.entry.body.now records.entry.work.now records.entry.sizes.rows list.entry.at i }
 {
-    let n = ref_at(body, from, i);
-    index::get(work, rows, index::TERM_FIRST, n as usize)
+    records.get(Column::TermFirst, ref_at(list, i))
 }
 
 // Notes the first equal numbers of so many references, up to one that has a note; answers how many.
-fn note(body: &[u8], work: &mut [u32], rows: usize, from: usize, count: u32) -> u32
-    ensures { Notes body.now work.old work.new rows from count result }
+fn note(list: Cursor<'_>, records: &mut RecordsMut<'_>, count: u32) -> u32
+    ensures { Notes list.entry.body.now records.old records.new list.entry.at count result }
 {
-    if work.len() / index::COLUMNS < rows {
+    let rows = records.sizes.rows;
+    if records.work.len() / index::COLUMNS < rows {
         return 0;
     }
-    let mut i = 0;
-    while i < count {
-        let f = first_at(body, work, rows, from, i);
+    for i in 0..count {
+        let f = first_at(list, records.view(), i);
         if rows <= f as usize {
             return i;
         }
-        if index::get(work, rows, index::NOTE, f as usize) != 0 {
+        if records.get(Column::Note, f) != 0 {
             return i;
         }
-        index::set(work, rows, index::NOTE, f as usize, i + 1);
-        i += 1;
+        records.set(Column::Note, f, i + 1);
     }
-    i
+    count
 }
 
 // Clears the notes of the first n references, the last one first.
-fn clear(body: &[u8], work: &mut [u32], rows: usize, from: usize, n: u32)
-    ensures { Clears body.now work.old work.new rows from n }
+fn clear(list: Cursor<'_>, records: &mut RecordsMut<'_>, n: u32)
+    ensures { Clears list.entry.body.now records.old records.new list.entry.at n }
 {
-    let mut i = n;
-    while 0 < i {
-        i -= 1;
-        let f = first_at(body, work, rows, from, i);
-        index::set(work, rows, index::NOTE, f as usize, 0);
+    for i in (0..n).rev() {
+        let f = first_at(list, records.view(), i);
+        records.set(Column::Note, f, 0);
     }
 }
 
 // Whether the reference before number v, which is one of the first n, is equal to the reference n.
-fn same_earlier(body: &[u8], work: &[u32], rows: usize, from: usize, v: u32, n: u32) -> bool
-    ensures { SameEarlier body.now work.now rows from n result }
+fn same_earlier(list: Cursor<'_>, records: Records<'_>, v: u32, n: u32) -> bool
+    ensures { SameEarlier list.entry.body.now records.entry.work.now records.entry.sizes.rows list.entry.at n result }
 {
-    if v == 0 {
+    if v == 0 || n < v {
         return false;
     }
-    if n < v {
-        return false;
-    }
-    let a = first_at(body, work, rows, from, v - 1);
-    let b = first_at(body, work, rows, from, n);
-    a == b
+    first_at(list, records, v - 1) == first_at(list, records, n)
 }
 
-// Whether two of so many references from a place of the body on have the same first equal number; the memory is as it was.
-pub fn repeats(body: &[u8], work: &mut [u32], rows: usize, from: usize, count: u32) -> Answer
-    ensures { Tells body.now work.old work.new rows from count result }
+// Whether two of so many references have the same first equal number, where that is told: it is not where the column had other notes. The
+// memory is as it was.
+pub fn repeats(list: Cursor<'_>, records: &mut RecordsMut<'_>, count: u32) -> Option<bool>
+    ensures { Tells list.entry.body.now records.old records.new list.entry.at count result }
 {
-    let n = note(body, work, rows, from, count);
-    let f = first_at(body, work, rows, from, n);
-    let v = index::get(work, rows, index::NOTE, f as usize);
-    clear(body, work, rows, from, n);
+    let n = note(list, records, count);
+    let f = first_at(list, records.view(), n);
+    let v = records.get(Column::Note, f);
+    clear(list, records, n);
     if n == count {
-        return Answer::Never;
+        return Some(false);
     }
-    if same_earlier(body, work, rows, from, v, n) {
-        return Answer::Once;
+    if same_earlier(list, records.view(), v, n) {
+        return Some(true);
     }
-    Answer::Unknown
+    None
 }

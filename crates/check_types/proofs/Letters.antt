@@ -4,7 +4,7 @@ use mathlib.Core.Path.{◌≡◌, refl, sym, ap, ◌∙◌, subst}
 use Prim.Native.Nat.{ℕ}
 use native.Mathlib.Omega.{arith}
 use mathlib.Core.List.{List, [], ◌∷◌}
-use mathlib.Core.Option.{some, none-ne-some}
+use mathlib.Core.Option.{some}
 use types.Run.{OneOf, miss}
 use denote.Enum.Declared.{tag_of}
 use lib.ListN.{length, get_or}
@@ -19,13 +19,12 @@ use Rattle.index.specs.Standing.{loose, mark_at, body_at, entry_at}
 use Rattle.index.proofs.Readers.{◌&◌}
 use Rattle.index_compare.proofs.Standing.{entry_of_inverse}
 use Rattle.index_compare.proofs.Agreement.{lookup_all}
-use Rattle.read_record.specs.Marks.{mark, Marked}
+use Rattle.read_record.specs.Marks.{mark}
 use Rattle.read_record.specs.declared.mark.Kind.{Kind}
 use Rattle.read_record.specs.declared.mark.Kind.TheVariants as kind
 use Rattle.read_record.specs.contracts.mark.Kind.{the_type}
-use Rattle.check_rules.specs.Marks.{datatype_bytes, type_bytes}
-use Rattle.check_rules.proofs.Marks.{Yields, yields_pure, yields_after}
-use Rattle.check_rules.proofs.EntryKinds.{type_kind, kind_of, entry_kind}
+use Rattle.check_rules.specs.Marks.{datatype_bytes, type_bytes, mark_of}
+use Rattle.check_rules.proofs.Marks.{entry_mark, Yields, yields_pure, yields_after}
 use Rattle.index_entry.proofs.Letters.{type_bytes_lem}
 use Rattle.check_types.specs.Sought.{type_letter, KindSought}
 
@@ -45,14 +44,14 @@ abbrev pub letter_of : TypeMark → ℕ
 letter_of t = get_or (type_bytes t) 1 0
 
 -- the bytes of a mark
-letter_from : {s r : Bytes} → some s ≡ some r → get_or s 1 0 ≡ get_or r 1 0
-letter_from {s} {r} e = let q : s ≡ r = cc in ap (λ (m : Bytes). get_or m 1 0) q
+letter_from : {s r : Bytes} → s ≡ r → get_or s 1 0 ≡ get_or r 1 0
+letter_from e = ap (λ (m : Bytes). get_or m 1 0) e
 
-not_type : {s : Bytes} (t : TypeMark) → some s ≡ some (type_bytes t) → (get_or s 0 0 ≡ 84 → ⊥) → ⊥
-not_type {s} t e h = let q : s ≡ type_bytes t = cc in h (ap (λ (m : Bytes). get_or m 0 0) (q ∙ sym (type_bytes_lem t)))
+not_type : {s : Bytes} (t : TypeMark) → s ≡ type_bytes t → (get_or s 0 0 ≡ 84 → ⊥) → ⊥
+not_type t e h = h (ap (λ (m : Bytes). get_or m 0 0) (e ∙ sym (type_bytes_lem t)))
 
 -- the letter of a type's kind
-kind_letter : (k : Kind) (t : TypeMark) → mark k ≡ some (type_bytes t) → type_letter k ≡ letter_of t
+kind_letter : (k : Kind) (t : TypeMark) → mark k ≡ type_bytes t → type_letter k ≡ letter_of t
 unfolding mark type_letter Computes.base
 kind_letter kind.TB t e = letter_from e
 kind_letter kind.TS t e = letter_from e
@@ -76,22 +75,11 @@ kind_letter kind.XC t e = absurd (not_type t e (λ q. omega arith))
 kind_letter kind.XR t e = absurd (not_type t e (λ q. omega arith))
 kind_letter kind.XA t e = absurd (not_type t e (λ q. omega arith))
 kind_letter kind.IN t e = absurd (not_type t e (λ q. omega arith))
-kind_letter kind.Unknown t e = absurd (none-ne-some (type_bytes t) e)
 
-of_type : (t : TypeMark) → type_letter (type_kind t) ≡ letter_of t
-unfolding type_letter type_kind type_bytes datatype_bytes Computes.base
-of_type Bool· = refl
-of_type String· = refl
-of_type Option· = refl
-of_type Set· = refl
-of_type (BitVec· n) = refl
-of_type (Declared (entity a)) = refl
-of_type (Declared (extension x)) = refl
-of_type (Declared (record_of names)) = refl
-
-pub type_letter_lem : (file : Bytes) (o : ℕ) {k : Kind} → Marked (mark_at file o) k → {t : TypeMark} {rs : List ℕ} → entry_at file o ≡ some (type t rs) → type_letter k ≡ letter_of t
-unfolding kind_of
-type_letter_lem file o M {t} e = ap type_letter (entry_kind file o M e) ∙ of_type t
+-- the second byte of the mark of a type that stands at an offset
+pub type_letter_lem : (file : Bytes) (o : ℕ) {l : ℕ} → l ≡ get_or (mark_at file o) 1 0 → {t : TypeMark} {rs : List ℕ} → entry_at file o ≡ some (type t rs) → l ≡ letter_of t
+unfolding entry_at mark_of
+type_letter_lem file o q e = q ∙ letter_from (entry_mark (mark_at file o) (body_at file o) e)
 
 pub sought_kind_letter : (file : Bytes) (o : ℕ) {k : Kind} → KindSought file o k → {m : TermMark ℕ ℕ} {rs : List ℕ} → entry_at file o ≡ some (term m rs) → (τ : ℕ → ℕ) {t : TypeMark} {ps : List ℕ} → type_by τ m rs ≡ listed t ps → letter_of t ≡ type_letter k
 sought_kind_letter file o {k} K {m} {rs} e τ {t} {ps} by = sym (kind_letter k t (K.go m rs e τ t ps by))
@@ -113,9 +101,9 @@ no_entity τ (App n op) rs = tt
 
 -- the kinds that no type of such a term has: the kind of entity types, and those of records that are no types
 abbrev pub other_tags : List ℕ
-other_tags = 5 ∷ 8 ∷ 9 ∷ 10 ∷ 11 ∷ 12 ∷ 13 ∷ 14 ∷ 15 ∷ 16 ∷ 17 ∷ 18 ∷ 19 ∷ 20 ∷ 21 ∷ 22 ∷ []
+other_tags = 5 ∷ 8 ∷ 9 ∷ 10 ∷ 11 ∷ 12 ∷ 13 ∷ 14 ∷ 15 ∷ 16 ∷ 17 ∷ 18 ∷ 19 ∷ 20 ∷ 21 ∷ []
 
-pub other_kind : (k : Kind) → OneOf other_tags (tag_of the_type k) → (t : TypeMark) → mark k ≡ some (type_bytes t) → (letter_of t ≡ 69 → ⊥) → ⊥
+pub other_kind : (k : Kind) → OneOf other_tags (tag_of the_type k) → (t : TypeMark) → mark k ≡ type_bytes t → (letter_of t ≡ 69 → ⊥) → ⊥
 unfolding mark Computes.base
 other_kind kind.TB h t e n = miss other_tags 0 tt h
 other_kind kind.TS h t e n = miss other_tags 1 tt h
@@ -139,7 +127,6 @@ other_kind kind.XC h t e n = not_type t e (λ q. omega arith)
 other_kind kind.XR h t e n = not_type t e (λ q. omega arith)
 other_kind kind.XA h t e n = not_type t e (λ q. omega arith)
 other_kind kind.IN h t e n = not_type t e (λ q. omega arith)
-other_kind kind.Unknown h t e n = none-ne-some (type_bytes t) e
 
 -- ---- how many parts
 

@@ -11,7 +11,7 @@ use lib.Dec.{eqb, eqb→eq}
 use borrow.Author.Tests.{eq-eqb}
 use package.types.Run.{OneOf}
 use denote.Enum.Declared.{tag_of}
-use lib.ListN.{length, length-map}
+use lib.ListN.{length, get_or, length-map}
 use Rattle.script_spec.specs.Base.{Bytes}
 use Rattle.script_spec.specs.Tree.{Ty, TypeMark, Bool·, String·, Option·, Set·, BitVec·, Declared, entity, extension, record_of}
 use Rattle.script_spec.specs.Tree.{TermMark, Var, BoolLit, BitVecLit, StringLit, Entity, ExtLit, None, Some, Set, Record, App}
@@ -33,7 +33,6 @@ use Rattle.index_compare.specs.declared.compare.View.TheVariants.{First, Listed}
 use Rattle.index_compare.proofs.Compared.{Same, decides_not}
 use Rattle.index_compare.proofs.Listed.{same_listed}
 use Rattle.check_rules.specs.Marks.{datatype_bytes, type_bytes}
-use Rattle.read_record.specs.Marks.{Marked}
 use Rattle.read_record.specs.declared.mark.Kind.{Kind}
 use Rattle.read_record.specs.declared.mark.Kind.TheVariants as kind
 use Rattle.read_record.specs.contracts.mark.Kind.{the_type}
@@ -140,9 +139,9 @@ names_of e = cc
 pub decides_same : {P Q : Type 0} {r : Bool} → Same P Q → Decides r Q → Decides r P
 decides_same s d = record { true_of = λ p. d.true_of (s.to p); of_true = λ h. s.from (d.of_true h) }
 
-module _ {file : Bytes} {work : List ℕ} {k p o part : ℕ} {sought other : Kind} (W : Wanted file work k o sought part) (M : Marked (mark_at file p) other) where
+module _ {file : Bytes} {work : List ℕ} {k p o part : ℕ} {sought : Kind} (W : Wanted file work k o sought part) {letter : ℕ} (M : letter ≡ get_or (mark_at file p) 1 0) where
   -- other letters
-  pub other_letter : (type_letter other ≡ type_letter sought → ⊥) → SameType file work k p o false
+  pub other_letter : (letter ≡ type_letter sought → ⊥) → SameType file work k p o false
   other_letter h =
       record {
         go = λ f t ps S u rs e b.
@@ -153,7 +152,7 @@ module _ {file : Bytes} {work : List ℕ} {k p o part : ℕ} {sought other : Kin
   pub no_such : {r : Bool} → OneOf other_tags (tag_of the_type sought) → SameType file work k p o r
   no_such h = record { go = λ f t ps S u rs e b. absurd (sought_other S sought W.kind_is h) }
 
-  module _ (same : type_letter other ≡ type_letter sought) where
+  module _ (same : letter ≡ type_letter sought) where
     -- the same letter, and what is read are the numbers of the types
     by_number : {l : ℕ} → type_letter sought ≡ l → (l ≡ 82 → ⊥) → {a b : ℕ} {r : Bool} → r ≡ eqb a b
         → ((u : TypeMark) (rs : List ℕ) → entry_at file p ≡ some (type u rs) → letter_of u ≡ l → a ≡ type_number u (map (cell work k type_first) rs))

@@ -27,8 +27,7 @@ use Rattle.read_record.specs.declared.mark.Kind.{Kind}
 use Rattle.read_record.specs.contracts.mark.Kind.{the_type}
 use Rattle.check_rules.proofs.EntryKinds.{term_kind}
 use Rattle.check_types.specs.Sought.{part_at, Seeks, TypeSought}
-use Rattle.check_types.specs.declared.Found.{Found}
-use Rattle.check_types.specs.declared.Found.TheVariants as found
+use Rattle.std.specs.Prelude as rust
 use Rattle.check_types.specs.Probed.{ListedSought}
 use Rattle.check_types.proofs.TermTypes.{term_kind_lem}
 use Rattle.check_types.proofs.Read.{leading, part_term}
@@ -40,7 +39,7 @@ abbrev referring_tags : List ℕ
 referring_tags = 10 ∷ 14 ∷ 20 ∷ []
 
 abbrev other_tags : List ℕ
-other_tags = 0 ∷ 1 ∷ 2 ∷ 3 ∷ 4 ∷ 5 ∷ 6 ∷ 7 ∷ 8 ∷ 9 ∷ 11 ∷ 12 ∷ 13 ∷ 15 ∷ 16 ∷ 17 ∷ 18 ∷ 19 ∷ 21 ∷ 22 ∷ []
+other_tags = 0 ∷ 1 ∷ 2 ∷ 3 ∷ 4 ∷ 5 ∷ 6 ∷ 7 ∷ 8 ∷ 9 ∷ 11 ∷ 12 ∷ 13 ∷ 15 ∷ 16 ∷ 17 ∷ 18 ∷ 19 ∷ 21 ∷ []
 
 module _ {file : Bytes} {f : TermFile} {work : List ℕ} {k : ℕ} (I : Rows file f work k) where
   reference_found : (n : ℕ) → n < length (types f) → some (cell work k type_first n) ≡ place (eq_ty (type_named f (reference n))) (types f)
@@ -75,17 +74,17 @@ unreferred τ (Set n) rs h = (_, _, refl)
 unreferred τ (Record names) rs h = (_, _, refl)
 unreferred τ (App n op) rs h = absurd (miss other_tags 20 tt h)
 
-module _ (file : Bytes) (work : List ℕ) (sizes : Sizes) (o : ℕ) {l : Kind} (M : Marked (mark_at file o) l) where
+module _ (file : Bytes) (work : List ℕ) (sizes : Sizes) (o : ℕ) {l : Kind} (M : Marked (mark_at file o) (rust.Some l)) where
   -- what is so of the kind that was told is so of the term's
   of_told_term : (tags : List ℕ) → OneOf tags (tag_of the_type l) → {m : TermMark ℕ ℕ} {rs : List ℕ} → entry_at file o ≡ some (term m rs) → OneOf tags (tag_of the_type (term_kind m))
   of_told_term tags h e = subst (λ (x : Kind). OneOf tags (tag_of the_type x)) (term_kind_lem file o M e) h
 
-  pub reference_sought : {n : ℕ} → Octets file → OneOf referring_tags (tag_of the_type l) → n ≡ part_at file work sizes.rows o → TypeSought file work sizes o (found.Listed n)
+  pub reference_sought : {n : ℕ} → Octets file → OneOf referring_tags (tag_of the_type l) → n ≡ part_at file work sizes.rows o → TypeSought file work sizes o (rust.Some n)
   unfolding InRange
   reference_sought octets h q =
       record { go = λ f I c m rs e range. ap some (q ∙ part_term file octets work sizes.rows o e) ∙ referred I.index m rs (of_told_term referring_tags h e) range.0 }
 
-  pub listed_sought : {r : Found} → OneOf other_tags (tag_of the_type l) → ListedSought file work sizes.rows sizes.types o r → TypeSought file work sizes o r
+  pub listed_sought : {r : rust.Option ℕ} → OneOf other_tags (tag_of the_type l) → ListedSought file work sizes.rows sizes.types o r → TypeSought file work sizes o r
   listed_sought h L =
       record {
         go = λ f I c m rs e range.

@@ -1,7 +1,8 @@
 -- The type of a term among the types that are listed, by the term's record and by the index.
 -- Assumes nothing.
 use Rattle.std.specs.Prelude.{◌≡◌, ◌⊎◌, ℕ, ◌-◌, Bool, List, map, length, get_or}
-use Rattle.std.proofs.Math.Option.{Option, none, some}
+use Rattle.std.proofs.Math.Option.{some}
+use Rattle.std.specs.Prelude as rust
 use Rattle.script_spec.specs.Base.{Bytes, place}
 use Rattle.script_spec.specs.Tree.{TypeMark, TermMark, eq_ty}
 use Rattle.script_spec.specs.Fields.{type, term}
@@ -16,20 +17,14 @@ use Rattle.index.specs.Lists.{number_at}
 use Rattle.index_compare.specs.View.{Decides, viewed, reference_numbers, segments_at}
 use Rattle.index_compare.specs.declared.compare.View.TheVariants.{Listed}
 use Rattle.index_search.specs.Searchable.{Indexed}
+use Rattle.index_search.specs.Enums.{found_place}
 use Rattle.check_rules.specs.Marks.{type_bytes}
 use Rattle.read_record.specs.Marks.{mark}
 use Rattle.read_record.specs.declared.mark.Kind.{Kind}
 use Rattle.read_record.specs.declared.mark.Kind.TheVariants as kind
-use Rattle.check_types.specs.declared.Found.{Found}
-use Rattle.check_types.specs.declared.Found.TheVariants as found
-
--- the place of the type that is found, none where it is not listed
-abbrev pub found_place : Found → Option ℕ
-found_place (found.Listed n) = some n
-found_place found.NotListed = none
 
 -- r says the first type that is equal to the type of the term at an offset
-pub record TypeSought (file : Bytes) (work : List ℕ) (sizes : Sizes) (o : ℕ) (r : Found) : Type 0 where
+pub record TypeSought (file : Bytes) (work : List ℕ) (sizes : Sizes) (o : ℕ) (r : rust.Option ℕ) : Type 0 where
   pub go : (f : TermFile) → Indexed file f work sizes.rows → SizesOf f sizes → (m : TermMark ℕ ℕ) (rs : List ℕ) → entry_at file o ≡ some (term m rs) → InRange (earlier f) (term m rs)
       → found_place r ≡ place (eq_ty (type_named f (type_by (cell work sizes.rows term_type) m rs))) (types f)
 
@@ -59,7 +54,6 @@ type_letter kind.XC = 0
 type_letter kind.XR = 0
 type_letter kind.XA = 0
 type_letter kind.IN = 0
-type_letter kind.Unknown = 0
 
 -- the width of a bit-vector type or value
 unfoldable pub width_at : Bytes → ℕ → ℕ
@@ -79,35 +73,34 @@ part_at file work rows o = get_or (reference_numbers 2 (map (viewed work rows Li
 
 -- ---- what is sought
 
--- the kind of the type of a term of this kind; `Unknown` for a term that refers to its type, and for what is no term
-unfoldable pub sought_of : Kind → Kind
-sought_of kind.TB = kind.Unknown
-sought_of kind.TS = kind.Unknown
-sought_of kind.TV = kind.Unknown
-sought_of kind.TO = kind.Unknown
-sought_of kind.TC = kind.Unknown
-sought_of kind.TE = kind.Unknown
-sought_of kind.TX = kind.Unknown
-sought_of kind.TR = kind.Unknown
-sought_of kind.EN = kind.Unknown
-sought_of kind.UF = kind.Unknown
-sought_of kind.XV = kind.Unknown
-sought_of kind.XB = kind.TB
-sought_of kind.XN = kind.TV
-sought_of kind.XS = kind.TS
-sought_of kind.XE = kind.Unknown
-sought_of kind.XX = kind.TX
-sought_of kind.X0 = kind.TO
-sought_of kind.X1 = kind.TO
-sought_of kind.XC = kind.TC
-sought_of kind.XR = kind.TR
-sought_of kind.XA = kind.Unknown
-sought_of kind.IN = kind.Unknown
-sought_of kind.Unknown = kind.Unknown
+-- the kind of the type of a term of this kind; none for a term that refers to its type, and for what is no term
+unfoldable pub sought_of : Kind → rust.Option Kind
+sought_of kind.TB = rust.None
+sought_of kind.TS = rust.None
+sought_of kind.TV = rust.None
+sought_of kind.TO = rust.None
+sought_of kind.TC = rust.None
+sought_of kind.TE = rust.None
+sought_of kind.TX = rust.None
+sought_of kind.TR = rust.None
+sought_of kind.EN = rust.None
+sought_of kind.UF = rust.None
+sought_of kind.XV = rust.None
+sought_of kind.XB = rust.Some kind.TB
+sought_of kind.XN = rust.Some kind.TV
+sought_of kind.XS = rust.Some kind.TS
+sought_of kind.XE = rust.None
+sought_of kind.XX = rust.Some kind.TX
+sought_of kind.X0 = rust.Some kind.TO
+sought_of kind.X1 = rust.Some kind.TO
+sought_of kind.XC = rust.Some kind.TC
+sought_of kind.XR = rust.Some kind.TR
+sought_of kind.XA = rust.None
+sought_of kind.IN = rust.None
 
 -- the kind is that of the type of the term at an offset, where the term does not refer to it
 pub record KindSought (file : Bytes) (o : ℕ) (sought : Kind) : Type 0 where
-  pub go : (m : TermMark ℕ ℕ) (rs : List ℕ) → entry_at file o ≡ some (term m rs) → (τ : ℕ → ℕ) (t : TypeMark) (parts : List ℕ) → type_by τ m rs ≡ listed t parts → mark sought ≡ some (type_bytes t)
+  pub go : (m : TermMark ℕ ℕ) (rs : List ℕ) → entry_at file o ≡ some (term m rs) → (τ : ℕ → ℕ) (t : TypeMark) (parts : List ℕ) → type_by τ m rs ≡ listed t parts → mark sought ≡ type_bytes t
 
 -- n is the first type that the term at an offset refers to, where its own type, of this kind, is an option or a set over it
 pub record PartSought (file : Bytes) (work : List ℕ) (rows o : ℕ) (sought : Kind) (n : ℕ) : Type 0 where

@@ -1,37 +1,43 @@
 // The type of a term among the types that are listed before it, by the slots of the hash table.
 #![tactic(auto)]
 
-ghost use Rattle.std.specs.Prelude.{◌≡◌, eqb};
+ghost use Rattle.std.specs.Prelude.{◌≡◌, Some};
+ghost use Rattle.index.specs.Cells.{cell, type_offset};
 ghost use Rattle.index.specs.Standing.{mark_at};
 ghost use Rattle.read_record.specs.Marks.{Marked};
-ghost use Rattle.check_types.specs.Sought.{sought_of, type_letter, width_at, code_at, value_code, part_at, PartSought, Wanted, TypeSought, SameType};
-ghost use Rattle.check_types.specs.Probed.{TypeHash, TypeHome, HoldsType, ProbesType, ListedSought};
+ghost use Rattle.check_types.specs.Sought.{sought_of, type_letter, width_at, code_at, value_code, PartSought, Wanted, TypeSought, SameType};
+ghost use Rattle.check_types.specs.Probed.{TypeHash, TypeHome, ListedSought};
 
-use index::Sizes;
-use index_compare::record::{body_at, kind_at};
+use index::{Column, Records};
+use index_compare::compare::{byte_at, first_reference, same_listed_type};
+use index_compare::record::body_at;
+use index_entry::records::{letter_at, number_at};
+use index_search::slots::Table;
+use index_search::{hash, slots};
 use read_record::mark::Kind;
 
-// The first type that is equal to a term's type, by its number, or that none is listed.
+// A term whose type is looked for: its offset, the kind of its type, and the type that this is over where it is an option or a set.
 #[derive(Clone, Copy)]
-pub enum Found {
-    Listed(u32),
-    NotListed,
+struct Sought {
+    offset: u32,
+    kind: Kind,
+    part: u32,
 }
 
-// The kind of the type of a term of this kind; `Unknown` where the term refers to its type, and for what is no term.
-fn kind_sought(kind: Kind) -> Kind
+// The kind of the type of a term of this kind; none where the term refers to its type, and for what is no term.
+fn kind_sought(kind: Kind) -> Option<Kind>
     ensures { result ≡ sought_of kind }
 {
     match kind {
-        Kind::XB => Kind::TB,
-        Kind::XN => Kind::TV,
-        Kind::XS => Kind::TS,
-        Kind::XX => Kind::TX,
-        Kind::X0 => Kind::TO,
-        Kind::X1 => Kind::TO,
-        Kind::XC => Kind::TC,
-        Kind::XR => Kind::TR,
-        _ => Kind::Unknown,
+        Kind::XB => Some(Kind::TB),
+        Kind::XN => Some(Kind::TV),
+        Kind::XS => Some(Kind::TS),
+        Kind::XX => Some(Kind::TX),
+        Kind::X0 => Some(Kind::TO),
+        Kind::X1 => Some(Kind::TO),
+        Kind::XC => Some(Kind::TC),
+        Kind::XR => Some(Kind::TR),
+        _ => None,
     }
 }
 
@@ -52,189 +58,115 @@ fn letter_of(kind: Kind) -> u8
     }
 }
 
-// The first byte of a record's body, 0 where there is none.
-fn code_at(file: &[u8], offset: usize) -> u8
+// The code of the extension type or value at an offset: the first byte of its body, 0 where there is none.
+fn code_at(file: &[u8], offset: u32) -> u8
     ensures { result ≡ code_at file.now offset }
 {
-    index_compare::compare::byte_at(body_at(file, offset), 0)
+    byte_at(body_at(file, offset), 0)
 }
 
 // The code of the type of the extension value at an offset.
-fn value_code(file: &[u8], offset: usize) -> u8
+fn value_code(file: &[u8], offset: u32) -> u8
     ensures { result ≡ value_code file.now offset }
 {
-    let code = code_at(file, offset);
-    if 0 < code {
-        return code - 1;
-    }
-    0
+    code_at(file, offset).saturating_sub(1)
 }
 
 // The width of the bit-vector type or value at an offset.
-fn width_at(file: &[u8], offset: usize) -> u32
+fn width_at(file: &[u8], offset: u32) -> u32
     ensures { result ≡ width_at file.now offset }
 {
-    index_entry::records::number_at(body_at(file, offset), 0)
-}
-
-// Whether an extension type at the offset `other` is that of a value at an offset.
-fn same_code(file: &[u8], other: usize, offset: usize) -> bool
-    ensures { result ≡ eqb (code_at file.now other) (value_code file.now offset) }
-{
-    code_at(file, other) == value_code(file, offset)
-}
-
-// Whether a bit-vector type at the offset `other` has the width of a value at an offset.
-fn same_width(file: &[u8], other: usize, offset: usize) -> bool
-    ensures { result ≡ eqb (width_at file.now other) (width_at file.now offset) }
-{
-    width_at(file, other) == width_at(file, offset)
+    number_at(body_at(file, offset), 0)
 }
 
 // The type that the term at an offset first refers to, where its own type is an option or a set over it; else 0.
-fn part_sought(file: &[u8], work: &[u32], rows: usize, offset: usize, kind: Kind) -> u32
-    ensures { PartSought file.now work.now rows offset kind result }
+fn part_sought(records: Records<'_>, offset: u32, kind: Kind) -> u32
+    ensures { PartSought records.entry.file.now records.entry.work.now records.entry.sizes.rows offset kind result }
 {
     match kind {
-        Kind::TO | Kind::TC => { index_compare::compare::first_reference(file, work, rows, offset) }
+        Kind::TO | Kind::TC => first_reference(records, offset),
         _ => 0,
     }
 }
 
-// Whether an option or a set type at an offset is over a type.
-fn same_part(file: &[u8], work: &[u32], rows: usize, other: usize, part: u32) -> bool
-    ensures { result ≡ eqb (part_at file.now work.now rows other) part }
-{
-    index_compare::compare::first_reference(file, work, rows, other) == part
-}
-
-// Whether the type at the offset `other` is that of the term at an offset, of this kind and with this part.
-fn same_type(
-    file: &[u8],
-    work: &[u32],
-    rows: usize,
-    other: usize,
-    offset: usize,
-    kind: Kind,
-    part: u32,
-) -> bool
-    ensures { Wanted file.now work.now rows offset kind part → SameType file.now work.now rows other offset result }
-{
-    if letter_of(kind_at(file, other)) != letter_of(kind) {
-        return false;
+impl Sought {
+    // Whether the type with number n is the one that is looked for.
+    fn is_type(self, records: Records<'_>, n: u32) -> bool
+        ensures { Wanted records.entry.file.now records.entry.work.now records.entry.sizes.rows self.offset self.kind self.part → SameType records.entry.file.now records.entry.work.now records.entry.sizes.rows (cell records.entry.work.now records.entry.sizes.rows type_offset n) self.offset result }
+    {
+        self.is_at(records, records.get(Column::TypeOffset, n))
     }
-    match kind {
-        Kind::TB => true,
-        Kind::TS => true,
-        Kind::TV => same_width(file, other, offset),
-        Kind::TX => same_code(file, other, offset),
-        Kind::TO => same_part(file, work, rows, other, part),
-        Kind::TC => same_part(file, work, rows, other, part),
-        Kind::TR => index_compare::compare::same_listed_type(file, work, rows, other, offset),
-        _ => false,
-    }
-}
 
-// The hash of the type of the term at an offset, of this kind and with this part; 0 where no type is of that kind.
-fn type_hash(file: &[u8], work: &[u32], rows: usize, offset: usize, kind: Kind, part: u32) -> u32
-    ensures { Wanted file.now work.now rows offset kind part → TypeHash file.now work.now rows offset result }
-{
-    match kind {
-        Kind::TB => index_search::hash::bare_hash(b'B'),
-        Kind::TS => index_search::hash::bare_hash(b'S'),
-        Kind::TV => index_search::hash::number_hash(b'V', width_at(file, offset)),
-        Kind::TX => index_search::hash::code_hash(b'X', value_code(file, offset)),
-        Kind::TO => index_search::hash::part_hash(b'O', part),
-        Kind::TC => index_search::hash::part_hash(b'C', part),
-        Kind::TR => index_search::hash::listed_hash(file, work, rows, offset),
-        _ => 0,
-    }
-}
-
-// The slot from which the type of the term at an offset is looked for.
-fn home(file: &[u8], work: &[u32], rows: usize, offset: usize, kind: Kind, part: u32) -> usize
-    ensures { Wanted file.now work.now rows offset kind part → TypeHome file.now work.now rows offset result }
-{
-    index_search::slots::scale(rows, type_hash(file, work, rows, offset, kind, part))
-}
-
-// Whether a slot that holds v has a type that is that of the term at an offset.
-fn holds(
-    file: &[u8],
-    work: &[u32],
-    rows: usize,
-    types: u32,
-    offset: usize,
-    kind: Kind,
-    part: u32,
-    v: u32,
-) -> bool
-    ensures { Wanted file.now work.now rows offset kind part → HoldsType file.now work.now rows types offset v result }
-{
-    let n = index_search::slots::number_of(v);
-    if types <= n {
-        return false;
-    }
-    if index_search::slots::has(v, n, index_search::slots::TYPE) {
-        let p = index::get(work, rows, index::TYPE_OFFSET, n as usize);
-        return same_type(file, work, rows, p as usize, offset, kind, part);
-    }
-    false
-}
-
-// What `find` answers, from the slot b on.
-fn probe(
-    file: &[u8],
-    work: &[u32],
-    rows: usize,
-    types: u32,
-    offset: usize,
-    kind: Kind,
-    part: u32,
-    b: usize,
-) -> Found
-    ensures { Wanted file.now work.now rows offset kind part → ProbesType file.now work.now rows types offset b result }
-{
-    let mut d = 0;
-    while d < rows {
-        let v = index::get(
-            work,
-            rows,
-            index::HASH,
-            index_search::slots::slot(rows, b, d),
-        );
-        if v == 0 {
-            return Found::NotListed;
+    // Whether the type at an offset is.
+    fn is_at(self, records: Records<'_>, other: u32) -> bool
+        ensures { Wanted records.entry.file.now records.entry.work.now records.entry.sizes.rows self.offset self.kind self.part → SameType records.entry.file.now records.entry.work.now records.entry.sizes.rows other self.offset result }
+    {
+        index_search::octets(records.file);
+        if letter_at(records.file, other) != letter_of(self.kind) {
+            return false;
         }
-        if holds(file, work, rows, types, offset, kind, part, v) {
-            let n = index_search::slots::number_of(v);
-            return Found::Listed(index::get(work, rows, index::TYPE_FIRST, n as usize));
+        match self.kind {
+            Kind::TB => true,
+            Kind::TS => true,
+            Kind::TV => width_at(records.file, other) == width_at(records.file, self.offset),
+            Kind::TX => code_at(records.file, other) == value_code(records.file, self.offset),
+            Kind::TO => first_reference(records, other) == self.part,
+            Kind::TC => first_reference(records, other) == self.part,
+            Kind::TR => same_listed_type(records, other, self.offset),
+            _ => false,
         }
-        d += 1;
     }
-    Found::NotListed
+
+    // Its hash; 0 where no type is of that kind.
+    fn hash(self, records: Records<'_>) -> u32
+        ensures { Wanted records.entry.file.now records.entry.work.now records.entry.sizes.rows self.offset self.kind self.part → TypeHash records.entry.file.now records.entry.work.now records.entry.sizes.rows self.offset result }
+    {
+        index_search::octets(records.file);
+        match self.kind {
+            Kind::TB => hash::bare_hash(b'B'),
+            Kind::TS => hash::bare_hash(b'S'),
+            Kind::TV => hash::number_hash(b'V', width_at(records.file, self.offset)),
+            Kind::TX => hash::code_hash(b'X', value_code(records.file, self.offset)),
+            Kind::TO => hash::part_hash(b'O', self.part),
+            Kind::TC => hash::part_hash(b'C', self.part),
+            Kind::TR => hash::listed_hash(records, self.offset),
+            _ => 0,
+        }
+    }
+
+    // The slot from which it is looked for.
+    fn home(self, records: Records<'_>) -> usize
+        ensures { Wanted records.entry.file.now records.entry.work.now records.entry.sizes.rows self.offset self.kind self.part → TypeHome records.entry.file.now records.entry.work.now records.entry.sizes.rows self.offset result }
+    {
+        slots::scale(records.sizes.rows, self.hash(records))
+    }
 }
 
 // The number of the first type that is that of the term at an offset, of this kind, which does not refer to it.
-fn find(file: &[u8], work: &[u32], rows: usize, types: u32, offset: usize, kind: Kind) -> Found
-    ensures { Marked (mark_at file.now offset) kind → ListedSought file.now work.now rows types offset result }
+fn find(records: Records<'_>, offset: u32, kind: Kind) -> Option<u32>
+    ensures { Marked (mark_at records.entry.file.now offset) (Some kind) → ListedSought records.entry.file.now records.entry.work.now records.entry.sizes.rows records.entry.sizes.types offset result }
 {
-    let sought = kind_sought(kind);
-    let part = part_sought(file, work, rows, offset, sought);
-    let b = home(file, work, rows, offset, sought, part);
-    probe(file, work, rows, types, offset, sought, part, b)
+    let kind = kind_sought(kind)?;
+    let part = part_sought(records, offset, kind);
+    let sought = Sought { offset, kind, part };
+    let b = sought.home(records);
+    let found = slots::probe(
+        records,
+        Table::Types,
+        records.sizes.types,
+        b,
+        |records, n| { sought.is_type(records, n) },
+    );
+    Some(records.get(Column::TypeFirst, found.ok()?))
 }
 
-// The first type that is equal to the type of the term at an offset, of this kind.
-pub fn type_of(file: &[u8], work: &[u32], sizes: Sizes, offset: usize, kind: Kind) -> Found
-    ensures { Marked (mark_at file.now offset) kind → TypeSought file.now work.now sizes offset result }
+// The number of the first type that is equal to the type of the term at an offset, of this kind, if it is listed.
+pub fn type_of(records: Records<'_>, offset: u32, kind: Kind) -> Option<u32>
+    ensures { Marked (mark_at records.entry.file.now offset) (Some kind) → TypeSought records.entry.file.now records.entry.work.now records.entry.sizes offset result }
 {
-    let rows = sizes.rows;
+    index_search::octets(records.file);
     match kind {
-        Kind::XV | Kind::XE | Kind::XA => {
-            let first = index_compare::compare::first_reference(file, work, rows, offset);
-            Found::Listed(first)
-        }
-        _ => find(file, work, rows, sizes.types, offset, kind),
+        Kind::XV | Kind::XE | Kind::XA => Some(first_reference(records, offset)),
+        _ => find(records, offset, kind),
     }
 }

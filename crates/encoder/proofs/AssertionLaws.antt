@@ -2,11 +2,11 @@
 -- Assumes nothing.
 use mathlib.Core.Path.{◌≡◌, refl, sym, ap, ◌∙◌}
 use mathlib.Core.Bool.{Bool, true}
-use Prim.Native.Nat.{ℕ, ◌+◌, ◌-◌, ◌<◌, ◌≤◌, min}
+use Prim.Native.Nat.{ℕ, ◌+◌, ◌<◌, ◌≤◌}
 use native.Mathlib.Omega.{arith}
 use mathlib.Core.List.{List, [], ◌∷◌, ◌++◌, append-nil, append_assoc}
 use lib.Dec.{ltb}
-use lib.ListN.{length, take, drop, length-append, length-take, length-drop, take-append-drop}
+use lib.ListN.{length, take, drop, take-append-drop}
 use lib.Seq.{take_all}
 use Rattle.script_spec.specs.Base.{Bytes, collect}
 use Rattle.script_spec.specs.Tree.{Tm, Enums}
@@ -14,12 +14,16 @@ use Rattle.script_spec.specs.File.{TermFile, members, inputs, term_at}
 use Rattle.script_spec.specs.Command.{line, script, assert_that}
 use Rattle.script_spec.specs.Spelling.{Names, atom}
 use Rattle.script_spec.specs.Walk.{State, names, assertions}
-use Rattle.write_bytes.specs.Writing.{ceiling, moved, Appends}
-use Rattle.write_bytes.proofs.Laws.{◌then◌, says, nothing, stops_past, rest_appends}
+use Rattle.write_bytes.specs.Writing.{ceiling}
+use Rattle.write_bytes.specs.Writers.{Writes}
+use Rattle.write_bytes.specs.declared.writer.Writer.{Writer}
+use Rattle.write_bytes.proofs.Laws.{◌then◌, says, nothing, stops_past}
 use Rattle.index.specs.Cells.{cell, input_term}
-use Rattle.index.specs.Meaning.{Index, input_at}
-use Rattle.index.specs.declared.Sizes.{Sizes}
-use Rattle.walk_names.specs.Naming.{Numbers}
+use Rattle.index.specs.Meaning.{input_at}
+use Rattle.index.specs.declared.Records.{Records}
+use Rattle.walk_names.specs.Naming.{IndexOf, NumbersOf}
+use Rattle.walk_names.specs.Script.{Continues}
+use Rattle.walk_names.proofs.Advancing.{continues_refl, ◌further◌}
 use Rattle.write_terms.specs.Lines.{SpellsAssertion}
 use Rattle.encoder.specs.Inputs.{SpellsAssertions}
 use Rattle.encoder.proofs.InputLaws.{inputs_more}
@@ -40,29 +44,20 @@ assertions_one e ν t = append-nil (line (assert_that (atom e ν t)))
 
 -- ---- all inputs
 
--- a buffer whose rest was lent has its length
-rest_size : {p : ℕ} (at : ℕ) (x ys : Bytes) → p ≡ min at (length x) → length ys ≡ length (take (length x - p) (drop p x)) → length (take p x ++ (ys ++ drop (length x - p) (drop p x))) ≡ length x
-rest_size at x ys h e = simp (length-append, length-take, length-drop) (omega (arith, simp (length-take, length-drop) at e))
-
-module _ (file : Bytes) (work : List ℕ) (sizes : Sizes) (limit : ℕ) where
+module _ (c : Records) where
   -- the loop's invariant: the assertions of the first inputs are written
-  pub record Asserting (x : Bytes) (at : ℕ) (i : ℕ) (y : Bytes) (r : ℕ) : Type 0 where
-    pub size : length y ≡ length x
-    pub most : i ≤ sizes.inputs
-    pub go : (f : TermFile) (S : State) → Index file f work sizes → Numbers f work sizes.rows S → Appends limit x at y r (script (assertions (members f) (names S) (take i (inputs f))))
+  pub record Asserting (v : Writer) (i : ℕ) (w : Writer) : Type 0 where
+    pub same : Continues v w
+    pub go : (f : TermFile) (S : State) → IndexOf f c → NumbersOf f c S → Writes v w (script (assertions (members f) (names S) (take i (inputs f))))
 
-  pub asserting_start : (x : Bytes) (at : ℕ) → Asserting x at 0 x at
+  pub asserting_start : (v : Writer) → Asserting v 0 v
   unfolding assertions script collect
-  asserting_start x at = record { size = refl; most = omega arith; go = λ f S I N. nothing }
+  asserting_start v = record { same = continues_refl; go = λ f S I N. nothing }
 
-  pub asserting_on : {x y ys : Bytes} {at r q i n from room len : ℕ} → Asserting x at i y r → i < sizes.inputs → n ≡ cell work sizes.rows input_term i
-      → from ≡ min r (length y) → room ≡ ceiling limit - r → SpellsAssertion file work sizes n room (take (length y - from) (drop from y)) ys len
-      → length ys ≡ length (take (length y - from) (drop from y)) → q ≡ moved r len (ceiling limit)
-      → Asserting x at (i + 1) (take from y ++ (ys ++ drop (length y - from) (drop from y))) q
-  asserting_on {x} {y} {ys} {r = r} {i = i} {n = n} A l e hf hr W s hq =
+  pub asserting_on : {v w x : Writer} {i n : ℕ} → Asserting v i w → i < c.sizes.inputs → n ≡ cell c.work.now c.sizes.rows input_term i → SpellsAssertion c n w x → Asserting v (i + 1) x
+  asserting_on {i = i} {n = n} A l e W =
       record {
-        size = rest_size r y ys hf s ∙ A.size;
-        most = omega arith;
+        same = A.same further W.same;
         go = λ f S I N.
             let count = I.sizes_are.inputs_are in
             let row = I.rows.input_row i (omega arith) in
@@ -73,20 +68,22 @@ module _ (file : Bytes) (work : List ℕ) (sizes : Sizes) (limit : ℕ) where
             ∙ ap (λ (b : Bytes). script (assertions (members f) ν (take i (inputs f))) ++ b) (sym (assertions_one (members f) ν (input_at f i)))
             ∙ sym (assertions_append (members f) ν (take i (inputs f)) (input_at f i ∷ []))
             ∙ ap (λ (ts : List Tm). script (assertions (members f) ν ts)) (sym (inputs_more f i (omega arith))) in
-            says written (A.go f S I N then rest_appends refl hf hr (W.go f S I N (rw e row.below)) hq);
+            says written (A.go f S I N then W.go f S I N (rw e row.below));
       }
 
   -- past the limit the other assertions change nothing
-  pub asserting_past : {x y : Bytes} {at r i : ℕ} {p : Bool} → Asserting x at i y r → p ≡ ltb (ceiling limit) r → p ≡ true → SpellsAssertions file work sizes limit x at y r
+  pub asserting_past : {v w : Writer} {i : ℕ} {p : Bool} → Asserting v i w → p ≡ ltb (ceiling w.limit) w.at → p ≡ true → SpellsAssertions c v w
   asserting_past {i = i} A e h = record {
+    same = A.same;
     go = λ f S I N.
         let whole : script (assertions (members f) (names S) (take i (inputs f))) ++ script (assertions (members f) (names S) (drop i (inputs f))) ≡ script (assertions (members f) (names S) (inputs f))
         = sym (assertions_append (members f) (names S) (take i (inputs f)) (drop i (inputs f))) ∙ ap (λ (ts : List Tm). script (assertions (members f) (names S) ts)) (take-append-drop i (inputs f)) in
         says whole (A.go f S I N then stops_past e h);
   }
 
-  pub asserting_end : {x y : Bytes} {at r i : ℕ} → Asserting x at i y r → sizes.inputs ≤ i → SpellsAssertions file work sizes limit x at y r
+  pub asserting_end : {v w : Writer} {i : ℕ} → Asserting v i w → c.sizes.inputs ≤ i → SpellsAssertions c v w
   asserting_end {i = i} A l = record {
+    same = A.same;
     go = λ f S I N.
         let all : take i (inputs f) ≡ inputs f = take_all i (inputs f) (omega (arith, I.sizes_are.inputs_are)) in
         says (ap (λ (ts : List Tm). script (assertions (members f) (names S) ts)) all) (A.go f S I N);

@@ -1,120 +1,179 @@
--- Encode from its parts: the end of the walk, the records of an accepted file, and the whole.
+-- Encode from its parts: the end of the walk, the script of an accepted file, and the whole.
 -- Assumes nothing.
 use mathlib.Core.Path.{◌≡◌, refl, sym, ap, ◌∙◌, subst}
-use Prim.Native.Nat.{ℕ, ◌<◌}
+use mathlib.Core.Bool.{Bool, true, false}
+use Prim.Native.Nat.{ℕ, ◌<◌, ◌≤◌}
 use native.Mathlib.Omega.{arith}
 use mathlib.Core.List.{List, ◌++◌}
-use lib.ListN.{length, replicate}
+use lib.Dec.{ltb}
+use lib.ListN.{length}
+use borrow.Author.Tests.{ltb-false, ltb-true}
+use Rattle.std.specs.Prelude.{Result, Ok, Err}
 use Rattle.script_spec.specs.Base.{Bytes, Answer, refused}
-use Rattle.script_spec.specs.File.{TermFile, members, inputs, terms, term_at}
-use Rattle.script_spec.specs.Command.{script, left}
-use Rattle.script_spec.specs.Walk.{Step, went, stopped, start, names, encode_inputs, assertions, first_equal}
-use Rattle.write_bytes.specs.Writing.{Wrote}
+use Rattle.script_spec.specs.File.{TermFile, members, inputs, terms, term_at, checked}
+use Rattle.script_spec.specs.Command.{script}
+use Rattle.script_spec.specs.Walk.{State, Step, went, stopped, start, names, encode_inputs, assertions, first_equal, encoded}
+use Rattle.refusal.specs.Numbers.{number, answered}
+use Rattle.refusal.specs.declared.Refused.{Refused}
+use Rattle.write_bytes.specs.Writing.{longest, ceiling, Wrote}
+use Rattle.write_bytes.specs.Writers.{Writes}
+use Rattle.write_bytes.specs.declared.writer.Writer.{Writer}
+use Rattle.write_bytes.proofs.Laws.{from_start}
 use Rattle.index.specs.Cells.{cell, term_first, term_place}
 use Rattle.index.specs.First.{first_term}
-use Rattle.index.specs.Meaning.{Index, Unnamed}
+use Rattle.index.specs.Meaning.{CheckedIndex, Unnamed}
+use Rattle.index.specs.declared.Records.{Records}
+use Rattle.index.specs.Held.{Stays}
 use Rattle.index.specs.declared.Sizes.{Sizes}
 use Rattle.index.proofs.Firsts.{first_terms, first_below, first_first}
 use Rattle.index.proofs.Places.{place_first_equal}
-use Rattle.walk_names.proofs.Names.{index_kept, numbers_start}
-use Rattle.walk_names.proofs.Sticky.{sticky_went}
-use Rattle.walk_names.specs.Progress.{Holds, Advances}
-use Rattle.walk_names.specs.declared.progress.Progress.{Progress}
-use Rattle.walk_names.proofs.Running.{script_append}
-use Rattle.walk_queries.specs.Made.{MakesLists}
+use Rattle.walk_names.specs.Naming.{IndexOf}
+use Rattle.walk_names.specs.Progress.{Indexed, Went, Holds, Remains, Advances}
+use Rattle.walk_names.specs.declared.walk.Stopped.{Stopped}
+use Rattle.walk_names.specs.declared.walk.Walk.{Walk}
+use Rattle.walk_names.proofs.Names.{numbers_start}
+use Rattle.walk_names.proofs.Advancing.{script_append, remains_trans, remains_writes, indexed_remains, rewritten}
+use Rattle.walk_queries.specs.Made.{Ascends, MakesLists}
 use Rattle.walk_queries.proofs.Ascending.{accepted_ascends}
-use Rattle.check_file.specs.Promise.{Accepts, Fills}
-use Rattle.check_file.specs.Promise as check
-use Rattle.check_file.specs.declared.Filled.{Filled}
-use Rattle.check_file.specs.declared.Filled.TheVariants as fill
+use Rattle.check_file.specs.Promise.{Fills}
 use Rattle.encoder.specs.Inputs.{any_ready, inputs_walk, SpellsAssertions}
-use Rattle.encoder.specs.Promise.{Encodes}
-use Rattle.encoder.specs.Ending.{Gives, TurnsBack, RefusesScript, FinishesScript, walked, Closes, EncodesRecords}
-use Rattle.encoder.specs.declared.Encoded.{Encoded}
-use Rattle.encoder.proofs.EndLaws.{encoded_walked, encoded_refused, encodes}
+use Rattle.encoder.specs.Ending.{RefusedAt, Ended, WritesRecords, Gives, walked, Checked, Starts, WritesScript, Written}
+use Rattle.encoder.proofs.EndLaws.{gives_length, gives_no_room, gives_refused, encoded_walked, encoded_refused}
 
 -- ---- the end of the walk
 
--- a buffer of the same length
-gives_size : {x o y : Bytes} {r : Encoded} {w : Answer Bytes} → length x ≡ length o → Gives x y r w → Gives o y r w
-gives_size {w = w} e G = record { says = G.says; holds = G.holds ∙ ap (left w) e }
+-- the place of the first equal term
+pub refused_at : {c : Records} {e : Stopped} {r : Refused} {first : ℕ} → first ≡ cell c.work.now c.sizes.rows term_first e.term → r.refusal ≡ e.refusal
+    → r.place ≡ cell c.work.now c.sizes.rows term_place first → RefusedAt c e r
+refused_at {c} {e} {r} {first} h k p = record { refusal_is = k; go = on }
+  where
+    on : (f : TermFile) → IndexOf f c → e.term < length (terms f) → r.place ≡ first_equal f (term_at f e.term)
+    on f I below =
+        let F = first_terms f in
+        let is : first ≡ first_term f e.term = h ∙ (I.rows.term_row e.term below).first in
+        let first-below : first < length (terms f) = rw is (first_below F e.term below) in
+        let own : first_term f first ≡ first = ap (first_term f) is ∙ first_first F e.term below ∙ sym is in
+        p ∙ (I.rows.term_row first first-below).place_is ∙ place_first_equal f first first-below own ∙ ap (first_equal f) (ap (term_at f) is ∙ F.names e.term below)
 
-module _ (file : Bytes) (sizes : Sizes) (p : Progress) (work : List ℕ) (x : Bytes) {work' : List ℕ} {y : Bytes} {r : Encoded} where
-  -- a refusal of the walk, at the place of the first equal term
-  pub closes_refused : {m n i place : ℕ} → (p.refused ≡ 0 → ⊥) → m ≡ p.term → n ≡ cell work sizes.rows term_first m → i ≡ n → place ≡ cell work sizes.rows term_place i → RefusesScript work x p.refused place work' y r
-      → Closes file sizes p work x work' y r
-  unfolding walked
-  closes_refused {m} {n} {i} {place} h hm hn hi hp R = record { cleared = R.cleared; go = on }
+module _ {v w : Walk} where
+  -- a refusal of the walk
+  pub records_refused : {c : Records} {e : Stopped} {r : Refused} → c.file.now ≡ w.records.now.file.now → c.work.now ≡ w.records.now.work.now → c.sizes ≡ w.records.now.sizes
+      → Advances any_ready inputs_walk v w (Err e) → RefusedAt c e r → WritesRecords v w (Err r)
+  unfolding any_ready inputs_walk
+  records_refused {c} {e} {r} hf hw hs A R = record { remains = A.remains; go = λ f limit o S I W. by f limit o (encode_inputs (members f) (inputs f) S) (indexed_remains A.remains I) (A.go f limit o S I tt W) }
     where
-      on : (f : TermFile) (o : Bytes) (z : Step) → Index file f work sizes → Holds f sizes.rows (length o) o work x p z → Gives o y r (walked f (length o) z)
-      on f o (went S) I H = absurd (h H.not_refused)
-      on f o (stopped q t) I H =
-          let F = first_terms f in
-          let below : p.term < length (terms f) = H.term_below in
-          let n-is : n ≡ first_term f p.term = hn ∙ ap (cell work sizes.rows term_first) hm ∙ (I.rows.term_row p.term below).first in
-          let n-below : n < length (terms f) = rw n-is (first_below F p.term below) in
-          let n-first : first_term f n ≡ n = ap (first_term f) n-is ∙ first_first F p.term below ∙ sym n-is in
-          let term_is : term_at f n ≡ t = ap (term_at f) n-is ∙ F.names p.term below ∙ H.term_is in
-          let place_is : place ≡ first_equal f t = hp ∙ ap (cell work sizes.rows term_place) hi ∙ (I.rows.term_row n n-below).place_is ∙ place_first_equal f n n-below n-first ∙ ap (first_equal f) term_is in
-          let G : Gives o y r (refused p.refused place) = gives_size H.size R.gives in
-          subst (λ (a : Answer Bytes). Gives o y r a) (ap (λ (j : ℕ). refused j place) H.refused_is ∙ ap (refused q) place_is) G
+      by : (f : TermFile) (limit : ℕ) (o : Bytes) (x : Step) → Indexed f w → Holds f limit o w (Err e) x → Ended f limit o w (Err r) x
+      by f limit o (went S) J H = absurd H
+      by f limit o (stopped n t) J H = (ap number R.refusal_is ∙ H.refused_is, R.go f (rw (hf, hw, hs) J) H.term_below ∙ ap (first_equal f) H.term_is)
 
-  -- the assertions, and the end of the script
-  pub closes_went : {x₁ : Bytes} {at : ℕ} → p.refused ≡ 0 → SpellsAssertions file work sizes p.limit x p.at x₁ at → FinishesScript work x₁ at work' y r → Closes file sizes p work x work' y r
-  unfolding walked
-  closes_went {x₁} {at} h A F = record { cleared = F.cleared; go = on }
+  -- the assertions after it
+  pub records_written : {c : Records} {x : Writer} → c.file.now ≡ w.records.now.file.now → c.work.now ≡ w.records.now.work.now → c.sizes ≡ w.records.now.sizes
+      → Advances any_ready inputs_walk v w (Ok tt) → SpellsAssertions c w.script.now x → WritesRecords v (rewritten w x) (Ok tt)
+  unfolding any_ready inputs_walk
+  records_written {c} {x} hf hw hs A P = record { remains = remains_trans A.remains (remains_writes P.same); go = λ f limit o S I W. by f limit o (encode_inputs (members f) (inputs f) S) (indexed_remains A.remains I) (A.go f limit o S I tt W) }
     where
-      on : (f : TermFile) (o : Bytes) (z : Step) → Index file f work sizes → Holds f sizes.rows (length o) o work x p z → Gives o y r (walked f (length o) z)
-      on f o (went S) I H =
-          let W : Wrote p.limit o x₁ at (script S.commands ++ script (assertions (members f) (names S) (inputs f))) = (A.go f S I H.numbers).go o (script S.commands) H.wrote in
-          let whole : Wrote p.limit o x₁ at (script (S.commands ++ assertions (members f) (names S) (inputs f))) = rw (script_append S.commands (assertions (members f) (names S) (inputs f))) W in
-          F.go o (script (S.commands ++ assertions (members f) (names S) (inputs f))) (rw H.limit_is at whole)
-      on f o (stopped q t) I H = absurd (omega (arith, H.some_refused, H.refused_is))
+      by : (f : TermFile) (limit : ℕ) (o : Bytes) (y : Step) → Indexed f w → Holds f limit o w (Ok tt) y → Ended f limit o (rewritten w x) (Ok tt) y
+      by f limit o (went S) J H =
+          let W = (P.go f S (rw (hf, hw, hs) J) (rw (hw, hs) H.numbers)).go o (script S.commands) H.wrote in
+          rw (script_append S.commands (assertions (members f) (names S) (inputs f))) (rw H.limit_is at W)
+      by f limit o (stopped n t) J H = absurd H
 
--- ---- the records of an accepted file
+-- ---- the script of an accepted file
 
--- the progress at the start of the walk
-abbrev started : ℕ → ℕ → Progress
-started at limit = record { at = at; limit = limit; types = 0; funs = 0; terms = 0; refused = 0; term = 0 }
-
-holds_start : {file : Bytes} (f : TermFile) (rows limit : ℕ) (work : List ℕ) (x x₁ : Bytes) (at : ℕ) → Unnamed file f work rows → Wrote limit x x₁ at (script start.commands)
-    → Holds f rows limit x work x₁ (started at limit) (went start)
+-- the walk at its start
+pub went_start : {f : TermFile} {v : Walk} {o : Bytes} → Unnamed v.records.now.file.now f v.records.now.work.now v.records.now.sizes.rows → v.types ≡ 0 → v.funs ≡ 0 → v.terms ≡ 0
+    → Wrote v.script.now.limit o v.script.now.out.now v.script.now.at (script start.commands) → Went f v.script.now.limit o v start
 unfolding start
-holds_start f rows limit work x x₁ at N W =
+went_start {f} {v} N a b c W =
     record {
-      numbers = numbers_start f work rows N;
-      types_are = refl;
-      funs_are = refl;
-      terms_are = refl;
-      not_refused = refl;
+      numbers = numbers_start f v.records.now.work.now v.records.now.sizes.rows N;
+      types_are = a;
+      funs_are = b;
+      terms_are = c;
       limit_is = refl;
       wrote = W;
     }
 
-pub encodes_records : (file : Bytes) (sizes : Sizes) (work : List ℕ) (x : Bytes) {at : ℕ} {work₁ work₂ : List ℕ} {x₁ x₂ x₃ : Bytes} {q : Progress} {r : Encoded}
-    → Wrote (length x) x x₁ at (script start.commands) → Advances file sizes any_ready inputs_walk work x₁ (started at (length x)) work₁ x₂ q
-    → Closes file sizes q work₁ x₂ work₂ x₃ r → EncodesRecords file sizes work x work₂ x₃ r
-unfolding any_ready inputs_walk
-encodes_records file sizes work x {at} {x₁ = x₁} {x₃ = x₃} {r = r} A E L = record {
-  cleared = L.cleared ∙ ap (λ (n : ℕ). replicate n 0) E.kept.size;
-  go = λ w f e I N.
-      let H = E.go f (length x) x (went start) I tt (holds_start f sizes.rows (length x) work x x₁ at N A) in
-      let G = L.go f x (encode_inputs (members f) (inputs f) start) (index_kept E.kept I) (rw sticky_went at H) in
-      subst (λ (a : Answer Bytes). Gives x x₃ r a) (sym (encoded_walked file w f e (length x))) G;
-}
+-- the answer of a walk whose script was the whole buffer
+pub ended_refused : (f : TermFile) (o y : Bytes) (w : Walk) (S : Step) {r : Refused} → Ended f (length o) o w (Err r) S → Gives y (Err r) (walked f (length o) S)
+unfolding walked
+ended_refused f o y w (went T) E = absurd E
+ended_refused f o y w (stopped n t) E = gives_refused E.0 E.1
+
+pub ended_length : (f : TermFile) (o : Bytes) (w : Walk) (S : Step) → length o ≤ longest → Ended f (length o) o w (Ok tt) S → w.script.now.at ≤ length o
+    → Gives w.script.now.out.now (Ok w.script.now.at) (walked f (length o) S)
+unfolding walked
+ended_length f o w (went T) small E l = gives_length small E l
+ended_length f o w (stopped n t) small E l = absurd E
+
+pub ended_no_room : (f : TermFile) (o : Bytes) (w : Walk) (S : Step) {r : Refused} → length o ≤ longest → Ended f (length o) o w (Ok tt) S → length o < w.script.now.at
+    → number r.refusal ≡ 20 → r.place ≡ 0 → Gives w.script.now.out.now (Err r) (walked f (length o) S)
+unfolding walked
+ended_no_room f o w (went T) small E l e q = gives_no_room small E l e q
+ended_no_room f o w (stopped n t) small E l e q = absurd E
+
+-- the walk of an accepted file from its start to its end: v at its start, u with its lists and the start of its script, w at the end
+module _ {v u w : Walk} {r : Result (Unit {0}) Refused} (held : Stays v.records.now u.records.now)
+    (M : MakesLists v.records.now.file.now v.records.now.sizes v.records.now.work.now u.records.now.work.now) (lent : u.script.ghost_name ≡ v.script.ghost_name)
+    (S : Writes v.script.now u.script.now (script start.commands)) (types : u.types ≡ v.types) (funs : u.funs ≡ v.funs) (terms : u.terms ≡ v.terms) (W : WritesRecords u w r) where
+  end_reached : (f : TermFile) → Checked f v → Starts f v → Ended f (length v.script.now.out.now) v.script.now.out.now w r (encode_inputs (members f) (inputs f) start)
+  end_reached f I B =
+      let L = M.go f I B.ascends in
+      let wrote : Wrote u.script.now.limit v.script.now.out.now u.script.now.out.now u.script.now.at (script start.commands) = rw S.limit_is (from_start B.at_start S) in
+      let hf = held.file_is in
+      let hs = held.sizes_are in
+      let J : Indexed f u = rw (hf, hs) L.index in
+      let N : Unnamed u.records.now.file.now f u.records.now.work.now u.records.now.sizes.rows = rw (hf, hs) (L.unnamed B.unnamed) in
+      let limit_is : u.script.now.limit ≡ length v.script.now.out.now = S.limit_is ∙ B.limit_is in
+      rw limit_is at (W.go f u.script.now.limit v.script.now.out.now start J (went_start N (types ∙ B.types_none) (funs ∙ B.funs_none) (terms ∙ B.terms_none) wrote))
+
+  pub script_refused : {e : Refused} → r ≡ Err e → WritesScript v w (Err e)
+  script_refused e =
+      record {
+        script_lent = W.remains.script_lent ∙ lent;
+        same = W.remains.script.same ∙ S.same;
+        go = λ f I B. ended_refused f v.script.now.out.now w.script.now.out.now w (encode_inputs (members f) (inputs f) start) (rw e at (end_reached f I B));
+      }
+
+  pub script_written : r ≡ Ok tt → length w.script.now.out.now ≤ longest → w.script.now.at ≤ length w.script.now.out.now → WritesScript v w (Ok w.script.now.at)
+  script_written e small l =
+      let size = W.remains.script.size ∙ S.size in
+      record {
+        script_lent = W.remains.script_lent ∙ lent;
+        same = W.remains.script.same ∙ S.same;
+        go = λ f I B. ended_length f v.script.now.out.now w (encode_inputs (members f) (inputs f) start) (rw size at small) (rw e at (end_reached f I B)) (rw size at l);
+      }
+
+  pub script_past : {e : Refused} → r ≡ Ok tt → length w.script.now.out.now ≤ longest → length w.script.now.out.now < w.script.now.at → number e.refusal ≡ 20 → e.place ≡ 0 → WritesScript v w (Err e)
+  script_past h small l e q =
+      let size = W.remains.script.size ∙ S.size in
+      record {
+        script_lent = W.remains.script_lent ∙ lent;
+        same = W.remains.script.same ∙ S.same;
+        go = λ f I B. ended_no_room f v.script.now.out.now w (encode_inputs (members f) (inputs f) start) (rw size at small) (rw h at (end_reached f I B)) (rw size at l) e q;
+      }
 
 -- ---- the whole
 
-module _ (file : Bytes) (work : List ℕ) (x : Bytes) {work₁ : List ℕ} {y : Bytes} {v : Filled} {r : Encoded} (F : Fills file work work₁ v) where
-  pub encodes_refused : {n p : ℕ} → v ≡ fill.Refused n p → TurnsBack x n p y r → Encodes file work x work₁ y r
-  encodes_refused {n} {p} e T =
-      let B : check.Refuses file work work₁ n p = subst (λ (u : Filled). Fills file work work₁ u) e F in
-      encodes file work x B.cleared (subst (λ (a : Answer Bytes). Gives x y r a) (sym (encoded_refused file (length work) n p (length x) B.refuses)) T)
+-- a file that is refused before its script is written
+pub written_refused : (file : Bytes) (work work₁ : List ℕ) (x : Bytes) {y : Bytes} {e : Refused} → Fills file work work₁ (Err e) → Written file work x y (Err e)
+unfolding answered
+written_refused file work work₁ x {e = e} F = rw (encoded_refused file (length work) (number e.refusal) e.place (length x) F.refuses) (gives_refused refl refl)
 
-  pub encodes_accepted : length work₁ ≡ length work → {sizes : Sizes} {listed work₂ : List ℕ} → v ≡ fill.Done sizes
-      → MakesLists file sizes work₁ listed → length listed ≡ length work₁ → EncodesRecords file sizes listed x work₂ y r → Encodes file work x work₂ y r
-  encodes_accepted size {sizes} e M same R =
-      let B : Accepts file work work₁ sizes = subst (λ (u : Filled). Fills file work work₁ u) e F in
-      let L = M.go B.records B.index (accepted_ascends file (length work) B.records B.accepts) in
-      encodes file work x (R.cleared ∙ ap (λ (m : ℕ). replicate m 0) (same ∙ size))
-      (R.go (length work) B.records B.accepts L.index (L.unnamed B.unnamed))
+-- its script after a walk from its start
+pub written_accepted : {file : Bytes} (work work₁ : List ℕ) {x y : Bytes} {r : Result ℕ Refused} {v w : Walk} → WritesScript v w r → Fills file work work₁ (Ok v.records.now.sizes) → v.records.now.file.now ≡ file
+    → v.records.now.work.now ≡ work₁ → v.types ≡ 0 → v.funs ≡ 0 → v.terms ≡ 0 → v.script.now.limit ≡ length x → v.script.now.at ≡ 0 → v.script.now.out.now ≡ x → y ≡ w.script.now.out.now
+    → Written file work x y r
+unfolding answered
+written_accepted {file} work work₁ {x = x} {v = v} W F hf hw a b c hl ha hx hy =
+    let B : Starts F.records v =
+    record {
+      ascends = accepted_ascends file (length work) F.records F.accepts;
+      unnamed = rw (hf, hw) F.unnamed;
+      types_none = a;
+      funs_none = b;
+      terms_none = c;
+      limit_is = hl ∙ ap length (sym hx);
+      at_start = ha;
+    } in
+    rw (encoded_walked file (length work) F.records F.accepts (length x), hy) (rw hx at (W.go F.records (rw (hf, hw) F.index) B))

@@ -1,44 +1,57 @@
--- The end of a script: refusals clear, a script that fits is given by its length, and encode's answer is that of the walk.
+-- The end of a script: one that fits is given by its length, one that does not is refused, and encode's answer is that of the walk.
 -- Assumes nothing.
 use mathlib.Core.Path.{◌≡◌, refl, sym, ap, ◌∙◌}
-use Prim.Native.Nat.{ℕ}
+use mathlib.Core.Bool.{Bool, true, false}
+use Prim.Native.Nat.{ℕ, ◌-◌, ◌≤◌, ◌<◌}
 use native.Mathlib.Numerals.{unary_clauses}
+use native.Mathlib.Omega.{arith}
 use mathlib.Core.List.{List, ◌++◌}
-use lib.ListN.{length, take, replicate}
+use lib.Dec.{ltb}
+use lib.ListN.{length, take, drop, replicate, length-append, length-take}
 use lib.Seq.{take_at}
+use borrow.Author.Tests.{ltb-false, ltb-true}
+use Rattle.std.specs.Prelude.{Result, Ok, Err}
 use Rattle.script_spec.specs.Base.{Bytes, Answer, accepted, refused}
 use Rattle.script_spec.specs.File.{TermFile, members, inputs, checked}
 use Rattle.script_spec.specs.Command.{Command, script, fitting, left}
 use Rattle.script_spec.specs.Walk.{Step, went, stopped, start, names, encode_inputs, assertions, first_equal, encoding, encoded}
 use Rattle.script_spec.proofs.Demand.{encoded_faithful}
 use Rattle.script_spec.proofs.Laws.{never}
-use Rattle.write_bytes.specs.Writing.{cleared, length_of}
-use Rattle.write_bytes.specs.Writing as writing
-use Rattle.write_bytes.proofs.Laws.{finished_line}
+use Rattle.refusal.specs.Numbers.{answered, number}
+use Rattle.refusal.specs.declared.Refused.{Refused}
+use Rattle.write_bytes.specs.Writing.{cleared, longest, ceiling, Wrote, length_of}
+use Rattle.write_bytes.proofs.Laws.{wrote_within, wrote_fits, wrote_past, fitting_within, fitting_past}
 use Rattle.encoder.specs.Promise.{encoded_as, Encodes}
-use Rattle.encoder.specs.Ending.{Gives, TurnsBack, FinishesScript, walked}
-use Rattle.encoder.specs.declared.Encoded.{Encoded}
-use Rattle.encoder.specs.declared.Encoded.TheVariants.{Script, Refused}
+use Rattle.encoder.specs.Ending.{Gives, walked}
 
--- ---- refusals
-
-zeros_from : (x y : Bytes) → y ≡ cleared x 0 → y ≡ replicate (length x) 0
-unfolding cleared
-zeros_from x y e = simp unary_clauses at e
-
-pub turned_back : (x : Bytes) {y : Bytes} (n p : ℕ) → y ≡ cleared x 0 → TurnsBack x n p y (Refused n p)
-unfolding encoded_as length_of left
-turned_back x {y} n p e = record { says = refl; holds = zeros_from x y e }
+-- what is behind a reference, by its ghost name
+pub reached : {A : Type 0} {y z : A} {m n : ℕ} → m ≡ n → (m ≡ n → y ≡ z) → y ≡ z
+reached e f = f e
 
 -- ---- the end of a script
 
--- an answer of the writer as one of encode
-module _ (work : List ℕ) (x : Bytes) (at : ℕ) {work' : List ℕ} {y : Bytes} (c : work' ≡ replicate (length work) 0) where
-  pub finishes_by : (a : Answer ℕ) (r : Encoded) → a ≡ encoded_as r → writing.Finishes x at y a → FinishesScript work x at work' y r
-  finishes_by a r e F = record {
-    cleared = c;
-    go = λ o s w. let L = finished_line w F in record { says = sym e ∙ L.says; holds = L.holds };
-  }
+module _ {x y : Bytes} {at : ℕ} {s : Bytes} (small : length x ≤ longest) (W : Wrote (length x) x y at s) where
+  -- a script that fits
+  pub gives_length : at ≤ length x → Gives y (Ok at) (fitting s (length x))
+  unfolding answered length_of
+  gives_length l =
+      let size : at ≡ length s = wrote_within W (omega (arith, l, small)) in
+      let room : length s ≤ length x = omega (arith, size, l) in
+      rw (fitting_within s (length x) room)
+      (record {
+        says = ap accepted size;
+        starts = λ t e. let is : s ≡ t = cc in rw (sym is) (rw (wrote_fits W room (omega (arith, size, l, small))) (take_at s _ (length s) refl));
+      })
+
+  -- one that does not
+  pub gives_no_room : {r : Refused} → length x < at → number r.refusal ≡ 20 → r.place ≡ 0 → Gives y (Err r) (fitting s (length x))
+  unfolding answered length_of
+  gives_no_room l e q = rw (fitting_past s (length x) (omega (arith, wrote_past W (omega (arith, l, small)), small))) (record { says = rw (e, q) refl; starts = λ t h. never cc })
+
+-- a refusal
+pub gives_refused : {y : Bytes} {r : Refused} {n p : ℕ} → number r.refusal ≡ n → r.place ≡ p → Gives y (Err r) (refused n p)
+unfolding answered length_of
+gives_refused e q = record { says = rw (e, q) refl; starts = λ t h. never cc }
 
 -- ---- encode's answer
 
@@ -61,25 +74,42 @@ pub encoded_refused : (file : Bytes) (w n p room : ℕ) → checked file w ≡ r
 unfolding encoded
 encoded_refused file w n p room e = rw (e, encoded)
 
--- ---- demand 3
+-- ---- the whole
 
--- the bytes of a script of the answered length
-given_script : (x y : Bytes) (r : Encoded) (w : Answer Bytes) (n : ℕ) → Gives x y r w → r ≡ Script n → w ≡ accepted (take n y)
-unfolding encoded_as length_of left
-given_script x y r (accepted s) n G e =
-    let q : accepted n ≡ accepted (length s) = ap encoded_as (sym e) ∙ G.says in
-    let size : n ≡ length s = cc in
-    ap accepted (sym (rw (size, G.holds) (take_at s _ (length s) refl)))
-given_script x y r (refused m p) n G e =
-    let q : accepted n ≡ refused m p = ap encoded_as (sym e) ∙ G.says in
-    never cc
+-- a script that is given, with zeros past it
+given_script : {y : Bytes} (w : Answer Bytes) {n : ℕ} → Gives y (Ok n) w → w ≡ accepted (take n y)
+unfolding answered length_of
+given_script (accepted s) {n} G = let size : n ≡ length s = (let e : accepted n ≡ accepted (length s) = G.says in cc) in ap accepted (sym (rw size (G.starts s refl)))
+given_script (refused m p) G = let e : accepted _ ≡ refused m p = G.says in never cc
 
--- an answer that is encode's, and memory that is cleared
-pub encodes : (file : Bytes) (work : List ℕ) (x : Bytes) {work' : List ℕ} {y : Bytes} {r : Encoded} → work' ≡ replicate (length work) 0
-    → Gives x y r (encoded file (length work) (length x)) → Encodes file work x work' y r
-encodes file work x {work'} {y} {r} c G = record {
-  answer = G.says;
-  script_is = G.holds;
-  cleared = c;
-  faithful = λ f n e q. encoded_faithful file (length work) (length x) f (take n y) e (given_script x y r (encoded file (length work) (length x)) n G q);
-}
+given_size : {y : Bytes} (w : Answer Bytes) {n : ℕ} → Gives y (Ok n) w → n ≤ length y
+unfolding answered length_of
+given_size (accepted s) {n} G =
+    let size : n ≡ length s = (let e : accepted n ≡ accepted (length s) = G.says in cc) in
+    omega (arith, size, simp length-take at (ap length (G.starts s refl)))
+given_size (refused m p) G = let e : accepted _ ≡ refused m p = G.says in never cc
+
+module _ (file : Bytes) (work work₁ : List ℕ) (x : Bytes) {work' : List ℕ} {y z : Bytes} (same : length y ≡ length x) (c : work' ≡ replicate (length work₁) 0) (kept : length work₁ ≡ length work) where
+  -- zeros stand past a script
+  pub encodes_script : {n : ℕ} → Gives y (Ok n) (encoded file (length work) (length x)) → z ≡ cleared y n → Encodes file work x work' z (Ok n)
+  unfolding left cleared
+  encodes_script {n} G e =
+      let w = encoded file (length work) (length x) in
+      let is : w ≡ accepted (take n y) = given_script w G in
+      let whole : length (take n y) ≡ n = simp length-take (omega (arith, given_size w G)) in
+      let starts : take n z ≡ take n y = rw e (take_at (take n y) _ n whole) in
+      record {
+        answer = G.says;
+        script_is = rw (is, left, whole, e, same) refl;
+        cleared = rw kept at c;
+        faithful = λ f m d q. let n-is : n ≡ m = cc in rw (sym n-is) (encoded_faithful file (length work) (length x) f (take n z) d (rw starts is));
+      }
+
+  -- a refusal leaves zeros alone
+  pub encodes_refusal : {r : Refused} → Gives y (Err r) (encoded file (length work) (length x)) → z ≡ cleared y 0 → Encodes file work x work' z (Err r)
+  unfolding answered length_of left cleared
+  encodes_refusal {r} G e = record { answer = G.says; script_is = zeros (encoded file (length work) (length x)) G.says; cleared = rw kept at c; faithful = λ f m d q. never cc }
+    where
+      zeros : (w : Answer Bytes) → encoded_as (Err r) ≡ length_of w → z ≡ left w (length x)
+      zeros (accepted s) h = never cc
+      zeros (refused n p) h = rw (sym same) (simp unary_clauses at e)

@@ -1,26 +1,23 @@
 -- The walk over the inputs, one after the other: the first of them are encoded.
 -- Assumes nothing.
-use mathlib.Core.Path.{◌≡◌, refl, sym, ap, ◌∙◌, subst}
+use mathlib.Core.Path.{◌≡◌, refl, sym, ap, ◌∙◌}
 use Prim.Native.Nat.{ℕ, ◌+◌, ◌<◌, ◌≤◌}
 use native.Mathlib.Numerals.{add-one}
 use native.Mathlib.Omega.{arith}
 use mathlib.Core.List.{List, [], ◌∷◌, ◌++◌}
-use lib.ListN.{length, take}
+use lib.ListN.{length, take, drop, take-append-drop}
 use lib.Seq.{take-suc, take_all}
+use Rattle.std.specs.Prelude.{Result, Ok, Err}
 use Rattle.script_spec.specs.Base.{Bytes}
 use Rattle.script_spec.specs.Tree.{Tm, Enums}
 use Rattle.script_spec.specs.File.{TermFile, members, inputs, term_at}
-use Rattle.script_spec.specs.Walk.{Step, went, encode_term, encode_inputs}
+use Rattle.script_spec.specs.Walk.{State, Step, went, stopped, encode_term, encode_inputs, ◌>>◌}
 use Rattle.index.specs.Cells.{cell, input_term}
 use Rattle.index.specs.Meaning.{Index, input_at}
-use Rattle.index.specs.declared.Sizes.{Sizes}
-use Rattle.walk_names.specs.Naming.{Kept}
-use Rattle.walk_names.specs.Sticky.{sticky}
-use Rattle.walk_names.proofs.Names.{kept_refl, kept_trans, index_kept}
-use Rattle.walk_names.proofs.Sticky.{sticky_then, sticky_nothing}
-use Rattle.walk_names.specs.Progress.{Holds, Unmoved, Advances}
-use Rattle.walk_names.specs.declared.progress.Progress.{Progress}
-use Rattle.walk_names.proofs.Advancing.{unmoved_refl, unmoved_trans}
+use Rattle.walk_names.specs.Progress.{memory, rows, Indexed, Went, Holds, Remains, Advances}
+use Rattle.walk_names.specs.declared.walk.Walk.{Walk}
+use Rattle.walk_names.specs.declared.walk.Stopped.{Stopped}
+use Rattle.walk_names.proofs.Advancing.{remains_refl, remains_trans, indexed_remains}
 use Rattle.walk_new.specs.Steps.{term_ready}
 use Rattle.walk_terms.specs.Terms.{term_walk}
 use Rattle.encoder.specs.Inputs.{any_ready, inputs_walk}
@@ -28,17 +25,32 @@ use Rattle.encoder.specs.Inputs.{any_ready, inputs_walk}
 -- ---- inputs one after the other
 
 -- inputs in two parts
-encode_append : (e : Enums) (ts us : List Tm) (x : Step) → sticky (encode_inputs e (ts ++ us)) x ≡ sticky (encode_inputs e us) (sticky (encode_inputs e ts) x)
-unfolding encode_inputs
-encode_append e [] us x = ap (sticky (encode_inputs e us)) (sym (sticky_nothing x))
-encode_append e (t ∷ ts) us x =
-    sticky_then (encode_term e t) (encode_inputs e (ts ++ us)) x
-    ∙ encode_append e ts us (sticky (encode_term e t) x)
-    ∙ ap (sticky (encode_inputs e us)) (sym (sticky_then (encode_term e t) (encode_inputs e ts) x))
+encode_append : (e : Enums) (ts us : List Tm) (S : State) → encode_inputs e (ts ++ us) S ≡ ◌>>◌ (encode_inputs e ts) (encode_inputs e us) S
+unfolding encode_inputs ◌>>◌
+encode_append e [] us S = refl
+encode_append e (t ∷ ts) us S = go (λ s. encode_append e ts us s) (encode_term e t S)
+  where
+    go : ((s : State) → encode_inputs e (ts ++ us) s ≡ elim (encode_inputs e ts s) as (λ y. Step) [ went r ↦ encode_inputs e us r | stopped n u ↦ stopped n u ]) → (x : Step) → elim x as (λ y. Step) [ went s ↦ encode_inputs e (ts ++ us) s | stopped n u ↦ stopped n u ]
+        ≡ elim (elim x as (λ y. Step) [ went s ↦ encode_inputs e ts s | stopped n u ↦ stopped n u ]) as (λ y. Step) [ went s ↦ encode_inputs e us s | stopped n u ↦ stopped n u ]
+    go more (went s) = more s
+    go more (stopped n u) = refl
 
-encode_one : (e : Enums) (t : Tm) (x : Step) → sticky (encode_inputs e (t ∷ [])) x ≡ sticky (encode_term e t) x
-unfolding encode_inputs
-encode_one e t x = sticky_then (encode_term e t) went x ∙ sticky_nothing (sticky (encode_term e t) x)
+-- a step that stopped is not gone on with
+append_stopped : (e : Enums) (ts us : List Tm) (S : State) {n : ℕ} {t : Tm} → encode_inputs e ts S ≡ stopped n t → encode_inputs e (ts ++ us) S ≡ stopped n t
+unfolding ◌>>◌
+append_stopped e ts us S h = rw (encode_append e ts us S, ◌>>◌, h)
+
+append_went : (e : Enums) (ts us : List Tm) (S : State) {S' : State} → encode_inputs e ts S ≡ went S' → encode_inputs e (ts ++ us) S ≡ encode_inputs e us S'
+unfolding ◌>>◌
+append_went e ts us S h = rw (encode_append e ts us S, ◌>>◌, h)
+
+encode_one : (e : Enums) (t : Tm) (S : State) → encode_inputs e (t ∷ []) S ≡ encode_term e t S
+unfolding encode_inputs ◌>>◌
+encode_one e t S = go (encode_term e t S)
+  where
+    go : (x : Step) → elim x as (λ y. Step) [ went s ↦ went s | stopped n u ↦ stopped n u ] ≡ x
+    go (went s) = refl
+    go (stopped n u) = refl
 
 -- the first inputs with one more
 pub inputs_more : (f : TermFile) (i : ℕ) → i < length (inputs f) → take (i + 1) (inputs f) ≡ take i (inputs f) ++ (input_at f i ∷ [])
@@ -47,56 +59,55 @@ inputs_more f i l = rw add-one (take-suc (inputs f) i _ l)
 
 -- ---- the walk
 
-module _ (file : Bytes) (sizes : Sizes) where
-  -- the loop's invariant: the first inputs are encoded
-  pub record Encoding (work : List ℕ) (out : Bytes) (p : Progress) (i : ℕ) (work' : List ℕ) (out' : Bytes) (p' : Progress) : Type 0 where
-    pub kept : Kept work work' sizes.rows
-    pub unmoved : (p.refused ≡ 0 → ⊥) → Unmoved work out p work' out' p'
-    pub size : length out' ≡ length out
-    pub most : i ≤ sizes.inputs
-    pub go : (f : TermFile) (limit : ℕ) (o : Bytes) (x : Step) → Index file f work sizes
-        → Holds f sizes.rows limit o work out p x → Holds f sizes.rows limit o work' out' p' (sticky (encode_inputs (members f) (take i (inputs f))) x)
+-- what was reached after the first inputs
+pub record Encoding (v : Walk) (i : ℕ) (w : Walk) (r : Result (Unit {0}) Stopped) : Type 0 where
+  pub remains : Remains v w
+  pub go : (f : TermFile) (limit : ℕ) (o : Bytes) (S : State) → Indexed f v → Went f limit o v S → Holds f limit o w r (encode_inputs (members f) (take i (inputs f)) S)
 
-  pub encoding_start : (work : List ℕ) (out : Bytes) (p : Progress) → Encoding work out p 0 work out p
-  unfolding encode_inputs
-  encoding_start work out p =
-      record {
-        kept = kept_refl work sizes.rows;
-        unmoved = λ h. unmoved_refl;
-        size = refl;
-        most = omega arith;
-        go = λ f limit o x I H. subst (Holds f sizes.rows limit o work out p) (sym (sticky_nothing x)) H;
-      }
+pub encoding_start : (v : Walk) → Encoding v 0 v (Ok tt)
+unfolding encode_inputs
+encoding_start v = record { remains = remains_refl; go = λ f limit o S I W. W }
 
-  module _ {work work₁ work₂ : List ℕ} {out out₁ out₂ : Bytes} {p p₁ p₂ : Progress} {i n : ℕ} where
-    pub encoding_on : Encoding work out p i work₁ out₁ p₁ → i < sizes.inputs → n ≡ cell work₁ sizes.rows input_term i
-        → Advances file sizes (term_ready n) (term_walk n) work₁ out₁ p₁ work₂ out₂ p₂ → length out₂ ≡ length out₁ → Encoding work out p (i + 1) work₂ out₂ p₂
-    unfolding term_ready term_walk
-    encoding_on E l e A s =
-        record {
-          kept = kept_trans E.kept A.kept;
-          unmoved = λ h. let a = E.unmoved h in unmoved_trans a (A.unmoved (λ z. h (sym (ap (λ (q : Progress). q.refused) a.progress) ∙ z)));
-          size = s ∙ E.size;
-          most = omega arith;
-          go = λ f limit o x I H.
-              let count = I.sizes_are.inputs_are in
-              let J : Index file f work₁ sizes = index_kept E.kept I in
-              let row = J.rows.input_row i (omega arith) in
-              let y = sticky (encode_inputs (members f) (take i (inputs f))) x in
-              let term_is : term_at f n ≡ input_at f i = ap (term_at f) e ∙ row.is in
-              let walks : sticky (encode_inputs (members f) (take (i + 1) (inputs f))) x ≡ sticky (encode_term (members f) (term_at f n)) y
-              = ap (λ (ts : List Tm). sticky (encode_inputs (members f) ts) x) (inputs_more f i (omega arith)) ∙ encode_append (members f) (take i (inputs f)) (input_at f i ∷ []) x
-              ∙ encode_one (members f) (input_at f i) y ∙ ap (λ (t : Tm). sticky (encode_term (members f) t) y) (sym term_is) in
-              subst (Holds f sizes.rows limit o work₂ out₂ p₂) (sym walks) (A.go f limit o y J (rw e row.below) (E.go f limit o x I H));
-        }
+module _ {v w : Walk} {i : ℕ} where
+  -- one input more
+  pub encoding_on : {n : ℕ} {x : Walk} {r : Result (Unit {0}) Stopped} → Encoding v i w (Ok tt) → i < v.records.now.sizes.inputs → n ≡ cell (memory w) (rows w) input_term i
+      → Advances (term_ready n) (term_walk n) w x r → Encoding v (i + 1) x r
+  unfolding term_ready term_walk
+  encoding_on {n} {x} {r} E l e A = record { remains = remains_trans E.remains A.remains; go = on }
+    where
+      on : (f : TermFile) (limit : ℕ) (o : Bytes) (S : State) → Indexed f v → Went f limit o v S → Holds f limit o x r (encode_inputs (members f) (take (i + 1) (inputs f)) S)
+      on f limit o S I W = by (encode_inputs (members f) (take i (inputs f)) S) refl (E.go f limit o S I W)
+        where
+          J : Indexed f w
+          J = indexed_remains E.remains I
 
-  pub encoding_end : {work work' : List ℕ} {out out' : Bytes} {p p' : Progress} {i : ℕ} → Encoding work out p i work' out' p' → sizes.inputs ≤ i
-      → Advances file sizes any_ready inputs_walk work out p work' out' p'
+          more : take (i + 1) (inputs f) ≡ take i (inputs f) ++ (input_at f i ∷ [])
+          more = inputs_more f i (omega (arith, I.sizes_are.inputs_are))
+
+          by : (y : Step) → encode_inputs (members f) (take i (inputs f)) S ≡ y → Holds f limit o w (Ok tt) y → Holds f limit o x r (encode_inputs (members f) (take (i + 1) (inputs f)) S)
+          by (went S') h H =
+              let row = J.rows.input_row i (omega (arith, I.sizes_are.inputs_are)) in
+              let walks : encode_inputs (members f) (take (i + 1) (inputs f)) S ≡ encode_term (members f) (term_at f n) S'
+              = ap (λ (ts : List Tm). encode_inputs (members f) ts S) more ∙ append_went (members f) (take i (inputs f)) (input_at f i ∷ []) S h
+              ∙ encode_one (members f) (input_at f i) S' ∙ ap (λ (t : Tm). encode_term (members f) t S') (sym (ap (term_at f) e ∙ row.is)) in
+              rw walks (A.go f limit o S' J (rw e row.below) H)
+          by (stopped q t) h H = absurd H
+
+  -- a refusal ends the walk over all of them
+  pub encoding_stopped : {e : Stopped} → Encoding v i w (Err e) → i ≤ v.records.now.sizes.inputs → Advances any_ready inputs_walk v w (Err e)
   unfolding inputs_walk
-  encoding_end {work' = work'} {out' = out'} {p' = p'} {i = i} E l = record {
-    kept = E.kept;
-    unmoved = E.unmoved;
-    go = λ f limit o x I r H.
-        let all : take i (inputs f) ≡ inputs f = take_all i (inputs f) (omega (arith, I.sizes_are.inputs_are)) in
-        subst (λ (ts : List Tm). Holds f sizes.rows limit o work' out' p' (sticky (encode_inputs (members f) ts) x)) all (E.go f limit o x I H);
+  encoding_stopped {e} E l = record { remains = E.remains; go = λ f limit o S I a W. by f limit o S (encode_inputs (members f) (take i (inputs f)) S) refl (E.go f limit o S I W) }
+    where
+      by : (f : TermFile) (limit : ℕ) (o : Bytes) (S : State) (y : Step) → encode_inputs (members f) (take i (inputs f)) S ≡ y → Holds f limit o w (Err e) y → Holds f limit o w (Err e) (encode_inputs (members f) (inputs f) S)
+      by f limit o S (went S') h H = absurd H
+      by f limit o S (stopped q t) h H =
+          let all : encode_inputs (members f) (inputs f) S ≡ stopped q t
+          = ap (λ (ts : List Tm). encode_inputs (members f) ts S) (sym (take-append-drop i (inputs f))) ∙ append_stopped (members f) (take i (inputs f)) (drop i (inputs f)) S h in
+          rw all H
+
+  pub encoding_end : Encoding v i w (Ok tt) → v.records.now.sizes.inputs ≤ i → Advances any_ready inputs_walk v w (Ok tt)
+  unfolding inputs_walk
+  encoding_end E l = record {
+    remains = E.remains;
+    go = λ f limit o S I a W. rw (take_all i (inputs f) (omega (arith, I.sizes_are.inputs_are))) at (E.go f limit o S I W);
   }

@@ -15,12 +15,19 @@ use Rattle.script_spec.specs.Text.{digit, digits, decimal}
 use Rattle.script_spec.specs.Command.{fitting, left}
 use Rattle.script_spec.specs.Walk.{encoded, printed, termscript}
 use Rattle.script_spec.proofs.Laws.{never}
-use Rattle.write_bytes.specs.Writing.{Wrote, Leaves, Finishes, length_of}
-use Rattle.write_bytes.proofs.Laws.{fitting_within, finished_line}
+use Rattle.std.specs.Prelude.{Result, Ok, Err}
+use Rattle.std.specs.Result.{result_unwrap_or}
+use Rattle.refusal.specs.Numbers.{number}
+use Rattle.refusal.specs.Numbers as numbers
+use Rattle.refusal.specs.declared.Refusal.{Refusal}
+use Rattle.refusal.specs.declared.Refusal.TheVariants.{FileTooLong, MemoryTooSmall, CutShort, UnknownMark, Misfit, NotUtf8, OutOfRange, NoSuchRecord, NotAscending, NothingGiven, SecondEnum, TypeNotListed, TooMany, NotMember, HighCodePoint, NoAttribute, NotRecord, TypeNotDeclared, NoArgument, NoRoom}
+use Rattle.refusal.specs.declared.Refused.{Refused}
+use Rattle.write_bytes.specs.Writing.{answer, Leaves, length_of}
+use Rattle.write_bytes.specs.Writers.{Writes, Finishes}
+use Rattle.write_bytes.specs.declared.writer.Writer.{Writer}
+use Rattle.write_bytes.proofs.Laws.{fitting_within, finished}
 use Rattle.encoder.specs.Promise.{encoded_as, Encodes}
 use Rattle.encoder.specs.Printing.{answered, written, Shows, PrintsRefusal, Prints}
-use Rattle.encoder.specs.declared.Encoded.{Encoded}
-use Rattle.encoder.specs.declared.Encoded.TheVariants.{Script, Refused}
 
 -- ---- the length of a numeral
 
@@ -45,28 +52,52 @@ refusal_length : (n p : ℕ) → n < 2 ^ 32 → p < 2 ^ 32 → length (printed (
 unfolding printed bytes
 refusal_length n p h k = simp length-append (omega (arith, decimal_length n h, decimal_length p k))
 
+-- a refusal's number has two digits
+number_short : (r : Refusal) → number r < 100
+unfolding number
+number_short FileTooLong = omega arith
+number_short MemoryTooSmall = omega arith
+number_short CutShort = omega arith
+number_short UnknownMark = omega arith
+number_short Misfit = omega arith
+number_short NotUtf8 = omega arith
+number_short OutOfRange = omega arith
+number_short NoSuchRecord = omega arith
+number_short NotAscending = omega arith
+number_short NothingGiven = omega arith
+number_short SecondEnum = omega arith
+number_short TypeNotListed = omega arith
+number_short TooMany = omega arith
+number_short NotMember = omega arith
+number_short HighCodePoint = omega arith
+number_short NoAttribute = omega arith
+number_short NotRecord = omega arith
+number_short TypeNotDeclared = omega arith
+number_short NoArgument = omega arith
+number_short NoRoom = omega arith
+
 -- ---- a refusal's line
 
--- a refusal's line is not empty
-pub refusal_some : (n p : ℕ) → 0 < length (printed (refused n p))
-unfolding printed bytes
-refusal_some n p = simp length-append (omega arith)
-
 -- a line that was written from the start of a buffer, and ended
-module _ (x : Bytes) (n p : ℕ) {y z : Bytes} {end : ℕ} {v : Answer ℕ} (h : n < 2 ^ 32) (k : p < 2 ^ 32)
-    (A : Wrote (length x) x y end (printed (refused n p))) (F : Finishes y end z v) where
-  pub refusal_shown : {r : ℕ} → r ≡ written v → PrintsRefusal x n p z r
-  unfolding written length_of left
-  refusal_shown {r} e =
-      let L : Leaves x z v (fitting (printed (refused n p)) (length x)) = finished_line A F in
-      let size : r ≡ written (length_of (fitting (printed (refused n p)) (length x))) = e ∙ ap written L.says in
-      record {
-        shows = record { holds = L.holds; size = size };
-        is = λ room.
-            let fits : fitting (printed (refused n p)) (length x) ≡ accepted (printed (refused n p)) = fitting_within (printed (refused n p)) (length x) (omega (arith, refusal_length n p h k)) in
-            rw (size ∙ ap (λ (a : Answer Bytes). written (length_of a)) fits, L.holds ∙ ap (λ (a : Answer Bytes). left a (length x)) fits)
-            (take_at (printed (refused n p)) _ (length (printed (refused n p))) refl);
-      }
+pub refusal_shown : (q : Refusal) {x z : Bytes} {p r : ℕ} {u v w : Writer} {e : Result ℕ Refusal} → p < 2 ^ 32 → u.out.now ≡ x → u.limit ≡ length x → u.at ≡ 0
+    → Writes u v (printed (refused (number q) p)) → Finishes v w e → z ≡ w.out.now → r ≡ result_unwrap_or e 0 → PrintsRefusal x (number q) p z r
+unfolding written length_of left answer
+refusal_shown q {x} {z} {p} {r} {e = e} k hx hl ha A F hz hr =
+    let n = number q in
+    let h : n < 2 ^ 32 = omega (arith, number_short q) in
+    let L : Leaves x z (answer e) (fitting (printed (refused n p)) (length x)) = rw hz (rw hx at (finished (rw hx hl) ha A F)) in
+    let size : r ≡ written (length_of (fitting (printed (refused n p)) (length x))) = hr ∙ answered_length e ∙ ap written L.says in
+    record {
+      shows = record { holds = L.holds; size = size };
+      is = λ room.
+          let fits : fitting (printed (refused n p)) (length x) ≡ accepted (printed (refused n p)) = fitting_within (printed (refused n p)) (length x) (omega (arith, refusal_length n p h k)) in
+          rw (size ∙ ap (λ (a : Answer Bytes). written (length_of a)) fits, L.holds ∙ ap (λ (a : Answer Bytes). left a (length x)) fits)
+          (take_at (printed (refused n p)) _ (length (printed (refused n p))) refl);
+    }
+  where
+    answered_length : (e : Result ℕ Refusal) → result_unwrap_or e 0 ≡ written (answer e)
+    answered_length (Ok m) = refl
+    answered_length (Err q) = refl
 
 -- ---- the answer
 
@@ -96,7 +127,7 @@ module _ (file : Bytes) (work : List ℕ) (x : Bytes) {work' : List ℕ} where
   pub prints_long : {y : Bytes} {r : ℕ} → 8192 < length file → work' ≡ replicate (length work) 0 → PrintsRefusal x 1 0 y r → Prints file work x work' y r
   prints_long h c R = prints_as file work x (refused 1 0) (answered_long file (length work) (length x) h) R.shows (λ b. R.is (omega arith)) c
 
-  module _ {y : Bytes} {v : Encoded} (h : length file ≤ 8192) (same : length y ≡ length x) (E : Encodes file work x work' y v) where
+  module _ {y : Bytes} {v : Result ℕ Refused} (h : length file ≤ 8192) (same : length y ≡ length x) (E : Encodes file work x work' y v) where
     -- a script
     script_given : (w : Answer Bytes) {n : ℕ} → accepted n ≡ length_of w → y ≡ left w (length x) → Shows x (printed w) y n × (take n y ≡ printed w)
     unfolding length_of left printed written
@@ -109,8 +140,8 @@ module _ (file : Bytes) (work : List ℕ) (x : Bytes) {work' : List ℕ} where
         )
     script_given (refused m p) e q = never cc
 
-    pub prints_script : {n : ℕ} → v ≡ Script n → Prints file work x work' y n
-    unfolding encoded_as
+    pub prints_script : {n : ℕ} → v ≡ Ok n → Prints file work x work' y n
+    unfolding numbers.answered
     prints_script {n} e =
         let w = encoded file (length work) (length x) in
         let g = script_given w (ap encoded_as (sym e) ∙ E.answer) E.script_is in
@@ -122,9 +153,9 @@ module _ (file : Bytes) (work : List ℕ) (x : Bytes) {work' : List ℕ} where
     refusal_given (accepted s) e = never cc
     refusal_given (refused m q) e = cc
 
-    pub prints_refused : {n p r : ℕ} {z : Bytes} → v ≡ Refused n p → PrintsRefusal y n p z r → Prints file work x work' z r
-    unfolding encoded_as
-    prints_refused {n} {p} {r} {z} e R =
-        let g = refusal_given (encoded file (length work) (length x)) {n = n} {p = p} (ap encoded_as (sym e) ∙ E.answer) in
-        prints_as file work x (refused n p) (answered_short file (length work) (length x) h ∙ g)
+    pub prints_refused : {e : Refused} {r : ℕ} {z : Bytes} → v ≡ Err e → PrintsRefusal y (number e.refusal) e.place z r → Prints file work x work' z r
+    unfolding numbers.answered
+    prints_refused {e} {r} {z} h' R =
+        let g = refusal_given (encoded file (length work) (length x)) {n = number e.refusal} {p = e.place} (ap encoded_as (sym h') ∙ E.answer) in
+        prints_as file work x (refused (number e.refusal) e.place) (answered_short file (length work) (length x) h ∙ g)
         (record { holds = rw same at R.shows.holds; size = rw same at R.shows.size }) (λ b. R.is (omega arith)) E.cleared

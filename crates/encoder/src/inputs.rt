@@ -2,25 +2,16 @@
 ghost use Rattle.walk_names.specs.Progress.{Advances};
 ghost use Rattle.encoder.specs.Inputs.{any_ready, inputs_walk};
 
-use index::Sizes;
-use walk_names::progress::Progress;
+use index::Column;
+use walk_names::walk::{Stopped, Walk};
 
 // Encodes the inputs of an accepted file.
-pub fn encode_inputs(
-    file: &[u8],
-    work: &mut [u32],
-    sizes: Sizes,
-    out: &mut [u8],
-    p: Progress,
-) -> Progress
-    ensures { Advances file.now sizes any_ready inputs_walk work.old out.old p work.new out.new result }
+pub fn encode_inputs(walk: &mut Walk) -> Result<(), Stopped>
+    ensures { Advances any_ready inputs_walk walk.old walk.new result }
 {
-    let mut q = p;
-    let mut i = 0;
-    while i < sizes.inputs {
-        let n = index::get(work, sizes.rows, index::INPUT_TERM, i as usize);
-        q = walk_terms::encode_term(file, work, sizes, out, q, n);
-        i += 1;
+    for i in 0..walk.records.sizes.inputs {
+        let n = walk.records.get(Column::InputTerm, i);
+        walk_terms::encode_term(walk, n)?;
     }
-    q
+    Ok(())
 }

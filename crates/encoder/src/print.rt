@@ -1,39 +1,34 @@
 // What the program `termscript` writes for a file: the script, or the one line of a refusal.
 ghost use Rattle.script_spec.specs.Base.{refused};
 ghost use Rattle.script_spec.specs.Walk.{printed};
-ghost use Rattle.write_bytes.specs.Writing.{Wrote};
+ghost use Rattle.refusal.specs.Numbers.{number};
+ghost use Rattle.write_bytes.specs.Writers.{Writes};
 ghost use Rattle.encoder.specs.Printing.{PrintsRefusal, Prints};
 
-use crate::Encoded;
-use write_bytes::Written;
+use refusal::{Refusal, Refused};
+use write_bytes::writer::Writer;
 
 // How many bytes a file of the program may have.
 const LONGEST: usize = 8192;
 
 // Writes the line of a refusal.
-fn put_refusal(rest: &mut [u8], room: usize, n: u32, place: u32) -> usize
-    ensures { Wrote room rest.old rest.new result (printed (refused n place)) }
+fn put_refusal(w: &mut Writer<'_>, why: Refused)
+    ensures { Writes w.old w.new (printed (refused (number why.refusal) why.place)) }
 {
-    if room == 0 {
-        return 1;
-    }
-    let a = write_bytes::put_at(rest, 0, room, b"refused ");
-    let b = write_numeral::put_decimal(rest, a, room, n as u64);
-    let c = write_bytes::put_at(rest, b, room, b" record ");
-    let d = write_numeral::put_decimal(rest, c, room, place as u64);
-    write_bytes::put_at(rest, d, room, b"\n")
+    w.put(b"refused ");
+    write_numeral::put_decimal(w, u64::from(why.refusal.number()));
+    w.put(b" record ");
+    write_numeral::put_decimal(w, u64::from(why.place));
+    w.put_byte(b'\n');
 }
 
 // Prints the line of a refusal into a buffer, and answers its length; 0 where it does not fit.
-fn print_refusal(script: &mut [u8], n: u32, place: u32) -> usize
-    ensures { PrintsRefusal script.old n place script.new result }
+fn print_refusal(script: &mut [u8], why: Refused) -> usize
+    ensures { PrintsRefusal script.old (number why.refusal) why.place script.new result }
 {
-    let room = script.len();
-    let end = put_refusal(script, room, n, place);
-    match write_bytes::finish(script, end) {
-        Written::Length(n) => n,
-        Written::NoRoom => 0,
-    }
+    let mut w = Writer::new(script);
+    put_refusal(&mut w, why);
+    w.finish().unwrap_or(0)
 }
 
 // Prints what `termscript` writes for a file into the script's buffer, and answers its length.
@@ -42,10 +37,16 @@ pub fn print(file: &[u8], work: &mut [u32], script: &mut [u8]) -> usize
 {
     if LONGEST < file.len() {
         write_bytes::clear_words(work);
-        return print_refusal(script, 1, 0);
+        return print_refusal(
+            script,
+            Refused {
+                refusal: Refusal::FileTooLong,
+                place: 0,
+            },
+        );
     }
     match crate::encode(file, work, script) {
-        Encoded::Script(n) => n,
-        Encoded::Refused(n, place) => print_refusal(script, n, place),
+        Ok(n) => n,
+        Err(why) => print_refusal(script, why),
     }
 }

@@ -16,3 +16,4 @@ pub mod Ranges
 pub mod Rules
 pub mod Standing
 pub mod Empties
+pub mod Held

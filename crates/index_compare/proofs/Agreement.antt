@@ -23,7 +23,7 @@ use Rattle.index.proofs.Readers.{◌&◌}
 use Rattle.index_compare.proofs.Standing.{entry_of_inverse}
 use Rattle.index_compare.specs.Segment as segment
 use Rattle.index_compare.specs.Segment.{mapped}
-use Rattle.index_compare.specs.Machine.{Then, operand_then, operand_of, coded_then, code_then, operator_then, field_then, item_then, count_then, last, remaining, ahead, start_type, start_list, start_term, walk_start, segments, reference, text_then}
+use Rattle.index_compare.specs.Machine.{Then, operand_then, operand_of, coded_then, code_then, operator_then, field_then, item_then, count_then, last, remaining, start_type, start_list, start_term, walk_start, segments, reference, text_then}
 use Rattle.index_compare.specs.declared.segments.Item.TheVariants as item
 use Rattle.index_compare.proofs.Tells.{cut_took, cons_parts, Tells, FieldTells, tells_bind, field_pure, tells_pure, tells_then, field_then_is}
 use Rattle.index_compare.proofs.Told.{plainly_number, plainly_elements, plainly_ext_op, field_plain, tells_list, field_type, field_fun, field_term, field_text, field_pair, field_tested, tells_rest}
@@ -140,7 +140,7 @@ module _ (types funs terms : ℕ → ℕ) where
 
     -- each mark's reader, in the order of `marks`
     marks_tell : All (λ p. Tells g Agreed p.1 p.1 (segments p.0)) (marks e)
-    unfolding All marks leaf bytes segments walk_start start_type start_term start_list ahead remaining field_then last count_then item_then renumbered renamed renamed_op entity_ref
+    unfolding All marks leaf bytes segments walk_start start_type start_term start_list remaining field_then last count_then item_then renumbered renamed renamed_op entity_ref
     marks_tell =
         plainly
         & plainly

@@ -8,18 +8,18 @@ use mathlib.Core.List.{[], ◌∷◌}
 use lib.Dec.{leb, nleb→lt}
 use lib.ListN.{length, take, drop, get_or, length-take, length-drop, drop_of_length-le, get_or-eq_default}
 use lib.Seq.{get_or-take, get_or-drop, take-nil}
+use Rattle.std.specs.Prelude.{Option, None}
 use Rattle.script_spec.specs.Base.{Bytes, bytes, same, any}
 use Rattle.script_spec.specs.Fields.{low}
 use Rattle.script_spec.proofs.Laws.{and_false}
 use Rattle.index.specs.Standing.{mark_at, size_at, body_at}
-use Rattle.read_record.specs.Marks.{mark, MarkedAs, Marked}
+use Rattle.read_record.specs.Marks.{MarkedAs, Marked}
 use Rattle.read_record.specs.declared.mark.Kind.{Kind}
-use Rattle.read_record.specs.declared.mark.Kind.TheVariants as kind
 use Rattle.read_record.proofs.Marked.{names, unmarked}
 
 -- fewer than two bytes are no mark
-marked_short : (s : Bytes) → length s < 2 → Marked s kind.Unknown
-unfolding mark MarkedAs names any same bytes
+marked_short : (s : Bytes) → length s < 2 → Marked s None
+unfolding MarkedAs names any same bytes
 marked_short [] h = record { is = unmarked [] refl }
 marked_short (a ∷ []) h = record { is = unmarked (a ∷ []) (simp and_false) }
 marked_short (a ∷ b ∷ s) h = absurd (omega arith)
@@ -31,24 +31,21 @@ two_bytes (a ∷ []) h = absurd (omega arith)
 two_bytes (a ∷ b ∷ s) h = refl
 
 module _ (file : Bytes) (o : ℕ) where
-  pub body_at_past : length file < o + 6 → [] ≡ body_at file o
+  pub body_at_past : leb 4 (length (drop (o + 2) file)) ≡ false → [] ≡ body_at file o
   unfolding body_at
-  body_at_past h = sym (ap (take (size_at file o)) (drop_of_length-le file {i = o + 6} (omega arith)) ∙ take-nil (size_at file o))
+  body_at_past h =
+      let k : length (drop (o + 2) file) < 4 = nleb→lt 4 (length (drop (o + 2) file)) (rw h tt) in
+      sym (ap (take (size_at file o)) (drop_of_length-le file {i = o + 6} (omega (arith, length-drop (o + 2) file))) ∙ take-nil (size_at file o))
 
   pub body_at_part : {n : ℕ} {body : Bytes} → n ≡ low (take 4 (drop (o + 2) file)) → body ≡ take n (drop (o + 6) file) → body ≡ body_at file o
   unfolding body_at size_at
   body_at_part e h = h ∙ rw e
 
-  pub word_there : o + 6 ≤ length file → leb 4 (length (drop (o + 2) file)) ≡ false → ⊥
-  word_there h e =
-      let k : length (drop (o + 2) file) < 4 = nleb→lt 4 (length (drop (o + 2) file)) (rw e tt) in
-      omega (arith, length-drop (o + 2) file)
-
-  pub marked_none : length file < o + 2 → Marked (mark_at file o) kind.Unknown
+  pub marked_none : length file < o + 2 → Marked (mark_at file o) None
   unfolding mark_at
   marked_none h = marked_short (take 2 (drop o file)) (simp (length-take, length-drop) (omega arith))
 
-  pub marked_as : {k : Kind} → o + 2 ≤ length file → Marked (get_or file o 0 ∷ get_or file (o + 1) 0 ∷ []) k → Marked (mark_at file o) k
+  pub marked_as : {k : Option Kind} → o + 2 ≤ length file → Marked (get_or file o 0 ∷ get_or file (o + 1) 0 ∷ []) k → Marked (mark_at file o) k
   unfolding mark_at
   marked_as {k} h g =
       let zero-on : o + 0 ≡ o = omega arith in

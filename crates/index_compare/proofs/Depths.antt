@@ -1,23 +1,23 @@
 -- The greatest and the first number of a kind among segments, taken one by one.
 -- Assumes nothing.
-use Prim.Native.Nat.{ℕ, max, ◌≤◌, ◌<◌}
+use Prim.Native.Nat.{ℕ, max}
 use native.Mathlib.Omega.{arith}
-use mathlib.Core.Logic.{◌≢◌}
 use mathlib.Core.Path.{◌≡◌, refl, sym, ap, ◌∙◌}
 use mathlib.Core.Bool.{Bool, true, false}
 use mathlib.Core.List.{List, [], ◌∷◌, map}
+use denote.Enum.Bare.{sameb}
 use lib.Dec.{eqb}
-use borrow.Author.Tests.{eq-eqb, ne_eqb}
 use lib.ListN.{get_or}
 use Rattle.script_spec.specs.Base.{Bytes, collect}
 use Rattle.index.specs.Cells.{cell, type_depth, term_depth}
 use Rattle.index.specs.Rules.{greatest}
 use Rattle.index_compare.specs.Segment.{Segment, plain, type_ref, fun_ref, term_ref, type_refs, term_refs}
-use Rattle.index_compare.specs.Machine.{ahead}
-use Rattle.index_compare.specs.View.{kind_of, reference_number, later_segments, term_as, viewed, Sees, of_kind, reference_numbers, larger}
-use Rattle.index_compare.specs.declared.compare.Seen.{Seen}
+use Rattle.index_compare.specs.Step.{kind_number, refer}
+use Rattle.index_compare.specs.View.{kind_of, reference_number, term_as, viewed, of_kind, reference_numbers, larger}
+use Rattle.index_compare.specs.contracts.segments.Referent.{the_type}
+use Rattle.index_compare.specs.declared.segments.Referent.{Referent}
+use Rattle.index_compare.specs.declared.segments.Referent.TheVariants as referent
 use Rattle.index_compare.specs.declared.compare.View.TheVariants.{Depth}
-use Rattle.index_compare.proofs.Compared.{kind_none}
 
 -- ---- one number more
 
@@ -26,63 +26,67 @@ unfolding of_kind greatest
 larger_kind true number most ns = omega arith
 larger_kind false number most ns = omega arith
 
-module _ (found number kind most : ℕ) where
-  pub larger_other : found ≢ kind → most ≡ larger found number kind most
-  unfolding larger of_kind greatest
-  larger_other h = rw (ne_eqb found kind h) (omega arith)
+-- whether two references are to records of one kind
+pub same_kind : (a b : Referent) → sameb the_type a b ≡ eqb (kind_number a) (kind_number b)
+same_kind referent.Type referent.Type = refl
+same_kind referent.Type referent.Fun = refl
+same_kind referent.Type referent.Term = refl
+same_kind referent.Fun referent.Type = refl
+same_kind referent.Fun referent.Fun = refl
+same_kind referent.Fun referent.Term = refl
+same_kind referent.Term referent.Type = refl
+same_kind referent.Term referent.Fun = refl
+same_kind referent.Term referent.Term = refl
 
-  pub larger_less : found ≡ kind → number < most → most ≡ larger found number kind most
+module _ (found : Referent) (number : ℕ) (kind : Referent) (most : ℕ) where
+  pub larger_other : false ≡ sameb the_type found kind → most ≡ larger (kind_number found) number (kind_number kind) most
   unfolding larger of_kind greatest
-  larger_less h k = rw (eq-eqb found kind h) (omega arith)
+  larger_other h = rw (← same_kind found kind, ← h) (omega arith)
 
-  pub larger_more : found ≡ kind → most ≤ number → number ≡ larger found number kind most
+  pub larger_same : true ≡ sameb the_type found kind → max number most ≡ larger (kind_number found) number (kind_number kind) most
   unfolding larger of_kind greatest
-  larger_more h k = rw (eq-eqb found kind h) (omega arith)
+  larger_same h = rw (← same_kind found kind, ← h) (omega arith)
 
 -- ---- a turn
 
-numbers_after : (kind : ℕ) (m : List Segment) → 0 < kind_of m → reference_numbers kind m ≡ of_kind (eqb (kind_of m) kind) (reference_number m) (reference_numbers kind (later_segments m))
-unfolding kind_of reference_number reference_numbers later_segments
-numbers_after kind [] h = absurd (omega arith)
-numbers_after kind (plain p ∷ l) h = refl
-numbers_after kind (type_ref n ∷ l) h = refl
-numbers_after kind (fun_ref n ∷ l) h = refl
-numbers_after kind (term_ref n ∷ l) h = refl
+pub first_end : (kind : ℕ) {l : List Segment} → l ≡ [] → 0 ≡ get_or (reference_numbers kind l) 0 0
+unfolding reference_numbers
+first_end kind e = rw e
 
-module _ {body : Bytes} {g : Segment → Segment} {l : List Segment} {s : Seen} (S : Sees body g l s) (kind most : ℕ) where
-  pub greatest_end : s.kind ≡ 0 → most ≡ max most (greatest (reference_numbers kind (map g l)))
-  unfolding reference_numbers greatest
-  greatest_end h =
-      let none = kind_none (map g l) (sym S.kind ∙ h) in
-      rw none (omega arith)
+module _ (kind : ℕ) (n : ℕ) (l : List Segment) where
+  numbers_led : (r : Referent) → reference_numbers kind (refer r n ∷ l) ≡ of_kind (eqb (kind_number r) kind) n (reference_numbers kind l)
+  unfolding reference_numbers kind_of reference_number
+  numbers_led referent.Type = refl
+  numbers_led referent.Fun = refl
+  numbers_led referent.Term = refl
 
-  pub greatest_next : 0 < s.kind
-      → max (larger s.kind s.number kind most) (greatest (reference_numbers kind (map g (ahead body s.next)))) ≡ max most (greatest (reference_numbers kind (map g l)))
+pub greatest_end : (kind most : ℕ) {l : List Segment} → l ≡ [] → most ≡ max most (greatest (reference_numbers kind l))
+unfolding reference_numbers greatest
+greatest_end kind most e = rw e (omega arith)
+
+module _ {l m : List Segment} where
+  pub greatest_next : (kind most : ℕ) (r : Referent) (n : ℕ) → l ≡ refer r n ∷ m
+      → max (larger (kind_number r) n kind most) (greatest (reference_numbers kind m)) ≡ max most (greatest (reference_numbers kind l))
   unfolding larger
-  greatest_next h =
-      let found : 0 < kind_of (map g l) = rw (← S.kind) h in
-      let split = numbers_after kind (map g l) found in
-      larger_kind (eqb s.kind kind) s.number most (reference_numbers kind (map g (ahead body s.next)))
-      ∙ ap (λ (ns : List ℕ). max most (greatest ns)) ((rw (S.kind, S.number, S.next h)) ∙ sym split)
+  greatest_next kind most r n e =
+      larger_kind (eqb (kind_number r) kind) n most (reference_numbers kind m)
+      ∙ ap (λ (ns : List ℕ). max most (greatest ns)) (sym (ap (reference_numbers kind) e ∙ numbers_led kind n m r))
 
--- ---- the first of a kind
+  -- bytes have no number
+  pub numbers_plain : (kind : Referent) (p : Bytes) → l ≡ plain p ∷ m → reference_numbers (kind_number kind) m ≡ reference_numbers (kind_number kind) l
+  unfolding reference_numbers kind_of of_kind
+  numbers_plain referent.Type p e = sym (ap (reference_numbers 2) e)
+  numbers_plain referent.Fun p e = sym (ap (reference_numbers 3) e)
+  numbers_plain referent.Term p e = sym (ap (reference_numbers 4) e)
 
-module _ {body : Bytes} {g : Segment → Segment} {l : List Segment} {s : Seen} (S : Sees body g l s) (kind : ℕ) where
-  pub first_end : s.kind ≡ 0 → 0 ≡ get_or (reference_numbers kind (map g l)) 0 0
-  unfolding reference_numbers
-  first_end h = rw (kind_none (map g l) (sym S.kind ∙ h))
-
-  pub first_here : 0 < s.kind → s.kind ≡ kind → s.number ≡ get_or (reference_numbers kind (map g l)) 0 0
+  pub first_here : (kind r : Referent) (n : ℕ) → true ≡ sameb the_type r kind → l ≡ refer r n ∷ m → n ≡ get_or (reference_numbers (kind_number kind) l) 0 0
   unfolding of_kind
-  first_here p h =
-      let found : 0 < kind_of (map g l) = rw (← S.kind) p in
-      rw (numbers_after kind (map g l) found, eq-eqb (kind_of (map g l)) kind (sym S.kind ∙ h)) S.number
+  first_here kind r n h e = rw (e, numbers_led (kind_number kind) n m r, ← same_kind r kind, ← h)
 
-  pub first_next : 0 < s.kind → s.kind ≢ kind → get_or (reference_numbers kind (map g (ahead body s.next))) 0 0 ≡ get_or (reference_numbers kind (map g l)) 0 0
+  pub first_next : (kind r : Referent) (n : ℕ) → false ≡ sameb the_type r kind → l ≡ refer r n ∷ m
+      → reference_numbers (kind_number kind) m ≡ reference_numbers (kind_number kind) l
   unfolding of_kind
-  first_next p h =
-      let found : 0 < kind_of (map g l) = rw (← S.kind) p in
-      rw (numbers_after kind (map g l) found, ne_eqb (kind_of (map g l)) kind (λ q. h (S.kind ∙ q)), S.next p)
+  first_next kind r n h e = rw (e, numbers_led (kind_number kind) n m r, ← same_kind r kind, ← h)
 
 -- ---- types and terms
 

@@ -2,40 +2,37 @@
 -- Assumes nothing.
 use Prim.Native.Nat.{ℕ, max}
 use native.Mathlib.Omega.{arith}
-use mathlib.Core.Path.{◌≡◌, refl, sym, ap, ◌∙◌, subst}
+use mathlib.Core.Path.{◌≡◌, refl, sym, ap, ◌∙◌}
+use mathlib.Core.Logic.{inl, inr}
 use mathlib.Core.Bool.{Bool, true, false}
 use mathlib.Core.List.{List, [], ◌∷◌, map}
 use lib.Dec.{leb, eqb}
 use lib.ListN.{length, take, drop, get_or}
+use Rattle.std.specs.Prelude.{Some}
 use Rattle.script_spec.specs.Base.{Bytes}
 use Rattle.script_spec.specs.Fields.{low}
-use Rattle.index.specs.Cells.{cell, type_first, type_depth, term_type, term_depth}
+use Rattle.index.specs.Cells.{number, cell, type_first, type_depth, term_type, term_depth}
 use Rattle.index.specs.Rules.{greatest}
+use Rattle.index.specs.declared.Column.{Column}
 use Rattle.index_compare.specs.Segment.{Segment, plain, type_ref, term_ref}
-use Rattle.index_compare.specs.Machine.{Then, reference, field_then, last, remaining, ahead}
-use Rattle.index_compare.specs.Step.{WordRead}
+use Rattle.index_compare.specs.Machine.{Then, reference, field_then, last, remaining}
 use Rattle.index_compare.specs.declared.segments.Walk.{Walk}
-use Rattle.index_compare.specs.declared.segments.Word.TheVariants.{Value}
 use Rattle.index_compare.proofs.Steps.{reference_short, reference_at}
 use Rattle.index_compare.specs.View.{kind_of, reference_number, of_kind, reference_numbers, larger, viewed, term_as}
 use Rattle.index_compare.specs.Shape.{Opens, first_cell}
-use Rattle.index_compare.specs.declared.opening.Opening.{Opening}
-use Rattle.index_compare.specs.declared.opening.Opening.TheVariants.{TypeFirst, TermFirst}
 use Rattle.index_compare.specs.declared.compare.View.TheVariants.{Listed, Depth}
 use Rattle.index_compare.proofs.Depths.{larger_kind}
 
 -- ---- the reference at the start of a body
 
 module _ (body : Bytes) (work : List ℕ) (k column : ℕ) where
-  pub cell_short : leb 4 (length (drop 0 body)) ≡ false → first_cell body work k column ≡ 0
+  pub cell_short : leb 4 (length body) ≡ false → first_cell body work k column ≡ 0
   unfolding first_cell
   cell_short h = rw (h, first_cell)
 
-  pub cell_value : {n : ℕ} → WordRead (drop 0 body) (Value n) → first_cell body work k column ≡ cell work k column n
+  pub cell_value : {n : ℕ} → leb 4 (length body) ≡ true → n ≡ low (take 4 body) → first_cell body work k column ≡ cell work k column n
   unfolding first_cell
-  cell_value h =
-      let long : first_cell body work k column ≡ cell work k column (low (take 4 body)) = rw (h.0, first_cell) in
-      long ∙ ap (cell work k column) (sym h.1)
+  cell_value h e = rw (h, e, first_cell)
 
   -- for every first number f of segments that is that of the reference, where there is one
   first_reference : (f : List Segment → ℕ) (wrap : ℕ → Segment) (next : Then) → 0 ≡ f [] → ((n : ℕ) (l : List Segment) → cell work k column n ≡ f (wrap n ∷ l))
@@ -43,46 +40,33 @@ module _ (body : Bytes) (work : List ℕ) (k column : ℕ) where
   first_reference f wrap next none one false h = cell_short h ∙ none ∙ ap f (sym (reference_short body wrap next h))
   first_reference f wrap next none one true h =
       let n = low (take 4 body) in
-      cell_value {n = n} (h, refl) ∙ one n (next (drop 4 body)) ∙ ap f (sym (reference_at 0 body wrap next {n = n} (h, refl)))
+      cell_value h refl ∙ one n (next (drop 4 body)) ∙ ap f (sym (reference_at body wrap next {n = n} (h, refl)))
 
-module _ (body : Bytes) (w : Walk) where
+module _ (body : Bytes) (w : Walk) (work : List ℕ) (k : ℕ) where
   rest : Then
   rest = field_then w.second (last w.counts w.item w.left) (last w.counts w.item w.left)
 
-  ahead_type : Opens w TypeFirst → reference type_ref rest body ≡ ahead body w
-  unfolding rest ahead remaining field_then
-  ahead_type h = sym (λ i. field_then (h.0 i) rest (last w.counts w.item w.left) (drop (h.1 i) body))
+  first_of_type : (n : ℕ) (l : List Segment) → cell work k type_first n ≡ get_or (reference_numbers 2 (map (viewed work k Listed) (type_ref n ∷ l))) 0 0
+  unfolding reference_numbers viewed kind_of reference_number of_kind
+  first_of_type n l = refl
 
-  ahead_term : Opens w TermFirst → reference term_ref rest body ≡ ahead body w
-  unfolding rest ahead remaining field_then
-  ahead_term h = sym (λ i. field_then (h.0 i) rest (last w.counts w.item w.left) (drop (h.1 i) body))
+  first_of_term : (n : ℕ) (l : List Segment) → cell work k term_type n ≡ get_or (reference_numbers 2 (map (viewed work k Listed) (term_ref n ∷ l))) 0 0
+  unfolding reference_numbers viewed term_as kind_of reference_number of_kind
+  first_of_term n l = refl
 
-  module _ (work : List ℕ) (k : ℕ) where
-    first_of_type : (n : ℕ) (l : List Segment) → cell work k type_first n ≡ get_or (reference_numbers 2 (map (viewed work k Listed) (type_ref n ∷ l))) 0 0
-    unfolding reference_numbers viewed kind_of reference_number of_kind
-    first_of_type n l = refl
+  first_of_none : 0 ≡ get_or (reference_numbers 2 (map (viewed work k Listed) [])) 0 0
+  unfolding reference_numbers
+  first_of_none = refl
 
-    first_of_term : (n : ℕ) (l : List Segment) → cell work k term_type n ≡ get_or (reference_numbers 2 (map (viewed work k Listed) (term_ref n ∷ l))) 0 0
-    unfolding reference_numbers viewed term_as kind_of reference_number of_kind
-    first_of_term n l = refl
-
-    first_of_none : 0 ≡ get_or (reference_numbers 2 (map (viewed work k Listed) [])) 0 0
-    unfolding reference_numbers
-    first_of_none = refl
-
-    pub first_type_lem : {q : Opening} {l : List Segment} {r : ℕ} → Opens w q → q ≡ TypeFirst → l ≡ ahead body w → r ≡ first_cell body work k type_first
-        → r ≡ get_or (reference_numbers 2 (map (viewed work k Listed) l)) 0 0
-    first_type_lem h e p q =
-        let f : List Segment → ℕ = λ l. get_or (reference_numbers 2 (map (viewed work k Listed) l)) 0 0 in
-        q ∙ first_reference body work k type_first f type_ref rest first_of_none first_of_type (leb 4 (length body)) refl
-        ∙ ap f (ahead_type (subst (Opens w) e h) ∙ sym p)
-
-    pub first_term_lem : {q : Opening} {l : List Segment} {r : ℕ} → Opens w q → q ≡ TermFirst → l ≡ ahead body w → r ≡ first_cell body work k term_type
-        → r ≡ get_or (reference_numbers 2 (map (viewed work k Listed) l)) 0 0
-    first_term_lem h e p q =
-        let f : List Segment → ℕ = λ l. get_or (reference_numbers 2 (map (viewed work k Listed) l)) 0 0 in
-        q ∙ first_reference body work k term_type f term_ref rest first_of_none first_of_term (leb 4 (length body)) refl
-        ∙ ap f (ahead_term (subst (Opens w) e h) ∙ sym p)
+  pub first_opened : (c : Column) → Opens w (Some c)
+      → first_cell body work k (number c) ≡ get_or (reference_numbers 2 (map (viewed work k Listed) (remaining w body))) 0 0
+  unfolding rest remaining field_then
+  first_opened c (inl h) =
+      let f : List Segment → ℕ = λ l. get_or (reference_numbers 2 (map (viewed work k Listed) l)) 0 0 in
+      rw (h.0, h.1) (first_reference body work k type_first f type_ref rest first_of_none first_of_type (leb 4 (length body)) refl)
+  first_opened c (inr h) =
+      let f : List Segment → ℕ = λ l. get_or (reference_numbers 2 (map (viewed work k Listed) l)) 0 0 in
+      rw (h.0, h.1) (first_reference body work k term_type f term_ref rest first_of_none first_of_term (leb 4 (length body)) refl)
 
 -- the reference after a text
 pub first_named : (work : List ℕ) (k : ℕ) {t number : ℕ} {p : Bytes} {l : List Segment} → number ≡ cell work k type_first t → l ≡ plain p ∷ type_ref t ∷ []

@@ -21,7 +21,7 @@ use Rattle.index.specs.Standing.{loose, entry_of}
 use Rattle.index.proofs.Readers.{◌&◌}
 use Rattle.index_compare.specs.Segment.{Segment, plain, type_ref, fun_ref, term_ref}
 use Rattle.index_compare.specs.Machine as machine
-use Rattle.index_compare.specs.Machine.{Then, operand_then, operand_of, coded_then, code_then, operator_then, field_then, item_then, items, last, remaining, ahead, start_type, start_list, start_term, walk_start, segments, reference}
+use Rattle.index_compare.specs.Machine.{Then, operand_then, operand_of, coded_then, code_then, operator_then, field_then, item_then, items, last, remaining, start_type, start_list, start_term, walk_start, segments, reference}
 use Rattle.index_compare.specs.Printed.{low_bytes, text_bytes, bool_code, ext_type_code, ext_op_code, plain_op_code, value_bytes, op_segments, named_references, count_before, type_segments, term_segments, segments_of}
 use Rattle.index_compare.specs.declared.segments.Item.TheVariants as item
 use Rattle.index_compare.proofs.Standing.{entry_of_inverse}
@@ -169,7 +169,7 @@ module _ (e : Earlier) where
 
   -- each mark's reader, in the order of `marks`
   marks_shown : All (λ p. Shows [] segments_of p.1 (segments p.0)) (marks e)
-  unfolding All marks leaf bytes segments walk_start start_type start_term start_list ahead remaining field_then last items machine.count_then item_then entity_ref segments_of type_segments term_segments
+  unfolding All marks leaf bytes segments walk_start start_type start_term start_list remaining field_then last items machine.count_then item_then entity_ref segments_of type_segments term_segments
   marks_shown =
       shows_rest (rest_pure _ refl)
       & shows_rest (rest_pure _ refl)

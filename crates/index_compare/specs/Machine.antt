@@ -1,21 +1,18 @@
 -- The walk through a body: the segments that are still to come at a place of it. It is total: where bytes are missing the segments end.
 -- Assumes nothing.
-use Rattle.std.specs.Prelude.{ℕ, zero, suc, ◌+◌, ◌*◌, ◌≤◌, ◌≡◌, Bool, true, false, List, [], ◌∷◌, eqb, leb, length, take, drop, get_or}
+use Rattle.std.specs.Prelude.{ℕ, zero, suc, ◌+◌, ◌*◌, Bool, true, false, List, [], ◌∷◌, Option, Some, None, eqb, leb, length, take, drop, get_or}
 use Rattle.script_spec.specs.Base.{Bytes}
 use Rattle.script_spec.specs.Fields.{low}
 use Rattle.read_operator.specs.Codes.{ext_code, record_get_code, string_like_code, uuf_code, zero_extend_code}
 use Rattle.index_compare.specs.Segment.{Segment, plain, type_ref, fun_ref, term_ref}
 use Rattle.index_compare.specs.declared.segments.Operand.{Operand}
 use Rattle.index_compare.specs.declared.segments.Operand.TheVariants as operand
-use Rattle.index_compare.specs.declared.segments.Coded.{Coded}
-use Rattle.index_compare.specs.declared.segments.Coded.TheVariants.{With, Absent}
 use Rattle.index_compare.specs.declared.segments.Field.{Field}
 use Rattle.index_compare.specs.declared.segments.Field.TheVariants as field
 use Rattle.index_compare.specs.declared.segments.Item.{Item}
 use Rattle.index_compare.specs.declared.segments.Item.TheVariants as item
 use Rattle.index_compare.specs.declared.segments.Walk.{Walk}
-use Rattle.index_compare.specs.declared.segments.Met.{Met}
-use Rattle.index_compare.specs.declared.segments.Met.TheVariants.{Plain, TypeRef, FunRef, TermRef, End}
+use Rattle.index_compare.specs.declared.segments.Segments.{Segments}
 
 -- what comes of the bytes that are left
 abbrev pub Then : Type 0
@@ -46,22 +43,22 @@ operand_then operand.Elements next s = cut (4 + 4 * low (take 4 s)) plain next s
 operand_then operand.Function next s = reference fun_ref next s
 
 -- what the operator with code b has after its code: `Ext`, `RecordGet`, `StringLike`, `Uuf` and `ZeroExtend` have an operand
-unfoldable pub operand_of : ℕ → Coded
+unfoldable pub operand_of : ℕ → Option Operand
 operand_of b =
     elim (eqb b ext_code) [
-      | true ↦ With operand.Byte
+      | true ↦ Some operand.Byte
       | false ↦ elim (eqb b record_get_code) [
-        | true ↦ With operand.Text
+        | true ↦ Some operand.Text
         | false ↦ elim (eqb b string_like_code) [
-          | true ↦ With operand.Elements
-          | false ↦ elim (eqb b uuf_code) [ true ↦ With operand.Function | false ↦ elim (eqb b zero_extend_code) [ true ↦ With operand.Word | false ↦ Absent ] ]
+          | true ↦ Some operand.Elements
+          | false ↦ elim (eqb b uuf_code) [ true ↦ Some operand.Function | false ↦ elim (eqb b zero_extend_code) [ true ↦ Some operand.Word | false ↦ None ] ]
         ]
       ]
     ]
 
-unfoldable pub coded_then : Coded → Then → Then
-coded_then (With o) next = operand_then o next
-coded_then Absent next = next
+unfoldable pub coded_then : Option Operand → Then → Then
+coded_then (Some o) next = operand_then o next
+coded_then None next = next
 
 -- what comes after the code b
 unfoldable pub code_then : ℕ → Then → Then
@@ -106,27 +103,19 @@ remaining w s =
     let end = last w.counts w.item w.left in
     field_then w.first (field_then w.second end end) end s
 
--- the segments still to come in a body
-unfoldable pub ahead : Bytes → Walk → List Segment
-ahead body w = remaining w (drop w.at body)
-
--- what is met in a body is the first of these segments, and the others are ahead
-abbrev pub Meets : Bytes → List Segment → Met → Type 0
-Meets body l (Plain walk_start size w) = (walk_start + size ≤ length body) × (l ≡ plain (take size (drop walk_start body)) ∷ ahead body w)
-Meets body l (TypeRef n w) = l ≡ type_ref n ∷ ahead body w
-Meets body l (FunRef n w) = l ≡ fun_ref n ∷ ahead body w
-Meets body l (TermRef n w) = l ≡ term_ref n ∷ ahead body w
-Meets body l End = l ≡ []
+-- the segments still to come
+unfoldable pub ahead : Segments → List Segment
+ahead s = remaining s.walk s.rest.now
 
 -- ---- the start
 
 -- a walk from the start of a body with these fields, and no list after them
 abbrev pub fields : Field → Field → Walk
-fields f g = record { first = f; second = g; counts = false; item = item.Term; left = 0; at = 0 }
+fields f g = record { first = f; second = g; counts = false; item = item.Term; left = 0 }
 
 -- with a list after them
 abbrev pub listing : Field → Field → Item → Walk
-listing f g i = record { first = f; second = g; counts = true; item = i; left = 0; at = 0 }
+listing f g i = record { first = f; second = g; counts = true; item = i; left = 0 }
 
 -- the start in the body of a type, by the second byte of its mark: O, C, R
 unfoldable pub start_type : ℕ → Walk
@@ -183,4 +172,4 @@ walk_start a b =
 
 -- the segments of a body under a mark
 unfoldable pub segments : Bytes → Bytes → List Segment
-segments mark body = ahead body (walk_start (get_or mark 0 0) (get_or mark 1 0))
+segments mark body = remaining (walk_start (get_or mark 0 0) (get_or mark 1 0)) body

@@ -1,14 +1,15 @@
 -- A list of segments by its first: the kind, the number and the bytes of that, and the rest; and what the functions that compare promise.
 -- Assumes nothing.
-use Rattle.std.specs.Prelude.{ℕ, ◌+◌, ◌≤◌, ◌<◌, ◌≡◌, Bool, true, false, List, [], ◌∷◌, map, eqb, length, take, drop, get_or}
+use Rattle.std.specs.Prelude.{ℕ, ◌≡◌, Bool, true, false, List, [], ◌∷◌, map, eqb}
 use Rattle.script_spec.specs.Base.{Bytes}
 use Rattle.index.specs.Cells.{cell, type_first, type_depth, fun_first, term_first, term_type, term_depth}
 use Rattle.index.specs.Rules.{greatest}
 use Rattle.index.specs.Standing.{mark_at, body_at}
 use Rattle.index_compare.specs.Segment.{Segment, plain, type_ref, fun_ref, term_ref}
-use Rattle.index_compare.specs.Machine.{walk_start, ahead, segments}
-use Rattle.index_compare.specs.declared.segments.Walk.{Walk}
-use Rattle.index_compare.specs.declared.compare.Seen.{Seen}
+use Rattle.index_compare.specs.Machine.{ahead, segments}
+use Rattle.index_compare.specs.declared.segments.Segments.{Segments}
+use Rattle.index_compare.specs.declared.segments.Referent.{Referent}
+use Rattle.index_compare.specs.declared.segments.Referent.TheVariants as referent
 use Rattle.index_compare.specs.declared.compare.View.{View}
 use Rattle.index_compare.specs.declared.compare.View.TheVariants.{First, Listed, Depth}
 
@@ -36,11 +37,6 @@ bytes_of (type_ref n ∷ l) = []
 bytes_of (fun_ref n ∷ l) = []
 bytes_of (term_ref n ∷ l) = []
 
--- the segments after the first
-unfoldable pub later_segments : List Segment → List Segment
-later_segments [] = []
-later_segments (x ∷ l) = l
-
 -- ---- views
 
 -- the column that a view has for types
@@ -61,10 +57,10 @@ term_as First n = term_ref n
 term_as Listed n = type_ref n
 term_as Depth n = term_ref n
 
-abbrev pub term_kind : View → ℕ
-term_kind First = 4
-term_kind Listed = 2
-term_kind Depth = 4
+abbrev pub term_kind : View → Referent
+term_kind First = referent.Term
+term_kind Listed = referent.Type
+term_kind Depth = referent.Term
 
 -- a segment with what a view has for its reference
 unfoldable pub viewed : List ℕ → ℕ → View → Segment → Segment
@@ -72,19 +68,6 @@ viewed work rows v (plain p) = plain p
 viewed work rows v (type_ref n) = type_ref (cell work rows (type_column v) n)
 viewed work rows v (fun_ref n) = fun_ref (cell work rows fun_first n)
 viewed work rows v (term_ref n) = term_as v (cell work rows (term_column v) n)
-
--- what is seen of the segments l of a body is their first, with other numbers by g, and the walk after it
-pub record Sees (body : Bytes) (g : Segment → Segment) (l : List Segment) (s : Seen) : Type 0 where
-  pub kind : s.kind ≡ kind_of (map g l)
-  pub number : s.number ≡ reference_number (map g l)
-  pub within : s.start + s.size ≤ length body
-  pub bytes : take s.size (drop s.start body) ≡ bytes_of (map g l)
-  pub next : 0 < s.kind → map g (ahead body s.next) ≡ later_segments (map g l)
-  pub fewer : 0 < s.kind → length (ahead body s.next) < length l
-
--- the walk at the start of the record at an offset
-unfoldable pub start_at : Bytes → ℕ → Walk
-start_at file o = walk_start (get_or (mark_at file o) 0 0) (get_or (mark_at file o) 1 0)
 
 -- the segments of the record at an offset
 unfoldable pub segments_at : Bytes → ℕ → List Segment
@@ -95,15 +78,9 @@ pub record Decides (r : Bool) (P : Type 0) : Type 0 where
   pub true_of : P → r ≡ true
   pub of_true : r ≡ true → P
 
--- two first segments are equal
-pub record Alike (a b : Bytes) (s t : Seen) : Type 0 where
-  pub kind : s.kind ≡ t.kind
-  pub number : s.number ≡ t.number
-  pub bytes : take s.size (drop s.start a) ≡ take t.size (drop t.start b)
-
 -- what is ahead of two walks is equal, each with other numbers
-abbrev pub SameAhead : (Segment → Segment) → Bytes → Walk → (Segment → Segment) → Bytes → Walk → Type 0
-SameAhead g a v h b w = map g (ahead a v) ≡ map h (ahead b w)
+abbrev pub SameAhead : (Segment → Segment) → Segments → (Segment → Segment) → Segments → Type 0
+SameAhead g v h w = map g (ahead v) ≡ map h (ahead w)
 
 -- the segments of two records are equal, each with other numbers
 abbrev pub SameSegments : Bytes → (Segment → Segment) → ℕ → (Segment → Segment) → ℕ → Type 0

@@ -1,13 +1,16 @@
 // Records compared by their bodies: plain bytes as they stand, references by the numbers of first equal records.
 
-ghost use Rattle.std.specs.Prelude.{◌≡◌, ◌+◌, ◌≤◌, length, get_or};
+ghost use Rattle.std.specs.Prelude.{◌≡◌, ◌+◌, map, get_or};
+ghost use Rattle.index.specs.Cells.{number};
 ghost use Rattle.index_compare.specs.Machine.{ahead};
-ghost use Rattle.index_compare.specs.View.{start_at, type_column, term_column, term_kind, viewed, Sees, Decides, Alike, SameAhead, SameSegments};
+ghost use Rattle.index_compare.specs.Step.{refer, told, led_by};
+ghost use Rattle.index_compare.specs.View.{segments_at, type_column, term_column, term_kind, viewed, Decides, SameAhead, SameSegments};
 
 pub use crate::depth::greatest;
 pub use crate::opening::first_reference;
 use crate::record::body_at;
-use crate::segments::{Met, Walk};
+use crate::segments::{Referent, Segment, Segments};
+use index::{Column, Records};
 
 // What stands for a reference: the number of the first equal record; the same, and for a term that of its type, as a reference to a
 // type; or the depth.
@@ -16,27 +19,6 @@ pub enum View {
     First,
     Listed,
     Depth,
-}
-
-// The kinds of segments: none where a walk has ended, plain bytes, and references to types, functions and terms.
-pub const NONE: u32 = 0;
-
-pub const PLAIN: u32 = 1;
-
-pub const TYPE_REF: u32 = 2;
-
-pub const FUN_REF: u32 = 3;
-
-pub const TERM_REF: u32 = 4;
-
-// The first segment of a walk in a view: its kind, its number, its bytes by their start and size, and the walk after it.
-#[derive(Clone, Copy)]
-pub struct Seen {
-    pub kind: u32,
-    pub number: u32,
-    pub start: usize,
-    pub size: usize,
-    pub next: Walk,
 }
 
 // The byte at a place, 0 past the end.
@@ -49,184 +31,140 @@ pub fn byte_at(s: &[u8], i: usize) -> u8
     0
 }
 
-// The byte after a place, 0 past the end.
-pub fn byte_after(s: &[u8], i: usize) -> u8
-    ensures { result ≡ get_or s.now (i + 1) 0 }
+// The segments of the record at an offset.
+#[tactic(auto, using(crate::proofs::Shapes::segments_by), unfolding(crate::specs::Machine::ahead))]
+pub fn segments_at<'a>(file: &'a [u8], offset: u32) -> Segments<'a>
+    ensures { ahead result ≡ segments_at file.now offset }
 {
-    if i < s.len() {
-        return byte_at(s, i + 1);
+    let at = offset as usize;
+    Segments {
+        rest: body_at(file, offset),
+        walk: crate::mark::start(byte_at(file, at), byte_at(file, at + 1)),
     }
-    0
-}
-
-// The start of the walk through the record at an offset.
-pub fn walk_of(file: &[u8], offset: usize) -> Walk
-    ensures { result ≡ start_at file.now offset }
-{
-    let a = byte_at(file, offset);
-    let b = byte_after(file, offset);
-    crate::mark::start(a, b)
 }
 
 // The column of a view for types.
-fn type_column(view: View) -> usize
-    ensures { result ≡ type_column view }
+fn type_column(view: View) -> Column
+    ensures { number result ≡ type_column view }
 {
     match view {
-        View::First => index::TYPE_FIRST,
-        View::Listed => index::TYPE_FIRST,
-        View::Depth => index::TYPE_DEPTH,
+        View::First | View::Listed => Column::TypeFirst,
+        View::Depth => Column::TypeDepth,
     }
 }
 
 // The column of a view for terms.
-fn term_column(view: View) -> usize
-    ensures { result ≡ term_column view }
+fn term_column(view: View) -> Column
+    ensures { number result ≡ term_column view }
 {
     match view {
-        View::First => index::TERM_FIRST,
-        View::Listed => index::TERM_TYPE,
-        View::Depth => index::TERM_DEPTH,
+        View::First => Column::TermFirst,
+        View::Listed => Column::TermType,
+        View::Depth => Column::TermDepth,
     }
 }
 
-// The kind of a reference to a term in a view.
-fn term_kind(view: View) -> u32
+// What a reference to a term is to in a view.
+fn term_kind(view: View) -> Referent
     ensures { result ≡ term_kind view }
 {
     match view {
-        View::First => TERM_REF,
-        View::Listed => TYPE_REF,
-        View::Depth => TERM_REF,
+        View::First | View::Depth => Referent::Term,
+        View::Listed => Referent::Type,
     }
 }
 
-// The first segment of what is ahead of a walk.
-pub fn head(w: Walk, body: &[u8], work: &[u32], rows: usize, view: View) -> Seen
-    ensures { Sees body.now (viewed work.now rows view) (ahead body.now w) result }
+// What a view has for a reference.
+#[tactic(auto, using(crate::proofs::Views::refer_term), unfolding(crate::specs::View::viewed))]
+fn viewed_reference<'a>(records: Records<'_>, view: View, to: Referent, n: u32) -> Segment<'a>
+    ensures { told result ≡ viewed records.entry.work.now records.entry.sizes.rows view (refer to n) }
 {
-    match w.next(body) {
-        Met::End => Seen {
-            kind: NONE,
-            number: 0,
-            start: 0,
-            size: 0,
-            next: w,
-        },
-        Met::Plain(from, size, next) => Seen {
-            kind: PLAIN,
-            number: 0,
-            start: from,
-            size,
-            next,
-        },
-        Met::TypeRef(n, next) => Seen {
-            kind: TYPE_REF,
-            number: index::get(work, rows, type_column(view), n as usize),
-            start: 0,
-            size: 0,
-            next,
-        },
-        Met::FunRef(n, next) => Seen {
-            kind: FUN_REF,
-            number: index::get(work, rows, index::FUN_FIRST, n as usize),
-            start: 0,
-            size: 0,
-            next,
-        },
-        Met::TermRef(n, next) => Seen {
-            kind: term_kind(view),
-            number: index::get(work, rows, term_column(view), n as usize),
-            start: 0,
-            size: 0,
-            next,
-        },
+    match to {
+        Referent::Type => Segment::Reference(to, records.get(type_column(view), n)),
+        Referent::Fun => Segment::Reference(to, records.get(Column::FunFirst, n)),
+        Referent::Term => Segment::Reference(term_kind(view), records.get(term_column(view), n)),
     }
 }
 
-// Whether two first segments are equal.
-fn same_heads(a: &[u8], b: &[u8], s: Seen, t: Seen) -> bool
-    requires { (s.start + s.size ≤ length a.now) × (t.start + t.size ≤ length b.now) }
-    ensures { Decides result (Alike a.now b.now s t) }
+// A segment with what a view has for its reference.
+#[tactic(auto, unfolding(crate::specs::View::viewed))]
+pub fn viewed<'a>(records: Records<'_>, view: View, x: Segment<'a>) -> Segment<'a>
+    ensures { told result ≡ viewed records.entry.work.now records.entry.sizes.rows view (told x.entry) }
 {
-    if s.kind != t.kind {
-        return false;
+    match x {
+        Segment::Plain(p) => Segment::Plain(p),
+        Segment::Reference(to, n) => viewed_reference(records, view, to, n),
     }
-    if s.number != t.number {
-        return false;
-    }
-    let i = s.start;
-    let j = t.start;
-    let to_i = i + s.size;
-    let to_j = j + t.size;
-    check::same(&a[i..to_i], &b[j..to_j])
 }
 
-// Whether what is ahead of two walks is equal, each in a view.
-fn same_ahead(
-    a: &[u8],
-    v: Walk,
-    s: View,
-    b: &[u8],
-    w: Walk,
-    t: View,
-    work: &[u32],
-    rows: usize,
-) -> bool
-    ensures { Decides result (SameAhead (viewed work.now rows s) a.now v (viewed work.now rows t) b.now w) }
+// The next segment in a view.
+pub fn next_viewed<'a>(
+    x: &mut Segments<'a>,
+    records: Records<'_>,
+    view: View,
+) -> Option<Segment<'a>>
+    ensures { map (viewed records.entry.work.now records.entry.sizes.rows view) (ahead x.old) ≡ led_by result (map (viewed records.entry.work.now records.entry.sizes.rows view) (ahead x.new)) }
+{
+    let met = x.next()?;
+    Some(viewed(records, view, met))
+}
+
+// Whether two segments are equal.
+fn same_segment(x: Segment<'_>, y: Segment<'_>) -> bool
+    ensures { Decides result (told x.entry ≡ told y.entry) }
+{
+    match (x, y) {
+        (Segment::Plain(p), Segment::Plain(q)) => check::same(p, q),
+        (Segment::Reference(a, m), Segment::Reference(b, n)) => a == b && m == n,
+        _ => false,
+    }
+}
+
+// Whether what is ahead is equal, each in a view.
+fn same_ahead(records: Records<'_>, v: Segments<'_>, s: View, w: Segments<'_>, t: View) -> bool
+    ensures { Decides result (SameAhead (viewed records.entry.work.now records.entry.sizes.rows s) v.entry (viewed records.entry.work.now records.entry.sizes.rows t) w.entry) }
 {
     let mut x = v;
     let mut y = w;
     loop {
-        let p = head(x, a, work, rows, s);
-        let q = head(y, b, work, rows, t);
-        if !same_heads(a, b, p, q) {
-            return false;
+        match (
+            next_viewed(&mut x, records, s),
+            next_viewed(&mut y, records, t),
+        ) {
+            (None, None) => {
+                return true;
+            }
+            (Some(p), Some(q)) => {
+                if !same_segment(p, q) {
+                    return false;
+                }
+            }
+            _ => {
+                return false;
+            }
         }
-        if p.kind == NONE {
-            return true;
-        }
-        x = p.next;
-        y = q.next;
     }
 }
 
 // Whether the segments of the records at two offsets are equal, each in a view.
-fn same_segments(
-    file: &[u8],
-    work: &[u32],
-    rows: usize,
-    offset: usize,
-    s: View,
-    other: usize,
-    t: View,
-) -> bool
-    ensures { Decides result (SameSegments file.now (viewed work.now rows s) offset (viewed work.now rows t) other) }
+fn same_segments(records: Records<'_>, offset: u32, s: View, other: u32, t: View) -> bool
+    ensures { Decides result (SameSegments records.entry.file.now (viewed records.entry.work.now records.entry.sizes.rows s) offset (viewed records.entry.work.now records.entry.sizes.rows t) other) }
 {
-    let v = walk_of(file, offset);
-    let w = walk_of(file, other);
-    same_ahead(
-        body_at(file, offset),
-        v,
-        s,
-        body_at(file, other),
-        w,
-        t,
-        work,
-        rows,
-    )
+    let v = segments_at(records.file, offset);
+    let w = segments_at(records.file, other);
+    same_ahead(records, v, s, w, t)
 }
 
 // Whether the records at two offsets, of one mark, are equal, references by the numbers of first equal records.
-pub fn same_record(file: &[u8], work: &[u32], rows: usize, offset: usize, other: usize) -> bool
-    ensures { Decides result (SameSegments file.now (viewed work.now rows View.First) offset (viewed work.now rows View.First) other) }
+pub fn same_record(records: Records<'_>, offset: u32, other: u32) -> bool
+    ensures { Decides result (SameSegments records.entry.file.now (viewed records.entry.work.now records.entry.sizes.rows View.First) offset (viewed records.entry.work.now records.entry.sizes.rows View.First) other) }
 {
-    same_segments(file, work, rows, offset, View::First, other, View::First)
+    same_segments(records, offset, View::First, other, View::First)
 }
 
 // Whether the record type at an offset is the type of the record term at the offset `other`.
-pub fn same_listed_type(file: &[u8], work: &[u32], rows: usize, offset: usize, other: usize) -> bool
-    ensures { Decides result (SameSegments file.now (viewed work.now rows View.First) offset (viewed work.now rows View.Listed) other) }
+pub fn same_listed_type(records: Records<'_>, offset: u32, other: u32) -> bool
+    ensures { Decides result (SameSegments records.entry.file.now (viewed records.entry.work.now records.entry.sizes.rows View.First) offset (viewed records.entry.work.now records.entry.sizes.rows View.Listed) other) }
 {
-    same_segments(file, work, rows, offset, View::First, other, View::Listed)
+    same_segments(records, offset, View::First, other, View::Listed)
 }

@@ -1,120 +1,84 @@
 // The greatest depth of the records that a record refers to.
-ghost use Rattle.std.specs.Prelude.{◌≡◌, ◌∷◌, map, max, drop};
+ghost use Rattle.std.specs.Prelude.{◌≡◌, ◌∷◌, map, max};
 ghost use Rattle.index.specs.Rules.{greatest};
 ghost use Rattle.index.specs.Cells.{cell, type_depth};
 ghost use Rattle.index_compare.specs.Segment.{type_ref};
-ghost use Rattle.index_compare.specs.Machine.{ahead, items};
-ghost use Rattle.index_compare.specs.declared.segments.Item.TheVariants.{Term};
+ghost use Rattle.index_compare.specs.Machine.{ahead};
+ghost use Rattle.index_compare.specs.Step.{kind_number};
+ghost use Rattle.index_compare.specs.Shape.{terms_ahead};
 ghost use Rattle.index_compare.specs.View.{segments_at, reference_numbers, larger, viewed};
 
-use crate::compare::{NONE, TERM_REF, TYPE_REF, View, head, walk_of};
-use crate::record::body_at;
-use crate::segments::{Walk, Word};
-use crate::shape::{Shape, shape_of};
+use crate::compare::{View, next_viewed, segments_at};
+use crate::segments::{Referent, Segment, Segments};
+use crate::shape::{Shape, Terms, shape_at};
+use index::{Column, Records};
 
 // The larger of a number and that of a segment, if this is of a kind.
-fn larger(found: u32, number: u32, kind: u32, most: u32) -> u32
-    ensures { result ≡ larger found number kind most }
+#[tactic(auto, using(crate::proofs::Depths::larger_other, crate::proofs::Depths::larger_same))]
+fn larger(found: Referent, number: u32, kind: Referent, most: u32) -> u32
+    ensures { result ≡ larger (kind_number found) number (kind_number kind) most }
 {
-    if found != kind {
-        return most;
+    if found == kind {
+        return number.max(most);
     }
-    if number < most {
-        return most;
-    }
-    number
+    most
 }
 
-// The greatest depth ahead of a walk that the index has for references of a kind, 0 where there are none.
-fn greatest_ahead(body: &[u8], w: Walk, work: &[u32], rows: usize, kind: u32) -> u32
-    ensures { result ≡ greatest (reference_numbers kind (map (viewed work.now rows View.Depth) (ahead body.now w))) }
+// The greatest depth ahead that the index has for references of a kind, 0 where there are none.
+fn greatest_ahead(records: Records<'_>, rest: Segments<'_>, kind: Referent) -> u32
+    ensures { result ≡ greatest (reference_numbers (kind_number kind) (map (viewed records.entry.work.now records.entry.sizes.rows View.Depth) (ahead rest.entry))) }
 {
-    let mut x = w;
+    let mut x = rest;
     let mut most = 0;
-    loop {
-        let s = head(x, body, work, rows, View::Depth);
-        if s.kind == NONE {
-            return most;
+    while let Some(s) = next_viewed(&mut x, records, View::Depth) {
+        if let Segment::Reference(found, number) = s {
+            most = larger(found, number, kind, most);
         }
-        most = larger(s.kind, s.number, kind, most);
-        x = s.next;
     }
+    most
 }
 
-// The larger of a number and the greatest depth of so many references to terms from a place of a body on, if terms are of the kind.
-fn greatest_terms(
-    body: &[u8],
-    from: usize,
-    count: u32,
-    work: &[u32],
-    rows: usize,
-    kind: u32,
-    most: u32,
-) -> u32
-    ensures { result ≡ max most (greatest (reference_numbers kind (map (viewed work.now rows View.Depth) (items Term count (drop from body.now))))) }
+// The larger of a number and the greatest depth of some references to terms, if terms are of the kind.
+fn greatest_terms(records: Records<'_>, terms: Terms<'_>, kind: Referent, most: u32) -> u32
+    ensures { result ≡ max most (greatest (reference_numbers (kind_number kind) (map (viewed records.entry.work.now records.entry.sizes.rows View.Depth) (terms_ahead terms.entry)))) }
 {
-    let mut at = from;
-    let mut left = count;
+    let mut x = terms;
     let mut found = most;
-    while 0 < left {
-        let Word::Value(n) = crate::segments::read_word(body, at) else {
-            return found;
-        };
+    while let Some(n) = x.next() {
         found = larger(
-            TERM_REF,
-            index::get(work, rows, index::TERM_DEPTH, n as usize),
+            Referent::Term,
+            records.get(Column::TermDepth, n),
             kind,
             found,
         );
-        at += 4;
-        left -= 1;
     }
     found
 }
 
 // The depth of a type, if types are of the kind, else 0.
-fn type_depth(t: u32, work: &[u32], rows: usize, kind: u32) -> u32
-    ensures { result ≡ larger 2 (cell work.now rows type_depth t) kind 0 }
+fn type_depth(records: Records<'_>, t: u32, kind: Referent) -> u32
+    ensures { result ≡ larger 2 (cell records.entry.work.now records.entry.sizes.rows type_depth t) (kind_number kind) 0 }
 {
-    larger(
-        TYPE_REF,
-        index::get(work, rows, index::TYPE_DEPTH, t as usize),
-        kind,
-        0,
-    )
+    larger(Referent::Type, records.get(Column::TypeDepth, t), kind, 0)
 }
 
-// The greatest depth of a reference to a type and of so many references to terms from a place of a body on, of a kind.
-fn greatest_listed(
-    body: &[u8],
-    t: u32,
-    from: usize,
-    count: u32,
-    work: &[u32],
-    rows: usize,
-    kind: u32,
-) -> u32
-    ensures { result ≡ greatest (reference_numbers kind (map (viewed work.now rows View.Depth) (type_ref t ∷ items Term count (drop from body.now)))) }
+// The greatest depth of a reference to a type and of some references to terms, of a kind.
+fn greatest_listed(records: Records<'_>, t: u32, terms: Terms<'_>, kind: Referent) -> u32
+    ensures { result ≡ greatest (reference_numbers (kind_number kind) (map (viewed records.entry.work.now records.entry.sizes.rows View.Depth) (type_ref t ∷ terms_ahead terms.entry))) }
 {
-    let most = type_depth(t, work, rows, kind);
-    greatest_terms(body, from, count, work, rows, kind, most)
+    let most = type_depth(records, t, kind);
+    greatest_terms(records, terms, kind, most)
 }
 
 // The greatest depth that the index has for the references of a record of a kind, which is that of types or of terms.
-pub fn greatest(file: &[u8], work: &[u32], rows: usize, offset: usize, kind: u32) -> u32
-    ensures { result ≡ greatest (reference_numbers kind (map (viewed work.now rows View.Depth) (segments_at file.now offset))) }
+pub fn greatest(records: Records<'_>, offset: u32, kind: Referent) -> u32
+    ensures { result ≡ greatest (reference_numbers (kind_number kind) (map (viewed records.entry.work.now records.entry.sizes.rows View.Depth) (segments_at records.entry.file.now offset))) }
 {
-    let body = body_at(file, offset);
-    match shape_of(file, offset, body) {
-        Shape::Sole(n) => larger(
-            TERM_REF,
-            index::get(work, rows, index::TERM_DEPTH, n as usize),
-            kind,
-            0,
-        ),
-        Shape::Applied(t, m) => greatest_listed(body, t, 9, m, work, rows, kind),
-        Shape::Listing(t, m) => greatest_listed(body, t, 8, m, work, rows, kind),
-        Shape::Named(_, t) => type_depth(t, work, rows, kind),
-        Shape::Other => greatest_ahead(body, walk_of(file, offset), work, rows, kind),
+    match shape_at(records.file, offset) {
+        Some(Shape::Sole(n)) => larger(Referent::Term, records.get(Column::TermDepth, n), kind, 0),
+        Some(Shape::Applied(t, _, _, terms)) => greatest_listed(records, t, terms, kind),
+        Some(Shape::Listing(t, _, terms)) => greatest_listed(records, t, terms, kind),
+        Some(Shape::Named(_, t)) => type_depth(records, t, kind),
+        None => greatest_ahead(records, segments_at(records.file, offset), kind),
     }
 }

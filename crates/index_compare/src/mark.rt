@@ -14,7 +14,6 @@ fn fields(f: Field, g: Field) -> Walk
         counts: false,
         item: Item::Term,
         left: 0,
-        at: 0,
     }
 }
 
@@ -28,76 +27,58 @@ fn listing(f: Field, g: Field, item: Item) -> Walk
         counts: true,
         item,
         left: 0,
-        at: 0,
     }
 }
 
 // The start in the body of a type, by the second byte of its mark.
+#[tactic(auto, unfolding(crate::specs::Machine::start_type))]
 fn start_type(b: u8) -> Walk
     ensures { result ≡ start_type b }
 {
-    if b == b'O' {
-        return fields(Field::TypeRef, Field::Nothing);
+    match b {
+        b'O' | b'C' => fields(Field::TypeRef, Field::Nothing),
+        b'R' => listing(Field::Nothing, Field::Nothing, Item::NamedType),
+        _ => fields(Field::Rest, Field::Nothing),
     }
-    if b == b'C' {
-        return fields(Field::TypeRef, Field::Nothing);
-    }
-    if b == b'R' {
-        return listing(Field::Nothing, Field::Nothing, Item::NamedType);
-    }
-    fields(Field::Rest, Field::Nothing)
 }
 
 // In the body of a term with a list.
+#[tactic(auto, unfolding(crate::specs::Machine::start_list))]
 fn start_list(b: u8) -> Walk
     ensures { result ≡ start_list b }
 {
-    if b == b'C' {
-        return listing(Field::TypeRef, Field::Nothing, Item::Term);
+    match b {
+        b'C' => listing(Field::TypeRef, Field::Nothing, Item::Term),
+        b'R' => listing(Field::Nothing, Field::Nothing, Item::NamedTerm),
+        b'A' => listing(Field::TypeRef, Field::Operator, Item::Term),
+        _ => fields(Field::Rest, Field::Nothing),
     }
-    if b == b'R' {
-        return listing(Field::Nothing, Field::Nothing, Item::NamedTerm);
-    }
-    if b == b'A' {
-        return listing(Field::TypeRef, Field::Operator, Item::Term);
-    }
-    fields(Field::Rest, Field::Nothing)
 }
 
 // In the body of a term.
+#[tactic(auto, unfolding(crate::specs::Machine::start_term))]
 fn start_term(b: u8) -> Walk
     ensures { result ≡ start_term b }
 {
-    if b == b'V' {
-        return fields(Field::NamedType, Field::Nothing);
+    match b {
+        b'V' => fields(Field::NamedType, Field::Nothing),
+        b'E' => fields(Field::TypeRef, Field::Rest),
+        b'0' => fields(Field::TypeRef, Field::Nothing),
+        b'1' => fields(Field::TermRef, Field::Nothing),
+        _ => start_list(b),
     }
-    if b == b'E' {
-        return fields(Field::TypeRef, Field::Rest);
-    }
-    if b == b'0' {
-        return fields(Field::TypeRef, Field::Nothing);
-    }
-    if b == b'1' {
-        return fields(Field::TermRef, Field::Nothing);
-    }
-    start_list(b)
 }
 
 // In the body of a record, by the two bytes of its mark.
+#[tactic(auto, unfolding(crate::specs::Machine::walk_start))]
 pub fn start(a: u8, b: u8) -> Walk
     ensures { result ≡ walk_start a b }
 {
-    if a == b'T' {
-        return start_type(b);
+    match a {
+        b'T' => start_type(b),
+        b'X' => start_term(b),
+        b'U' => fields(Field::NamedType, Field::TypeRef),
+        b'I' => fields(Field::TermRef, Field::Nothing),
+        _ => fields(Field::Rest, Field::Nothing),
     }
-    if a == b'X' {
-        return start_term(b);
-    }
-    if a == b'U' {
-        return fields(Field::NamedType, Field::TypeRef);
-    }
-    if a == b'I' {
-        return fields(Field::TermRef, Field::Nothing);
-    }
-    fields(Field::Rest, Field::Nothing)
 }

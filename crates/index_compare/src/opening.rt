@@ -1,110 +1,102 @@
 // The first type that a record refers to: at the start of its body, where its mark tells that a reference stands there.
 ghost use Rattle.std.specs.Prelude.{◌≡◌, map, get_or};
-ghost use Rattle.index_compare.specs.Machine.{ahead, walk_start};
+ghost use Rattle.index.specs.Cells.{number};
+ghost use Rattle.index_compare.specs.Machine.{ahead, remaining, walk_start};
 ghost use Rattle.index_compare.specs.View.{segments_at, reference_numbers, viewed};
 ghost use Rattle.index_compare.specs.Shape.{Opens, first_cell};
 
-use crate::compare::{NONE, TYPE_REF, View, byte_after, byte_at, head};
+use crate::compare::{View, byte_at, next_viewed};
 use crate::record::body_at;
-use crate::segments::{Walk, Word};
+use crate::segments::{Referent, Segment, Segments, read_word};
 use crate::shape::{Shape, shape_by};
+use index::{Column, Records};
 
-// What the body of a record begins with, where its mark tells that it is a reference.
-#[derive(Clone, Copy)]
-enum Opening {
-    TypeFirst,
-    TermFirst,
-    Unknown,
-}
-
-// What a body begins with, by the two bytes of its mark.
-fn opening_of(a: u8, b: u8) -> Opening
+// The column of the first type of a body for the reference that it begins with, if the two bytes of its mark tell that it does.
+fn opening_of(a: u8, b: u8) -> Option<Column>
     ensures { Opens (walk_start a b) result }
 {
-    if a == b'T' {
-        if b == b'O' {
-            return Opening::TypeFirst;
-        }
-        if b == b'C' {
-            return Opening::TypeFirst;
-        }
-        return Opening::Unknown;
+    match a {
+        b'T' => opening_type(b),
+        b'X' => opening_term(b),
+        _ => None,
     }
-    if a == b'X' {
-        return opening_term(b);
-    }
-    Opening::Unknown
 }
 
-// What the body of a term begins with.
-fn opening_term(b: u8) -> Opening
+// Of the body of a type.
+#[tactic(auto, unfolding(crate::specs::Machine::walk_start, crate::specs::Machine::start_type))]
+fn opening_type(b: u8) -> Option<Column>
+    ensures { Opens (walk_start 84 b) result }
+{
+    match b {
+        b'O' | b'C' => Some(Column::TypeFirst),
+        _ => None,
+    }
+}
+
+// Of the body of a term.
+#[tactic(auto, unfolding(crate::specs::Machine::walk_start, crate::specs::Machine::start_term, crate::specs::Machine::start_list))]
+fn opening_term(b: u8) -> Option<Column>
     ensures { Opens (walk_start 88 b) result }
 {
-    if b == b'A' {
-        return Opening::TypeFirst;
+    match b {
+        b'A' | b'C' | b'E' | b'0' => Some(Column::TypeFirst),
+        b'1' => Some(Column::TermType),
+        _ => None,
     }
-    if b == b'1' {
-        return Opening::TermFirst;
-    }
-    if b == b'C' {
-        return Opening::TypeFirst;
-    }
-    if b == b'E' {
-        return Opening::TypeFirst;
-    }
-    if b == b'0' {
-        return Opening::TypeFirst;
-    }
-    Opening::Unknown
 }
 
 // The entry of a column for the reference at the start of a body, 0 where there is none.
-fn first_cell(body: &[u8], work: &[u32], rows: usize, column: usize) -> u32
-    ensures { result ≡ first_cell body.now work.now rows column }
+#[tactic(auto, unfolding(crate::specs::Shape::first_cell))]
+fn first_cell(records: Records<'_>, body: &[u8], column: Column) -> u32
+    ensures { result ≡ first_cell body.now records.entry.work.now records.entry.sizes.rows (number column) }
 {
-    let Word::Value(n) = crate::segments::read_word(body, 0) else {
-        return 0;
-    };
-    index::get(work, rows, column, n as usize)
-}
-
-// The first number ahead of a walk that stands for a type where types are listed, 0 where there is none.
-fn first_ahead(body: &[u8], w: Walk, work: &[u32], rows: usize) -> u32
-    ensures { result ≡ get_or (reference_numbers 2 (map (viewed work.now rows View.Listed) (ahead body.now w))) 0 0 }
-{
-    let mut x = w;
-    loop {
-        let s = head(x, body, work, rows, View::Listed);
-        if s.kind == NONE {
-            return 0;
-        }
-        if s.kind == TYPE_REF {
-            return s.number;
-        }
-        x = s.next;
+    match read_word(body, 0) {
+        Some(n) => records.get(column, n),
+        None => 0,
     }
 }
 
+// The first number ahead that stands for a type where types are listed, 0 where there is none.
+fn first_ahead(records: Records<'_>, rest: Segments<'_>) -> u32
+    ensures { result ≡ get_or (reference_numbers 2 (map (viewed records.entry.work.now records.entry.sizes.rows View.Listed) (ahead rest.entry))) 0 0 }
+{
+    let mut x = rest;
+    while let Some(s) = next_viewed(&mut x, records, View::Listed) {
+        if let Segment::Reference(found, n) = s {
+            if found == Referent::Type {
+                return n;
+            }
+        }
+    }
+    0
+}
+
 // The first type in a body, by the shape that the two bytes of its mark give it, or by a walk.
-fn first_shaped(a: u8, b: u8, body: &[u8], work: &[u32], rows: usize) -> u32
-    ensures { result ≡ get_or (reference_numbers 2 (map (viewed work.now rows View.Listed) (ahead body.now (walk_start a b)))) 0 0 }
+fn first_shaped(records: Records<'_>, a: u8, b: u8, body: &[u8]) -> u32
+    ensures { result ≡ get_or (reference_numbers 2 (map (viewed records.entry.work.now records.entry.sizes.rows View.Listed) (remaining (walk_start a b) body.now))) 0 0 }
 {
     match shape_by(a, b, body) {
-        Shape::Named(_, t) => index::get(work, rows, index::TYPE_FIRST, t as usize),
-        _ => first_ahead(body, crate::mark::start(a, b), work, rows),
+        Some(Shape::Named(_, t)) => records.get(Column::TypeFirst, t),
+        _ => first_ahead(
+            records,
+            Segments {
+                rest: body,
+                walk: crate::mark::start(a, b),
+            },
+        ),
     }
 }
 
 // The first type that a record refers to, or that a term has to which it refers, by the number of the first equal type; 0 where there is none.
-pub fn first_reference(file: &[u8], work: &[u32], rows: usize, offset: usize) -> u32
-    ensures { result ≡ get_or (reference_numbers 2 (map (viewed work.now rows View.Listed) (segments_at file.now offset))) 0 0 }
+pub fn first_reference(records: Records<'_>, offset: u32) -> u32
+    ensures { result ≡ get_or (reference_numbers 2 (map (viewed records.entry.work.now records.entry.sizes.rows View.Listed) (segments_at records.entry.file.now offset))) 0 0 }
 {
-    let body = body_at(file, offset);
-    let a = byte_at(file, offset);
-    let b = byte_after(file, offset);
+    let at = offset as usize;
+    let body = body_at(records.file, offset);
+    let a = byte_at(records.file, at);
+    let b = byte_at(records.file, at + 1);
     match opening_of(a, b) {
-        Opening::TypeFirst => first_cell(body, work, rows, index::TYPE_FIRST),
-        Opening::TermFirst => first_cell(body, work, rows, index::TERM_TYPE),
-        Opening::Unknown => first_shaped(a, b, body, work, rows),
+        Some(column) => first_cell(records, body, column),
+        None => first_shaped(records, a, b, body),
     }
 }

@@ -1,9 +1,26 @@
 // A record's body as plain bytes and references, in order: a walk that meets one segment after the other.
 
-ghost use Rattle.std.specs.Prelude.{◌≡◌, ◌<◌, drop, [], ◌∷◌};
+ghost use Rattle.std.specs.Prelude.{◌≡◌, drop, [], ◌∷◌};
 ghost use Rattle.index_compare.specs.Segment.{plain};
-ghost use Rattle.index_compare.specs.Machine.{cut, reference, text_then, operand_of, operator_then, operand_then, count_then, remaining, ahead, Meets};
-ghost use Rattle.index_compare.specs.Step.{refer, WordRead, walk_ending, after_field, popped, put, items_from};
+ghost use Rattle.index_compare.specs.Machine.{cut, reference, text_then, operand_of, operator_then, operand_then, count_then, remaining, ahead};
+ghost use Rattle.index_compare.specs.Step.{refer, led_by, WordRead, walk_ending, after_field, popped, put, items_from};
+
+use read_operator::{EXT, RECORD_GET, STRING_LIKE, UUF, ZERO_EXTEND};
+
+// What a reference is to.
+#[derive(Clone, Copy, PartialEq, Eq)]
+pub enum Referent {
+    Type,
+    Fun,
+    Term,
+}
+
+// Plain bytes, or a reference by its number.
+#[derive(Clone, Copy)]
+pub enum Segment<'a> {
+    Plain(&'a [u8]),
+    Reference(Referent, u32),
+}
 
 // What an operator has after its code.
 #[derive(Clone, Copy)]
@@ -35,7 +52,7 @@ pub enum Item {
     NamedTerm,
 }
 
-// A place in a body: the fields that come next, whether a count follows them, and the items and how many are left.
+// What is still to come in a body: the fields that come next, whether a count follows them, and the items and how many are left.
 #[derive(Clone, Copy)]
 pub struct Walk {
     pub first: Field,
@@ -43,52 +60,26 @@ pub struct Walk {
     pub counts: bool,
     pub item: Item,
     pub left: u32,
-    pub at: usize,
 }
 
-// The next segment and the walk after it: plain bytes by their start and length, or a reference; or the end.
+// The segments that are still to come in the bytes that are left of a body.
 #[derive(Clone, Copy)]
-pub enum Met {
-    Plain(usize, usize, Walk),
-    TypeRef(u32, Walk),
-    FunRef(u32, Walk),
-    TermRef(u32, Walk),
-    End,
+pub struct Segments<'a> {
+    pub rest: &'a [u8],
+    pub walk: Walk,
 }
 
-// Whether an operator has an operand.
-#[derive(Clone, Copy)]
-pub enum Coded {
-    With(Operand),
-    Absent,
-}
-
-// What a reference is to.
-#[derive(Clone, Copy)]
-enum Referent {
-    TypeKind,
-    FunKind,
-    TermKind,
-}
-
-// Four bytes, low byte first, if they are there.
-#[derive(Clone, Copy)]
-pub enum Word {
-    Value(u32),
-    Short,
-}
-
-// The four bytes at a place as a number.
-pub fn read_word(body: &[u8], at: usize) -> Word
+// The four bytes at a place as a number, low byte first, if they are there.
+pub fn read_word(body: &[u8], at: usize) -> Option<u32>
     ensures { WordRead (drop at body.now) result }
 {
     if body.len() < at {
-        return Word::Short;
+        return None;
     }
     if body.len() - at < 4 {
-        return Word::Short;
+        return None;
     }
-    Word::Value(read_field::word(body[at], body[at + 1], body[at + 2], body[at + 3]))
+    Some(read_field::word(body[at], body[at + 1], body[at + 2], body[at + 3]))
 }
 
 impl Walk {
@@ -96,15 +87,10 @@ impl Walk {
     fn popped(self) -> Walk
         ensures { result ≡ popped self }
     {
-        let second = self.second;
-        let item = self.item;
         Walk {
-            first: second,
+            first: self.second,
             second: Field::Nothing,
-            counts: self.counts,
-            item,
-            left: self.left,
-            at: self.at,
+            ..self
         }
     }
 
@@ -112,193 +98,159 @@ impl Walk {
     fn put(self, f: Field) -> Walk
         ensures { result ≡ put self f }
     {
-        let second = self.second;
-        let item = self.item;
-        Walk {
-            first: f,
-            second,
-            counts: self.counts,
-            item,
-            left: self.left,
-            at: self.at,
-        }
+        Walk { first: f, ..self }
     }
 
     // The walk at n items, of which the first has the field f left.
     fn items_from(self, f: Field, n: u32) -> Walk
         ensures { result ≡ items_from self f n }
     {
-        let item = self.item;
         Walk {
             first: f,
             second: Field::Nothing,
             counts: false,
-            item,
+            item: self.item,
             left: n,
-            at: self.at,
-        }
-    }
-
-    // n bytes, after which this walk goes on.
-    fn plain(mut self, body: &[u8], n: usize) -> Met
-        requires { 0 < n }
-        ensures { Meets body.now (cut n plain (remaining self) (drop self.at body.now)) result }
-    {
-        let at = self.at;
-        if body.len() < at {
-            return Met::End;
-        }
-        if body.len() - at < n {
-            return Met::End;
-        }
-        self.at = at + n;
-        Met::Plain(at, n, self)
-    }
-
-    // A reference, after which this walk goes on.
-    fn reference(mut self, body: &[u8], referent: Referent) -> Met
-        ensures { Meets body.now (reference (refer referent) (remaining self) (drop self.at body.now)) result }
-    {
-        let at = self.at;
-        let Word::Value(n) = read_word(body, at) else {
-            return Met::End;
-        };
-        self.at = at + 4;
-        match referent {
-            Referent::TypeKind => Met::TypeRef(n, self),
-            Referent::FunKind => Met::FunRef(n, self),
-            Referent::TermKind => Met::TermRef(n, self),
-        }
-    }
-
-    // A text with its count.
-    fn text(self, body: &[u8]) -> Met
-        ensures { Meets body.now (text_then (remaining self) (drop self.at body.now)) result }
-    {
-        let Word::Value(n) = read_word(body, self.at) else {
-            return Met::End;
-        };
-        let size = n as usize;
-        self.plain(body, 4 + size)
-    }
-
-    // The elements of a pattern with their count.
-    fn elements(self, body: &[u8]) -> Met
-        ensures { Meets body.now (operand_then Operand.Elements (remaining self) (drop self.at body.now)) result }
-    {
-        let Word::Value(n) = read_word(body, self.at) else {
-            return Met::End;
-        };
-        let size = n as usize;
-        self.plain(body, 4 + 4 * size)
-    }
-
-    // All bytes that are left.
-    fn rest(mut self, body: &[u8]) -> Met
-        ensures { Meets body.now (plain (drop self.at body.now) ∷ remaining self []) result }
-    {
-        let at = self.at;
-        let len = body.len();
-        self.at = len;
-        if len < at {
-            return Met::Plain(len, 0, self);
-        }
-        Met::Plain(at, len - at, self)
-    }
-
-    // An operand, after which this walk goes on.
-    fn operand(self, body: &[u8], operand: Operand) -> Met
-        ensures { Meets body.now (operand_then operand (remaining self) (drop self.at body.now)) result }
-    {
-        match operand {
-            Operand::Byte => self.plain(body, 1),
-            Operand::Word => self.plain(body, 4),
-            Operand::Text => self.text(body),
-            Operand::Elements => self.elements(body),
-            Operand::Function => self.reference(body, Referent::FunKind),
-        }
-    }
-
-    // The code of an operator.
-    fn operator(self, body: &[u8]) -> Met
-        ensures { Meets body.now (operator_then (after_field self) (drop self.at body.now)) result }
-    {
-        let at = self.at;
-        if body.len() <= at {
-            return Met::End;
-        }
-        match operand_of(body[at]) {
-            Coded::With(o) => self.put(Field::Operand(o)).plain(body, 1),
-            Coded::Absent => self.popped().plain(body, 1),
-        }
-    }
-
-    // The count of a list.
-    fn count(self, body: &[u8]) -> Met
-        ensures { Meets body.now (count_then self.item (drop self.at body.now)) result }
-    {
-        let Word::Value(n) = read_word(body, self.at) else {
-            return Met::End;
-        };
-        self.items_from(Field::Nothing, n).plain(body, 4)
-    }
-
-    // Where no fields are left: a count, or the next item.
-    fn ending(self, body: &[u8]) -> Met
-        ensures { Meets body.now (walk_ending self (drop self.at body.now)) result }
-    {
-        if self.counts {
-            return self.count(body);
-        }
-        let left = self.left;
-        if left == 0 {
-            return Met::End;
-        }
-        let item = self.item;
-        match item {
-            Item::Term => self
-                .items_from(Field::Nothing, left - 1)
-                .reference(body, Referent::TermKind),
-            Item::NamedType => self.items_from(Field::TypeRef, left - 1).text(body),
-            Item::NamedTerm => self.items_from(Field::TermRef, left - 1).text(body),
-        }
-    }
-
-    // The next segment.
-    pub fn next(self, body: &[u8]) -> Met
-        ensures { Meets body.now (ahead body.now self) result }
-    {
-        let first = self.first;
-        match first {
-            Field::Nothing => self.ending(body),
-            Field::Rest => self.popped().rest(body),
-            Field::TypeRef => self.popped().reference(body, Referent::TypeKind),
-            Field::TermRef => self.popped().reference(body, Referent::TermKind),
-            Field::NamedType => self.put(Field::TypeRef).text(body),
-            Field::Operator => self.operator(body),
-            Field::Operand(o) => self.popped().operand(body, o),
         }
     }
 }
 
-// The operand of the operator with a code.
-pub fn operand_of(code: u8) -> Coded
+impl<'a> Segments<'a> {
+    // n bytes, after which another walk goes on.
+    #[tactic(auto, using(crate::proofs::Steps::cut_short, crate::proofs::Steps::cut_at, crate::proofs::Steps::part_after), unfolding(crate::specs::Machine::ahead))]
+    fn plain(&mut self, n: usize, then: Walk) -> Option<Segment<'a>>
+        ensures { cut n plain (remaining then) self.old.rest.now ≡ led_by result (ahead self.new) }
+    {
+        let rest = self.rest;
+        if rest.len() < n {
+            return None;
+        }
+        self.rest = &rest[n..];
+        self.walk = then;
+        Some(Segment::Plain(&rest[..n]))
+    }
+
+    // A reference, after which another walk goes on.
+    #[tactic(auto, using(crate::proofs::Steps::reference_short))]
+    fn reference(&mut self, referent: Referent, then: Walk) -> Option<Segment<'a>>
+        ensures { reference (refer referent) (remaining then) self.old.rest.now ≡ led_by result (ahead self.new) }
+    {
+        let rest = self.rest;
+        let n = read_word(rest, 0)?;
+        self.rest = &rest[4..];
+        self.walk = then;
+        Some(Segment::Reference(referent, n))
+    }
+
+    // A text with its count.
+    #[tactic(auto, using(crate::proofs::Steps::cut_uncounted), unfolding(crate::specs::Machine::text_then, crate::specs::Machine::counted_size))]
+    fn text(&mut self, then: Walk) -> Option<Segment<'a>>
+        ensures { text_then (remaining then) self.old.rest.now ≡ led_by result (ahead self.new) }
+    {
+        let n = read_word(self.rest, 0)?;
+        self.plain(4 + n as usize, then)
+    }
+
+    // The elements of a pattern with their count.
+    #[tactic(auto, using(crate::proofs::Steps::cut_uncounted), unfolding(crate::specs::Machine::operand_then))]
+    fn elements(&mut self, then: Walk) -> Option<Segment<'a>>
+        ensures { operand_then Operand.Elements (remaining then) self.old.rest.now ≡ led_by result (ahead self.new) }
+    {
+        let n = read_word(self.rest, 0)?;
+        self.plain(4 + 4 * n as usize, then)
+    }
+
+    // All bytes that are left.
+    fn all(&mut self, then: Walk) -> Option<Segment<'a>>
+        ensures { plain self.old.rest.now ∷ remaining then [] ≡ led_by result (ahead self.new) }
+    {
+        self.plain(self.rest.len(), then)
+    }
+
+    // An operand, after which another walk goes on.
+    #[tactic(auto, unfolding(crate::specs::Machine::operand_then))]
+    fn operand(&mut self, operand: Operand, then: Walk) -> Option<Segment<'a>>
+        ensures { operand_then operand (remaining then) self.old.rest.now ≡ led_by result (ahead self.new) }
+    {
+        match operand {
+            Operand::Byte => self.plain(1, then),
+            Operand::Word => self.plain(4, then),
+            Operand::Text => self.text(then),
+            Operand::Elements => self.elements(then),
+            Operand::Function => self.reference(Referent::Fun, then),
+        }
+    }
+
+    // The code of an operator.
+    fn operator(&mut self) -> Option<Segment<'a>>
+        ensures { operator_then (after_field self.old.walk) self.old.rest.now ≡ led_by result (ahead self.new) }
+    {
+        let walk = self.walk;
+        match operand_of(crate::compare::byte_at(self.rest, 0)) {
+            Some(o) => self.plain(1, walk.put(Field::Operand(o))),
+            None => self.plain(1, walk.popped()),
+        }
+    }
+
+    // The count of a list.
+    #[tactic(auto, unfolding(crate::specs::Machine::count_then, crate::specs::Machine::remaining, crate::specs::Machine::field_then, crate::specs::Machine::last))]
+    fn count(&mut self) -> Option<Segment<'a>>
+        ensures { count_then self.old.walk.item self.old.rest.now ≡ led_by result (ahead self.new) }
+    {
+        let n = read_word(self.rest, 0)?;
+        let walk = self.walk;
+        self.plain(4, walk.items_from(Field::Nothing, n))
+    }
+
+    // Where no fields are left: a count, or the next item.
+    #[tactic(auto, using(crate::proofs::Steps::ending_none, crate::proofs::Steps::ending_item), unfolding(crate::specs::Step::walk_ending, crate::specs::Machine::last, crate::specs::Machine::items, crate::specs::Machine::item_then, crate::specs::Machine::remaining, crate::specs::Machine::field_then))]
+    fn ending(&mut self) -> Option<Segment<'a>>
+        ensures { walk_ending self.old.walk self.old.rest.now ≡ led_by result (ahead self.new) }
+    {
+        let walk = self.walk;
+        if walk.counts {
+            return self.count();
+        }
+        if walk.left == 0 {
+            return None;
+        }
+        let left = walk.left - 1;
+        match walk.item {
+            Item::Term => self.reference(Referent::Term, walk.items_from(Field::Nothing, left)),
+            Item::NamedType => self.text(walk.items_from(Field::TypeRef, left)),
+            Item::NamedTerm => self.text(walk.items_from(Field::TermRef, left)),
+        }
+    }
+
+    // The next segment.
+    #[tactic(auto, unfolding(crate::specs::Machine::ahead, crate::specs::Machine::remaining, crate::specs::Machine::field_then, crate::specs::Step::after_field, crate::specs::Step::walk_ending))]
+    pub fn next(&mut self) -> Option<Segment<'a>>
+        ensures { ahead self.old ≡ led_by result (ahead self.new) }
+    {
+        let walk = self.walk;
+        match walk.first {
+            Field::Nothing => self.ending(),
+            Field::Rest => self.all(walk.popped()),
+            Field::TypeRef => self.reference(Referent::Type, walk.popped()),
+            Field::TermRef => self.reference(Referent::Term, walk.popped()),
+            Field::NamedType => self.text(walk.put(Field::TypeRef)),
+            Field::Operator => self.operator(),
+            Field::Operand(o) => self.operand(o, walk.popped()),
+        }
+    }
+}
+
+// The operand of the operator with a code, if it has one.
+#[tactic(auto, unfolding(crate::specs::Machine::operand_of))]
+pub fn operand_of(code: u8) -> Option<Operand>
     ensures { result ≡ operand_of code }
 {
-    if code == read_operator::EXT {
-        return Coded::With(Operand::Byte);
+    match code {
+        EXT => Some(Operand::Byte),
+        RECORD_GET => Some(Operand::Text),
+        STRING_LIKE => Some(Operand::Elements),
+        UUF => Some(Operand::Function),
+        ZERO_EXTEND => Some(Operand::Word),
+        _ => None,
     }
-    if code == read_operator::RECORD_GET {
-        return Coded::With(Operand::Text);
-    }
-    if code == read_operator::STRING_LIKE {
-        return Coded::With(Operand::Elements);
-    }
-    if code == read_operator::UUF {
-        return Coded::With(Operand::Function);
-    }
-    if code == read_operator::ZERO_EXTEND {
-        return Coded::With(Operand::Word);
-    }
-    Coded::Absent
 }

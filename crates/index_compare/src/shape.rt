@@ -1,118 +1,118 @@
 // The shapes of records: segments that are told with no walk.
-ghost use Rattle.std.specs.Prelude.{◌≡◌, true};
-ghost use Rattle.index.specs.Standing.{body_at};
-ghost use Rattle.index_compare.specs.Machine.{ahead, walk_start};
+ghost use Rattle.std.specs.Prelude.{◌≡◌};
+ghost use Rattle.index_compare.specs.Machine.{remaining, walk_start};
 ghost use Rattle.index_compare.specs.View.{segments_at};
-ghost use Rattle.index_compare.specs.Shape.{Bare, Shaped};
+ghost use Rattle.index_compare.specs.Shape.{Shaped, terms_ahead, led_by_term};
 
-use crate::compare::{byte_after, byte_at};
-use crate::segments::{Coded, Word};
+use crate::compare::byte_at;
+use crate::record::body_at;
+use crate::segments::{operand_of, read_word};
 
-// The segments of a record, where they are told with no walk: a reference to a term; a reference to a type, the code of an operator
-// that has no operand, a count, and so many references to terms; the same with no code; or a text of so many bytes with its count, and
-// a reference to a type.
+// References to terms: how many are left, and the bytes from the first on.
 #[derive(Clone, Copy)]
-pub enum Shape {
-    Sole(u32),
-    Applied(u32, u32),
-    Listing(u32, u32),
-    Named(usize, u32),
-    Other,
+pub struct Terms<'a> {
+    pub rest: &'a [u8],
+    pub left: u32,
 }
 
-// Whether the operator with a code has no operand.
-fn is_bare(code: u8) -> bool
-    ensures { Bare code result }
-{
-    match crate::segments::operand_of(code) {
-        Coded::With(_) => false,
-        Coded::Absent => true,
+impl<'a> Terms<'a> {
+    // The next reference.
+    pub fn next(&mut self) -> Option<u32>
+        ensures { terms_ahead self.old ≡ led_by_term result (terms_ahead self.new) }
+    {
+        if self.left == 0 {
+            return None;
+        }
+        let rest = self.rest;
+        let n = read_word(rest, 0)?;
+        self.rest = &rest[4..];
+        self.left -= 1;
+        Some(n)
     }
+}
+
+// The segments of a record, where they are told with no walk: a reference to a term; a reference to a type, the code of an operator
+// that has no operand, a count, and so many references to terms; the same with no code; or a text with its count, and a reference to a
+// type.
+#[derive(Clone, Copy)]
+pub enum Shape<'a> {
+    Sole(u32),
+    Applied(u32, &'a [u8], &'a [u8], Terms<'a>),
+    Listing(u32, &'a [u8], Terms<'a>),
+    Named(&'a [u8], u32),
 }
 
 // The shape of a body that is a reference to a term.
-fn sole(body: &[u8]) -> Shape
-    ensures { Shaped body.now (ahead body.now (walk_start 88 49)) result }
+fn sole<'a>(body: &'a [u8]) -> Option<Shape<'a>>
+    ensures { Shaped (remaining (walk_start 88 49) body.now) result }
 {
-    let Word::Value(n) = crate::segments::read_word(body, 0) else {
-        return Shape::Other;
-    };
-    Shape::Sole(n)
+    let n = read_word(body, 0)?;
+    Some(Shape::Sole(n))
 }
 
 // Of that of an application.
-fn applied(body: &[u8]) -> Shape
-    ensures { Shaped body.now (ahead body.now (walk_start 88 65)) result }
+fn applied<'a>(body: &'a [u8]) -> Option<Shape<'a>>
+    ensures { Shaped (remaining (walk_start 88 65) body.now) result }
 {
-    if body.len() < 9 {
-        return Shape::Other;
+    let t = read_word(body, 0)?;
+    let left = read_word(body, 5)?;
+    if operand_of(body[4]).is_some() {
+        return None;
     }
-    if !is_bare(body[4]) {
-        return Shape::Other;
-    }
-    let Word::Value(t) = crate::segments::read_word(body, 0) else {
-        return Shape::Other;
+    let terms = Terms {
+        rest: &body[9..],
+        left,
     };
-    let Word::Value(n) = crate::segments::read_word(body, 5) else {
-        return Shape::Other;
-    };
-    Shape::Applied(t, n)
+    Some(Shape::Applied(t, &body[4..5], &body[5..9], terms))
 }
 
 // Of that of a set.
-fn listing(body: &[u8]) -> Shape
-    ensures { Shaped body.now (ahead body.now (walk_start 88 67)) result }
+fn listing<'a>(body: &'a [u8]) -> Option<Shape<'a>>
+    ensures { Shaped (remaining (walk_start 88 67) body.now) result }
 {
-    let Word::Value(t) = crate::segments::read_word(body, 0) else {
-        return Shape::Other;
+    let t = read_word(body, 0)?;
+    let left = read_word(body, 4)?;
+    let terms = Terms {
+        rest: &body[8..],
+        left,
     };
-    let Word::Value(n) = crate::segments::read_word(body, 4) else {
-        return Shape::Other;
-    };
-    Shape::Listing(t, n)
+    Some(Shape::Listing(t, &body[4..8], terms))
 }
 
 // Of that of a variable.
-fn named(body: &[u8]) -> Shape
-    ensures { Shaped body.now (ahead body.now (walk_start 88 86)) result }
+fn named<'a>(body: &'a [u8]) -> Option<Shape<'a>>
+    ensures { Shaped (remaining (walk_start 88 86) body.now) result }
 {
-    let Word::Value(n) = crate::segments::read_word(body, 0) else {
-        return Shape::Other;
-    };
+    let n = read_word(body, 0)?;
     let size = 4 + n as usize;
-    let Word::Value(t) = crate::segments::read_word(body, size) else {
-        return Shape::Other;
-    };
-    Shape::Named(size, t)
+    let t = read_word(body, size)?;
+    Some(Shape::Named(&body[..size], t))
 }
 
 // The shape of a body by the two bytes of its mark.
-pub fn shape_by(a: u8, b: u8, body: &[u8]) -> Shape
-    ensures { Shaped body.now (ahead body.now (walk_start a b)) result }
+pub fn shape_by<'a>(a: u8, b: u8, body: &'a [u8]) -> Option<Shape<'a>>
+    ensures { Shaped (remaining (walk_start a b) body.now) result }
 {
     if a != b'X' {
-        return Shape::Other;
+        return None;
     }
-    if b == b'1' {
-        return sole(body);
+    match b {
+        b'1' => sole(body),
+        b'A' => applied(body),
+        b'V' => named(body),
+        b'C' => listing(body),
+        _ => None,
     }
-    if b == b'A' {
-        return applied(body);
-    }
-    if b == b'V' {
-        return named(body);
-    }
-    if b == b'C' {
-        return listing(body);
-    }
-    Shape::Other
 }
 
-// The shape of the record at an offset, which has this body.
-pub fn shape_of(file: &[u8], offset: usize, body: &[u8]) -> Shape
-    ensures { body.now ≡ body_at file.now offset → Shaped body.now (segments_at file.now offset) result }
+// The shape of the record at an offset.
+pub fn shape_at<'a>(file: &'a [u8], offset: u32) -> Option<Shape<'a>>
+    ensures { Shaped (segments_at file.now offset) result }
 {
-    let a = byte_at(file, offset);
-    let b = byte_after(file, offset);
-    shape_by(a, b, body)
+    let at = offset as usize;
+    shape_by(
+        byte_at(file, at),
+        byte_at(file, at + 1),
+        body_at(file, offset),
+    )
 }

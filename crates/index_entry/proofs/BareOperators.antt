@@ -14,22 +14,23 @@ use Rattle.index.proofs.Readers.{◌&◌}
 use Rattle.index_compare.specs.Machine.{operand_of}
 use Rattle.index_compare.specs.declared.segments.Operand.{Operand}
 use Rattle.index_compare.specs.declared.segments.Operand.TheVariants.{Byte, Word, Text, Elements, Function}
-use Rattle.index_compare.specs.declared.segments.Coded.{Coded}
-use Rattle.index_compare.specs.declared.segments.Coded.TheVariants.{With, Absent}
+use mathlib.Core.Bool.{false}
+use Rattle.std.specs.Prelude.{Option, None, Some}
+use Rattle.std.specs.Option.{is_some}
 use Rattle.index_compare.proofs.Agreement.{Each, each_at}
 
 -- the reader of an operator that has no operand leaves what it was given
-abbrev LeavesWhere : Coded → Reader (tree.Op ℕ) → Type 0
-LeavesWhere c r = c ≡ Absent → (s : Bytes) (o : tree.Op ℕ) (rest : Bytes) → r s ≡ got o rest → s ≡ rest
+abbrev LeavesWhere : Option Operand → Reader (tree.Op ℕ) → Type 0
+LeavesWhere c r = is_some c ≡ false → (s : Bytes) (o : tree.Op ℕ) (rest : Bytes) → r s ≡ got o rest → s ≡ rest
 
 abbrev Leaves : ℕ → Reader (tree.Op ℕ) → Type 0
 Leaves b r = LeavesWhere (operand_of b) r
 
-bare : (o : tree.PlainOp) → LeavesWhere Absent (plain o)
+bare : (o : tree.PlainOp) → LeavesWhere None (plain o)
 unfolding plain pure
 bare o a s x rest h = got_rest (tree.Plain o) x s rest h
 
-with_operand : (r : Reader (tree.Op ℕ)) (operand : Operand) → LeavesWhere (With operand) r
+with_operand : (r : Reader (tree.Op ℕ)) (operand : Operand) → LeavesWhere (Some operand) r
 with_operand r operand a s x rest h = never cc
 
 operators_leave : (count : ℕ) → Each Leaves 0 (operators count)
@@ -48,10 +49,10 @@ operators_leave count =
     & with_operand _ Word
     & tt
 
-pub bare_rest : (count : ℕ) (s : Bytes) {o : tree.Op ℕ} {rest : Bytes} → operand_of (get_or s 0 0) ≡ Absent → operator count s ≡ got o rest → drop 1 s ≡ rest
+pub bare_rest : (count : ℕ) (s : Bytes) {o : tree.Op ℕ} {rest : Bytes} → is_some (operand_of (get_or s 0 0)) ≡ false → operator count s ≡ got o rest → drop 1 s ≡ rest
 unfolding operator
 bare_rest count s {o} {rest} a h =
     let c = coded_inverse (operators count) s h in
     let code : c.code + 0 ≡ c.code = omega arith in
     let leaves : Leaves c.code c.reader = subst (λ (b : ℕ). Leaves b c.reader) code (each_at Leaves c.code 0 (operators count) (operators_leave count) c.has) in
-    ap (λ (x : Bytes). drop 1 x) c.is ∙ leaves (ap (λ (x : Bytes). operand_of (get_or x 0 0)) (sym c.is) ∙ a) c.mid o rest c.reads
+    ap (λ (x : Bytes). drop 1 x) c.is ∙ leaves (ap (λ (x : Bytes). is_some (operand_of (get_or x 0 0))) (sym c.is) ∙ a) c.mid o rest c.reads

@@ -2,7 +2,8 @@
 -- Assumes nothing.
 use mathlib.Core.Path.{◌≡◌, refl, sym, ap, ◌∙◌, subst}
 use mathlib.Core.Bool.{true, false}
-use mathlib.Core.List.{List, []}
+use mathlib.Core.List.{List, [], ◌∷◌}
+use denote.Ref.{Bor}
 use mathlib.Core.Option.{Option, some, none-ne-some}
 use Prim.Native.Nat.{ℕ, ◌^◌}
 use lib.Dec.{ltb}
@@ -13,18 +14,20 @@ use Rattle.script_spec.specs.Tree as tree
 use Rattle.script_spec.specs.Fields as fields
 use Rattle.script_spec.specs.Fields.{Entry, term, Reader, ◌>>=◌, pure, ensure, text, ref, width, number, entity_ref, marks, leaf, operator}
 use Rattle.index_compare.specs.Machine.{operand_of}
-use Rattle.index_compare.specs.declared.segments.Coded.TheVariants.{Absent}
+use Rattle.std.specs.Option.{is_some}
 use Rattle.index_compare.proofs.Standing.{entry_whole}
 use Rattle.index.specs.Standing.{mark_at, body_at, entry_of, entry_at, loose}
 use Rattle.index.proofs.Readers.{Gives, gives_after, gives_pure}
-use Rattle.read_field.specs.Reads.{value, refusal}
-use Rattle.read_operator.specs.Operators.{op_of}
+use Rattle.std.specs.Prelude.{Result, Ok, Err}
+use Rattle.refusal.specs.declared.Refusal.{Refusal}
+use Rattle.read_field.specs.declared.Cursor.{Cursor}
+use Rattle.read_operator.specs.Operators.{op_read}
 use Rattle.read_operator.specs.declared.Op.{Op}
 use Rattle.check_rules.specs.Marks.{term_bytes}
 use Rattle.index.specs.Lists.{number_at}
 use Rattle.index_entry.proofs.Letters.{term_marked, term_marked_lem, term_letter}
-use Rattle.read_operator.specs.Again.{ReadsAgain}
-use Rattle.index_entry.specs.Terms.{references, children_in, term_said, IsTerm}
+use Rattle.read_operator.specs.Again.{TakesAgain}
+use Rattle.index_entry.specs.Terms.{children_in, term_said, IsTerm}
 use Rattle.index_entry.specs.Children.{ListedAt, IsChildren, ChildrenAt}
 use Rattle.index_entry.specs.declared.terms.Children.{Children}
 use Rattle.index_entry.specs.declared.terms.TermEntry.{TermEntry}
@@ -74,26 +77,26 @@ module _ (body : Bytes) where
     bare (tree.Record ns) rs g h = absurd (r h)
     bare (tree.App t o) rs g h = absurd (a h)
 
-    pub bare_children : IsChildren (some (term_marked l)) body (record { from = 0; left = 0; named = false })
+    pub bare_children : (b : Bor Bytes) → IsChildren (some (term_marked l)) body (record { body = b; from = 0; left = 0; named = false })
     unfolding refs
-    bare_children = record {
+    bare_children b = record {
       go = λ m t rs e g.
           let same : m ≡ term_marked l = cc in
           let here = rw same at g in
-          no_children body (record { from = 0; left = 0; named = false }) refl ∙ sym (bare t rs here (term_letter body here));
+          no_children (record { body = b; from = 0; left = 0; named = false }) refl ∙ sym (bare t rs here (term_letter body here));
     }
 
 -- ---- marks that have children
 
-module _ {body : Bytes} where
-  -- the children of the term that a body is
-  children_said : {m : Option Bytes} {r : TermEntry} (c : Children) → ((t : tree.TermMark ℕ ℕ) (rs : List ℕ) → term_said body r ≡ some (term t rs) → children_in body c ≡ rs)
-      → IsTerm m body r → IsChildren m body c
-  children_said c h i = record { go = λ m t rs e g. h t rs (i.go m t rs e g) }
+-- the children of the term that a body is
+children_said : {m : Option Bytes} {body : Bytes} {r : TermEntry} (c : Children) → ((t : tree.TermMark ℕ ℕ) (rs : List ℕ) → term_said r ≡ some (term t rs) → children_in c ≡ rs)
+    → IsTerm m body r → IsChildren m body c
+children_said c h i = record { go = λ m t rs e g. h t rs (i.go m t rs e g) }
 
-  pub children_some : IsChildren (some (bytes "X1")) body (record { from = 0; left = 1; named = false })
-  unfolding term_said children_in references
-  children_some = children_said _ (λ t rs h. cc) (term_some refl)
+module _ {body : Bytes} where
+  pub children_some : {c : Children} → children_in c ≡ number_at body 0 ∷ [] → IsChildren (some (bytes "X1")) body c
+  unfolding term_said
+  children_some {c} e = children_said c (λ t rs h. cc) (term_some {n = number_at body 0} refl)
 
   pub children_set : {c : Children} → ListedAt body 4 false c → IsChildren (some (bytes "XC")) body c
   unfolding term_said
@@ -103,22 +106,24 @@ module _ {body : Bytes} where
   unfolding term_said
   children_record L = children_said _ (λ t rs h. cc) (term_record L)
 
-  pub children_app : {to : ℕ} {c : Children} (o : Op) → ReadsAgain (operator (2 ^ 32)) body 4 (value (op_of body o) to) → ListedAt body to false c → IsChildren (some (bytes "XA")) body c
-  unfolding term_said
-  children_app {c = c} o r L = children_said {r = entry.App (number_at body 0) o c} _ (λ t rs h. cc) (term_app refl r L)
+  -- the operator as it is read again
+  module _ {b : Bor Bytes} (r : Result (Op × Cursor) Refusal) (inside : b.now ≡ body) (T : TakesAgain (operator (2 ^ 32)) (record { body = b; at = 4 }) (op_read r)) where
+    pub children_app : {o : Op} {d : Cursor} {c : Children} → r ≡ Ok (o, d) → ListedAt body d.at false c → IsChildren (some (bytes "XA")) body c
+    unfolding term_said
+    children_app {o} {c = c} e L = children_said {r = entry.App (number_at body 0) o c} c (λ t rs h. cc) (term_app r inside T e refl L)
 
-  pub no_arguments : {n : ℕ} {c : Children} → ReadsAgain (operator (2 ^ 32)) body 4 (refusal n) → IsChildren (some (bytes "XA")) body c
-  unfolding term_said
-  no_arguments r = children_said _ (λ t rs h. absurd (none-ne-some (term t rs) h)) (no_app r)
+    pub no_arguments : {f : Refusal} {c : Children} → r ≡ Err f → IsChildren (some (bytes "XA")) body c
+    unfolding term_said
+    no_arguments e = children_said _ (λ t rs h. absurd (none-ne-some (term t rs) h)) (no_app r inside T e)
 
   -- an operator without an operand ends after its code
-  pub children_bare : {code : ℕ} {c : Children} → code ≡ get_or body 4 0 → operand_of code ≡ Absent → ListedAt body 5 false c → IsChildren (some (bytes "XA")) body c
+  pub children_bare : {code : ℕ} {c : Children} → code ≡ get_or body 4 0 → is_some (operand_of code) ≡ false → ListedAt body 5 false c → IsChildren (some (bytes "XA")) body c
   unfolding marks lookup same bytes entry_of and_then loose
   children_bare {c = c} is bare L = record {
     go = λ m t rs e g.
         let mark_is : m ≡ bytes "XA" = cc in
         app_parts body (entry_whole (app_reader body) (term t rs) (rw mark_is at g)) (λ x y end qs v op listed whole.
-        let first : operand_of (get_or (drop 4 body) 0 0) ≡ Absent = ap operand_of (get_or-drop 4 body 0 0 ∙ sym is) ∙ bare in
+        let first : is_some (operand_of (get_or (drop 4 body) 0 0)) ≡ false = ap (λ (n : ℕ). is_some (operand_of n)) (get_or-drop 4 body 0 0 ∙ sym is) ∙ bare in
         let here : drop 5 body ≡ end = sym (drop-drop 1 4 body) ∙ bare_rest (2 ^ 32) (drop 4 body) first op in
         let all : qs ≡ rs = cc in
         listed_children L here listed ∙ all);

@@ -1,16 +1,17 @@
 -- What a reader that succeeded has read, for what follows from it: each field is what stands at its place.
 -- Assumes nothing.
-use mathlib.Core.Path.{◌≡◌, sym, ◌∙◌}
+use mathlib.Core.Path.{◌≡◌, sym, ap, ◌∙◌}
+use mathlib.Core.Option.{none, some, none-ne-some}
 use mathlib.Core.Bool.{Bool, true}
 use mathlib.Core.List.{List, [], ◌∷◌}
 use Prim.Native.Nat.{ℕ, zero, suc}
 use lib.Dec.{leb}
-use lib.ListN.{length, take, drop}
+use lib.ListN.{length, take, drop, get_or}
 use lib.Seq.{drop-drop}
-use Rattle.script_spec.specs.Base.{Bytes}
-use Rattle.script_spec.specs.Fields.{got, Reader, ◌>>=◌, pure, ensure, part, u32, text, times, ref, pair}
+use Rattle.script_spec.specs.Base.{Bytes, at}
+use Rattle.script_spec.specs.Fields.{got, Reader, ◌>>=◌, pure, ensure, part, u32, text, times, ref, pair, coded}
 use Rattle.script_spec.proofs.Readers as readers
-use Rattle.script_spec.proofs.Readers.{got_value, got_rest}
+use Rattle.script_spec.proofs.Readers.{got_value, got_rest, coded_inverse}
 use Rattle.index.specs.Lists.{number_at, first_text, text_size}
 use Rattle.index_entry.specs.Places.{named_items}
 
@@ -58,3 +59,23 @@ named_inverse count (suc n) s {ps} {rest} h =
     let rest-is : drop 4 (drop (text_size s) s) ≡ mid = (rw da) ∙ dm ∙ got_rest (a, m) p last mid gm in
     let more : named_items n mid ≡ qs = named_inverse count n mid eq in
     (rw (one, rest-is, more)) ∙ got_value (p ∷ qs) ps end rest gq))))))
+
+-- ---- codes
+
+module _ {A : Type 0} (table : List (Reader A)) (s : Bytes) {a : A} {rest : Bytes} (h : coded table s ≡ got a rest) {i : ℕ} (e : i ≡ get_or s 0 0) where
+  -- the reader that the table has for the code that stands first reads on
+  pub coded_at : (r : Reader A) → at i table ≡ some r → r (drop 1 s) ≡ got a rest
+  coded_at r has =
+      let c = coded_inverse table s h in
+      let code : i ≡ c.code = e ∙ ap (λ (s : Bytes). get_or s 0 0) c.is in
+      let same : some r ≡ some c.reader = sym has ∙ ap (λ (n : ℕ). at n table) code ∙ c.has in
+      let reader : r ≡ c.reader = cc in
+      let on : drop 1 s ≡ c.mid = ap (drop 1) c.is in
+      (λ i. reader i (on i)) ∙ c.reads
+
+  -- and the table has one
+  pub coded_none : at i table ≡ none → ⊥
+  coded_none has =
+      let c = coded_inverse table s h in
+      let code : i ≡ c.code = e ∙ ap (λ (s : Bytes). get_or s 0 0) c.is in
+      none-ne-some c.reader (sym has ∙ ap (λ (n : ℕ). at n table) code ∙ c.has)

@@ -5,7 +5,6 @@ pub mod TypeEntries
 pub mod Parts
 pub mod Rows
 pub mod TermRows
-pub mod Classes
 pub mod SymbolEntries
 pub mod ChildLaws
 pub mod LeafEntries

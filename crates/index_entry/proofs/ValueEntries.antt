@@ -12,19 +12,19 @@ use borrow.Author.Tests.{leb-true, le-leb}
 use Rattle.script_spec.specs.Base.{Bytes, bytes, at, same, lookup}
 use Rattle.script_spec.specs.Tree as tree
 use Rattle.script_spec.specs.Fields as fields
-use Rattle.script_spec.specs.Fields.{Entry, got, Reader, ◌>>=◌, pure, byte, number, address, prefix, low, high, part, coded, leaf, marks}
-use Rattle.script_spec.proofs.Readers.{bind_bad, bad_not_got, got_value, got_rest}
-use Rattle.read_field.specs.Reads.{value, refusal, as_read, Reads}
+use Rattle.script_spec.specs.Fields.{Entry, got, Reader, ◌>>=◌, pure, byte, number, address, prefix, low, high, part, leaf, marks}
+use Rattle.script_spec.proofs.Readers.{bad_not_got, got_value, got_rest}
+use Rattle.std.specs.Prelude as std
+use Rattle.read_field.specs.Takes.{prefix_number}
 use Rattle.read_field.proofs.Coded.{at_past}
 use Rattle.read_record.specs.Fields.{values}
 use Rattle.index.specs.Lists.{number_at}
-use Rattle.index_entry.proofs.Inverse.{bind_inverse, ensure_inverse, part_inverse}
-use Rattle.index_entry.proofs.TypeEntries.{coded_at, coded_none}
+use Rattle.index_entry.proofs.Inverse.{bind_inverse, ensure_inverse, part_inverse, coded_at, coded_none}
 use Rattle.index_entry.specs.Terms.{value_of, term_said, IsTerm}
 use Rattle.index_entry.specs.declared.terms.Value.{Value}
 use Rattle.index_entry.specs.declared.terms.Value.TheVariants as val
 use Rattle.index_entry.specs.declared.terms.TermEntry.TheVariants as entry
-use Rattle.index_entry.proofs.LeafEntries.{is_term_lem, no_term}
+use Rattle.index_entry.proofs.LeafEntries.{is_term_lem}
 
 -- ---- what was read
 
@@ -94,55 +94,49 @@ module _ (body : Bytes) where
 abbrev xx : Reader Entry
 xx = ◌>>=◌ fields.value (λ v. pure (leaf (tree.ExtLit v)))
 
-module _ {body : Bytes} where
-  after_code : {code to : ℕ} → Reads byte body 0 (value code to) → drop 1 body ≡ drop to body
-  unfolding as_read
-  after_code r = byte_inverse body r.is (λ v d. d)
-
-  value_known : {code to : ℕ} (i : ℕ) (reader : Reader tree.Value) {v : Value} → Reads byte body 0 (value code to) → code ≡ i → at i values ≡ some reader
+module _ {body : Bytes} {code : ℕ} (r : code ≡ get_or body 0 0) where
+  value_known : (i : ℕ) (reader : Reader tree.Value) {v : Value} → code ≡ i → at i values ≡ some reader
       → ((x : tree.Value) (rest : Bytes) → reader (drop 1 body) ≡ got x rest → value_of v ≡ x) → IsTerm (some (bytes "XX")) body (entry.ExtLit v)
-  unfolding marks lookup same bytes term_said pure as_read values leaf fields.value
-  value_known i reader {v} r e h is =
+  unfolding marks lookup same bytes term_said pure values leaf fields.value
+  value_known i reader {v} e h is =
       is_term_lem (bytes "XX") xx _ refl (λ y g.
       bind_inverse fields.value _ body g (λ x mid p q.
-      let known : value_of v ≡ x = is x mid (ap reader (after_code r) ∙ sym (coded_at body values r.is reader i e h) ∙ p) in
+      let known : value_of v ≡ x = is x mid (coded_at values body p (sym e ∙ r) reader h) in
       ap (λ (x : tree.Value). some (leaf (tree.ExtLit x))) known ∙ ap some (got_value (leaf (tree.ExtLit x)) y mid [] q)))
 
-  pub value_v4 : {code to a p : ℕ} → Reads byte body 0 (value code to) → code ≡ 0
-      → a ≡ ((get_or body 1 0 * 256 + get_or body 2 0) * 256 + get_or body 3 0) * 256 + get_or body 4 0 → p ≡ get_or body 5 0 → IsTerm (some (bytes "XX")) body (entry.ExtLit (val.V4 a p))
+  pub value_v4 : {a : ℕ} (p : std.Option ℕ) → code ≡ 0
+      → a ≡ ((get_or body 1 0 * 256 + get_or body 2 0) * 256 + get_or body 3 0) * 256 + get_or body 4 0 → prefix_number p ≡ get_or body 5 0 → IsTerm (some (bytes "XX")) body (entry.ExtLit (val.V4 a p))
   unfolding values at value_of pure
-  value_v4 {a = a} {p} r e four short =
-      value_known 0 _ r e refl (λ x rest g.
+  value_v4 {a} p e four short =
+      value_known 0 _ e refl (λ x rest g.
       bind_inverse (address 4) _ (drop 1 body) g (λ n mid u w. address_inverse 4 (drop 1 body) u (λ l v d.
       bind_inverse (prefix 32) _ mid w (λ m left y z. prefix_inverse 32 mid y (λ b.
       let n-is : a ≡ n = four ∙ sym (four_after body l) ∙ v in
-      let m-is : p ≡ m = short ∙ sym (simp get_or-drop) ∙ ap (λ (s : Bytes). get_or s 0 0) d ∙ b in
+      let m-is : prefix_number p ≡ m = short ∙ sym (simp get_or-drop) ∙ ap (λ (s : Bytes). get_or s 0 0) d ∙ b in
       (λ i. tree.V4 (n-is i) (m-is i)) ∙ got_value (tree.V4 n m) x left rest z)))))
 
-  pub value_v6 : {code to high' low' p : ℕ} {s : Bytes} → Reads byte body 0 (value code to) → code ≡ 1 → s ≡ take 16 (drop 1 body) → high' * 2 ^ 64 + low' ≡ high 0 (take 16 s)
-      → p ≡ get_or body 17 0 → IsTerm (some (bytes "XX")) body (entry.ExtLit (val.V6 (record { high = high'; low = low' }) p))
+  pub value_v6 : {a : ℕ} (p : std.Option ℕ) {s : Bytes} → code ≡ 1 → s ≡ take 16 (drop 1 body) → a ≡ high 0 (take 16 s)
+      → prefix_number p ≡ get_or body 17 0 → IsTerm (some (bytes "XX")) body (entry.ExtLit (val.V6 a p))
   unfolding values at value_of pure
-  value_v6 {high' = high'} {low'} {p} r e bs is short =
-      value_known 1 _ r e refl (λ x rest g.
+  value_v6 {a} p e bs is short =
+      value_known 1 _ e refl (λ x rest g.
       bind_inverse (address 16) _ (drop 1 body) g (λ n mid u w. address_inverse 16 (drop 1 body) u (λ l v d.
       bind_inverse (prefix 128) _ mid w (λ m left y z. prefix_inverse 128 mid y (λ b.
-      let n-is : high' * 2 ^ 64 + low' ≡ n = is ∙ ap (λ (s : Bytes). high 0 (take 16 s)) bs ∙ ap (high 0) (take-take 16 16 (drop 1 body) (le_refl 16)) ∙ v in
-      let m-is : p ≡ m = short ∙ sym (simp get_or-drop) ∙ ap (λ (s : Bytes). get_or s 0 0) d ∙ b in
+      let n-is : a ≡ n = is ∙ ap (λ (s : Bytes). high 0 (take 16 s)) bs ∙ ap (high 0) (take-take 16 16 (drop 1 body) (le_refl 16)) ∙ v in
+      let m-is : prefix_number p ≡ m = short ∙ sym (simp get_or-drop) ∙ ap (λ (s : Bytes). get_or s 0 0) d ∙ b in
       (λ i. tree.V6 (n-is i) (m-is i)) ∙ got_value (tree.V6 n m) x left rest z)))))
 
   -- 64 bits
-  pub value_bits : {code to n : ℕ} (i : ℕ) (k : ℕ → tree.Value) (v : Value) → Reads byte body 0 (value code to) → code ≡ i → at i values ≡ some (◌>>=◌ (number 8) (λ n. pure (k n)))
+  pub value_bits : {n : ℕ} (i : ℕ) (k : ℕ → tree.Value) (v : Value) → code ≡ i → at i values ≡ some (◌>>=◌ (number 8) (λ n. pure (k n)))
       → value_of v ≡ k n → n ≡ number_at body 1 + number_at body 5 * 2 ^ 32 → IsTerm (some (bytes "XX")) body (entry.ExtLit v)
   unfolding pure
-  value_bits i k v r e h is bits =
-      value_known i _ r e h (λ x rest g.
+  value_bits i k v e h is bits =
+      value_known i _ e h (λ x rest g.
       bind_inverse (number 8) _ (drop 1 body) g (λ m mid u w. number_inverse 8 (drop 1 body) u (λ l t.
       is ∙ ap k (bits ∙ eight_after body l ∙ t) ∙ got_value (k m) x mid rest w)))
 
-  pub value_short : {n : ℕ} → Reads byte body 0 (refusal n) → IsTerm (some (bytes "XX")) body entry.Unreadable
-  unfolding marks lookup same bytes as_read coded fields.value
-  value_short r = no_term (bytes "XX") xx refl (bind_bad fields.value _ (bind_bad byte _ r.is))
-
-  pub value_unknown : {code to : ℕ} → Reads byte body 0 (value code to) → 5 ≤ code → IsTerm (some (bytes "XX")) body entry.Unreadable
-  unfolding marks lookup same bytes as_read values fields.value
-  value_unknown {code} r h = no_term (bytes "XX") xx refl (bind_bad fields.value _ (coded_none body values r.is (at_past values code h)))
+  pub value_unknown : 5 ≤ code → IsTerm (some (bytes "XX")) body entry.Unreadable
+  unfolding marks lookup same bytes values fields.value
+  value_unknown h =
+      is_term_lem (bytes "XX") xx _ refl (λ y g.
+      bind_inverse fields.value _ body g (λ x mid p q. absurd (coded_none values body p r (at_past values code h))))

@@ -3,28 +3,20 @@ ghost use Rattle.index.specs.Cells.{cell, type_offset, fun_offset};
 ghost use Rattle.index_entry.specs.Types.{TypeAt};
 ghost use Rattle.index_entry.specs.Symbols.{FunAt};
 
-use crate::symbols::Fun;
-use crate::types::TypeEntry;
-use crate::{symbols, types};
-use index::Sizes;
+use crate::symbols::{self, Fun};
+use crate::types::{self, TypeEntry};
+use index::{Column, Records};
 
 // The type with number t.
-pub fn type_at(file: &[u8], work: &[u32], sizes: Sizes, t: u32) -> TypeEntry
-    ensures { TypeAt file.now (cell work.now sizes.rows type_offset t) result }
+pub fn type_at(records: Records<'_>, t: u32) -> TypeEntry<'_>
+    ensures { TypeAt records.entry.file.now (cell records.entry.work.now records.entry.sizes.rows type_offset t) result }
 {
-    let offset = index::get(
-        work,
-        sizes.rows,
-        index::TYPE_OFFSET,
-        crate::records::wide(t),
-    );
-    types::type_at(file, offset)
+    types::type_at(records.file, records.get(Column::TypeOffset, t))
 }
 
 // The function with number g.
-pub fn fun_at(file: &[u8], work: &[u32], sizes: Sizes, g: u32) -> Fun
-    ensures { FunAt file.now (cell work.now sizes.rows fun_offset g) result }
+pub fn fun_at(records: Records<'_>, g: u32) -> Fun
+    ensures { FunAt records.entry.file.now (cell records.entry.work.now records.entry.sizes.rows fun_offset g) result }
 {
-    let offset = index::get(work, sizes.rows, index::FUN_OFFSET, crate::records::wide(g));
-    symbols::fun_at(file, offset)
+    symbols::fun_at(records.file, records.get(Column::FunOffset, g))
 }

@@ -1,57 +1,44 @@
 // The terms of an accepted file, read again by their offsets.
-
-ghost use Rattle.std.specs.Prelude.{◌≡◌, [], ◌∷◌, ◌+◌, ◌<◌, drop};
+ghost use Rattle.std.specs.Prelude.{◌≡◌, [], ◌∷◌, drop};
+ghost use Rattle.std.specs.Iterator.{YieldsFirst, item_count};
 ghost use Rattle.std.proofs.Math.Option.{some};
-ghost use Rattle.index_entry.specs.Terms.{IsTerm, TermAt};
-ghost use Rattle.index_entry.specs.Children.{past_name, TakesChild};
+ghost use Rattle.index.specs.Lists.{number_at};
+ghost use Rattle.index_entry.specs.Terms.{children_in, names_of, IsTerm, TermAt};
+ghost use Rattle.index_entry.specs.Children.{past_name, ListedAt};
 
-use crate::lists;
-use read_field::Span;
+use crate::lists::{self, Texts};
+use crate::records;
 use read_operator::Op;
-use write_bitvec::halves::Halves;
 
-// The terms that a record refers to: so many numbers from a place of the body on, each after a text where `named`.
+// The terms that a record refers to, or the parts of a type: so many numbers from a place of the body on, each after a text where `named`.
 #[derive(Clone, Copy)]
-pub struct Children {
+pub struct Children<'a> {
+    pub body: &'a [u8],
     pub from: usize,
     pub left: u32,
     pub named: bool,
 }
 
-// The first of the terms that a record refers to, by its number, and the others.
-#[derive(Clone, Copy)]
-pub struct Child {
-    pub number: u32,
-    pub rest: Children,
-}
-
 // An application: its operator, its arguments and its number.
 #[derive(Clone, Copy)]
-pub struct Application {
-    pub op: Op,
-    pub arguments: Children,
+pub struct Application<'a> {
+    pub op: Op<'a>,
+    pub arguments: Children<'a>,
     pub number: u32,
 }
 
 // A set or a record: its number and what it is of.
 #[derive(Clone, Copy)]
-pub struct Compound {
+pub struct Compound<'a> {
     pub number: u32,
-    pub children: Children,
-}
-
-// An entity: its number, and the number of its type.
-#[derive(Clone, Copy)]
-pub struct Entity {
-    pub number: u32,
-    pub of: u32,
+    pub children: Children<'a>,
 }
 
 // An extension value: an address and its prefix, or 64 bits.
 #[derive(Clone, Copy)]
 pub enum Value {
-    V4(u64, u32),
-    V6(Halves, u32),
+    V4(u32, Option<u32>),
+    V6(u128, Option<u32>),
     Decimal(u64),
     Datetime(u64),
     Duration(u64),
@@ -60,58 +47,104 @@ pub enum Value {
 // A term as its record has it: types and terms by their numbers, texts as parts of the body. `Unreadable` stands for what is no
 // term.
 #[derive(Clone, Copy)]
-pub enum TermEntry {
-    Var(Span, u32),
+pub enum TermEntry<'a> {
+    Var(&'a [u8], u32),
     BoolLit(bool),
-    BitVecLit(u32, Halves),
-    StringLit(Span),
-    Entity(u32, Span),
+    BitVecLit(u32, u128),
+    StringLit(&'a [u8]),
+    Entity(u32, &'a [u8]),
     ExtLit(Value),
     None(u32),
     Some(u32),
-    Set(u32, Children),
-    Record(Children),
-    App(u32, Op, Children),
+    Set(u32, Children<'a>),
+    Record(Children<'a>),
+    App(u32, Op<'a>, Children<'a>),
     Unreadable,
 }
 
-// Where the number of the first child stands: after its name, where it has one.
-fn place_of_child(body: &[u8], from: usize, named: bool) -> usize
-    ensures { drop result body.now ≡ past_name named (drop from body.now) }
-{
-    if named {
-        return lists::past_text(body, from);
+impl<'a> Children<'a> {
+    // No children.
+    pub fn none(body: &'a [u8]) -> Children<'a>
+        ensures { children_in result ≡ [] }
+    {
+        Children {
+            body,
+            from: 0,
+            left: 0,
+            named: false,
+        }
     }
-    from
+
+    // The child alone that a body begins with.
+    pub fn alone(body: &'a [u8]) -> Children<'a>
+        ensures { children_in result ≡ number_at body.now 0 ∷ [] }
+    {
+        Children {
+            body,
+            from: 0,
+            left: 1,
+            named: false,
+        }
+    }
+
+    // The children in a list at a place of the body: its count, and then so many, each after a text where `named`.
+    pub fn listed(body: &'a [u8], at: usize, named: bool) -> Children<'a>
+        ensures { ListedAt body.now at named result }
+    {
+        let left = records::number_at(body, at);
+        let from = lists::past(body, at, 4);
+        Children {
+            body,
+            from,
+            left,
+            named,
+        }
+    }
+
+    // The texts before the numbers, where each has one.
+    pub fn names(&self) -> Texts<'a>
+        ensures { result ≡ names_of self.now }
+    {
+        Texts {
+            body: self.body,
+            from: self.from,
+            left: self.left,
+            skip: 4,
+        }
+    }
+
+    // Where the number of the first child stands: after its name, where it has one.
+    fn place(&self) -> usize
+        ensures { drop result self.now.body.now ≡ past_name self.now.named (drop self.now.from self.now.body.now) }
+    {
+        if self.named {
+            return lists::past_text(self.body, self.from);
+        }
+        self.from
+    }
 }
 
-// One less, or 0.
-fn one_less(n: u32) -> u32
-    ensures { 0 < n → result + 1 ≡ n }
-{
-    if n == 0 {
-        return 0;
-    }
-    n - 1
-}
+impl Iterator for Children<'_> {
+    type Item = u32;
 
-// The first child and the others, where there is one.
-pub fn take_child(body: &[u8], c: Children) -> Child
-    ensures { TakesChild body.now c result }
-{
-    let named = c.named;
-    let at = place_of_child(body, c.from, named);
-    let number = crate::records::number_at(body, at);
-    let from = lists::past(body, at, 4);
-    let left = one_less(c.left);
-    Child {
-        number,
-        rest: Children { from, left, named },
+    ghost next_gives = { YieldsFirst children_in };
+
+    ghost remaining = { item_count children_in };
+
+    fn next(&mut self) -> Option<u32> {
+        if self.left == 0 {
+            return None;
+        }
+        let at = self.place();
+        let number = records::number_at(self.body, at);
+        self.from = lists::past(self.body, at, 4);
+        self.left -= 1;
+        Some(number)
     }
 }
 
 // The term of a body under a mark that begins with X, by its second byte.
-fn term_of(letter: u8, body: &[u8]) -> TermEntry
+fn term_of(letter: u8, body: &[u8]) -> TermEntry<'_>
     ensures { IsTerm (some (88 ∷ letter ∷ [])) body.now result }
 {
     match letter {
@@ -131,9 +164,9 @@ fn term_of(letter: u8, body: &[u8]) -> TermEntry
 }
 
 // The term at an offset of the file.
-pub fn term_at(file: &[u8], offset: u32) -> TermEntry
+pub fn term_at(file: &[u8], offset: u32) -> TermEntry<'_>
     ensures { TermAt file.now offset result }
 {
-    let letter = crate::records::letter_at(file, offset);
-    term_of(letter, crate::records::body_at(file, offset))
+    let letter = records::letter_at(file, offset);
+    term_of(letter, records::body_at(file, offset))
 }

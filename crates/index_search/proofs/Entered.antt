@@ -158,10 +158,10 @@ module _ {file : Bytes} {f : TermFile} {work : List ℕ} {k : ℕ} (I : Indexed 
             (enrolled_reached A fits work' same _ (terms_kept file f (term t) k work work' I.index U) (entry_added file f (term t) k work' term_offset n S.offset_is s) I.searchable.term_slots));
       }
 
-  pub indexed_enum : {work₀ : List ℕ} {o r : ℕ} {name : Bytes} {members : List Bytes} → NewName work work₀ k f (length (enums f)) name r → Stands file f (earlier f) o (enum name members)
+  pub indexed_enum : {work₀ : List ℕ} {o : ℕ} {name : Bytes} {members : List Bytes} → NewName work work₀ k f (length (enums f)) name → Stands file f (earlier f) o (enum name members)
       → Indexed file (f ++ (enum name members ∷ [])) (store (store (store work₀ k enum_offset (length (enums f)) o) k enum_place (length (enums f)) (length f)) k enum_list (length (enums f)) 0) k
   unfolding shared placed
-  indexed_enum {work₀} {o} {r} {name} {members} N s =
+  indexed_enum {work₀} {o} {name} {members} N s =
       let n = length (enums f) in
       let T = N.stored in
       let work' = store (store (store work₀ k enum_offset n o) k enum_place n (length f)) k enum_list n 0 in

@@ -1,7 +1,6 @@
 -- The search of a name: the enum that has it is the first of that name, and its members are those of the name.
 -- Assumes nothing.
 use mathlib.Core.Path.{◌≡◌, refl, sym, ap, ◌∙◌}
-use mathlib.Core.Logic.{⊎_elim}
 use Prim.Native.Nat.{ℕ, zero, suc, ◌<◌}
 use native.Mathlib.Nat.{not-suc-le-zero, le_of_suc-le-suc}
 use borrow.Author.Tests.{ltb-true, ltb-false, lt-ltb, le-ltb}
@@ -9,17 +8,19 @@ use native.Mathlib.Omega.{arith}
 use mathlib.Core.Bool.{Bool, true, false}
 use mathlib.Core.List.{List, [], ◌∷◌}
 use mathlib.Core.Option.{Option, none, some}
+use Rattle.std.specs.Option.{unwrap_or}
+use Rattle.std.specs.Prelude as rust
 use lib.Dec.{ltb}
 use lib.ListN.{length, get_or}
 use Rattle.script_spec.specs.Base.{Bytes, same, place, place_from, firsts, lookup}
 use Rattle.script_spec.specs.File.{TermFile, enums, members}
 use Rattle.index.specs.First.{or_else}
 use Rattle.index.specs.Names.{enum_name, enum_number}
-use Rattle.index.specs.Meaning.{CheckedIndex}
+use Rattle.index.specs.Meaning.{Rows, SizesOf}
 use Rattle.index.specs.declared.Sizes.{Sizes}
-use Rattle.index_search.specs.Named.{FindsNamed}
+use Rattle.index_search.specs.Named.{HitNamed, MissNamed}
 use Rattle.index_search.proofs.Lookup.{equal_texts, other_texts}
-use Rattle.index_search.specs.Enums.{enum_at, members_at, FindsEnum}
+use Rattle.index_search.specs.Enums.{enum_at, members_at, found_place, FindsEnum}
 
 -- ---- a table of texts
 
@@ -70,22 +71,37 @@ pub number_members : (f : TermFile) (name : Bytes) → members f name ≡ member
 unfolding members members_at enum_at enum_number or_else chosen
 number_members f name = lookup_place name (enums f)
 
-pub finds_members : {file : Bytes} {work : List ℕ} {sizes : Sizes} {name : Bytes} {r : ℕ} → FindsEnum file work sizes name r → (f : TermFile) → CheckedIndex file f work sizes
-    → members f name ≡ members_at f r
-finds_members {name = name} F f I = number_members f name ∙ ap (members_at f) (sym (F.go f I))
+-- the number that is found, or how many enums there are
+pub found_number : (r : rust.Option ℕ) (d : ℕ) {o : Option ℕ} → found_place r ≡ o → unwrap_or r d ≡ or_else d o
+unfolding or_else
+found_number rust.None d e = rw (← e)
+found_number (rust.Some n) d e = rw (← e)
 
-pub finds_named : {file : Bytes} {work : List ℕ} {sizes : Sizes} {r : ℕ} {name : Bytes} → FindsNamed file work sizes name r → FindsEnum file work sizes name r
-unfolding enum_number enum_name or_else
-finds_named {r = r} {name = name} F =
-    record {
-      go = λ f I.
-          let e = I.sizes_are.enums_are in
-          ⊎_elim
-          (λ h.
-          let inside : r < length (enums f) = omega (arith, h.below) in
-          rw (place_found name (enums f) r inside
-          (λ j m. other_texts name _ (λ q. let z = I.rows.names.only j r (omega arith) inside (q ∙ sym h.equal) in omega arith))
-          (equal_texts name _ h.equal)))
-          (λ m. rw (place_nowhere name (enums f) (λ j l. other_texts name _ (λ q. m.none j (omega arith) q))) (m.is ∙ e))
-          (F.go f I.rows I.sizes_are);
-    }
+-- it is that of the enum with the name
+pub finds_number : {file : Bytes} {work : List ℕ} {sizes : Sizes} {name : Bytes} {r : rust.Option ℕ} → FindsEnum file work sizes name r → (f : TermFile) → Rows file f work sizes.rows → SizesOf f sizes → unwrap_or r sizes.enums ≡ enum_number f name
+unfolding enum_number
+finds_number {r = r} F f I c = rw c.enums_are (found_number r (length (enums f)) (F.go f I c))
+
+-- and its members are those of the name
+pub finds_members : {file : Bytes} {work : List ℕ} {sizes : Sizes} {name : Bytes} {r : rust.Option ℕ} → FindsEnum file work sizes name r → (f : TermFile) → Rows file f work sizes.rows → SizesOf f sizes
+    → members f name ≡ members_at f (unwrap_or r sizes.enums)
+finds_members {name = name} F f I c = number_members f name ∙ ap (members_at f) (sym (finds_number F f I c))
+
+-- ---- an enum that has the name, and none
+
+module _ {file : Bytes} {work : List ℕ} {sizes : Sizes} {f : TermFile} {name : Bytes} (I : Rows file f work sizes.rows) (c : SizesOf f sizes) where
+  pub hit_place : {r : ℕ} → HitNamed f sizes.enums name r → some r ≡ place (same name) (firsts (enums f))
+  unfolding enum_name
+  hit_place {r} h =
+      let e = c.enums_are in
+      let inside : r < length (enums f) = omega (arith, h.below) in
+      sym
+      (place_found name (enums f) r inside
+      (λ j m. other_texts name _ (λ q. let z = I.names.only j r (omega arith) inside (q ∙ sym h.equal) in omega arith))
+      (equal_texts name _ h.equal))
+
+  pub miss_place : MissNamed f sizes.enums name → ◌≡◌ {A = Option ℕ} none (place (same name) (firsts (enums f)))
+  unfolding enum_name
+  miss_place m =
+      let e = c.enums_are in
+      sym (place_nowhere name (enums f) (λ j l. other_texts name _ (λ q. m.none j (omega arith) q)))

@@ -5,7 +5,6 @@ use Prim.Native.Nat.{ℕ}
 use mathlib.Core.Bool.{Bool, true, false, true≢false}
 use mathlib.Core.List.{List}
 use Rattle.script_spec.specs.Base.{Bytes}
-use Rattle.script_spec.proofs.Laws.{never}
 use Rattle.index.specs.Standing.{mark_at, body_at, entry_at}
 use Rattle.index_compare.proofs.Prints.{Octets}
 use Rattle.index_compare.specs.View.{Decides, SameSegments, viewed}
@@ -28,7 +27,7 @@ module _ (file : Bytes) (work : List ℕ) (k o p : ℕ) {a b : Bytes} {r : Bool}
       }
 
   -- other marks
-  pub other_marks : r ≡ false → SameAt file work k o p false
+  pub other_marks : r ≡ false → SameAt file work k o p r
   unfolding entry_at
   other_marks h =
       record {
@@ -37,6 +36,6 @@ module _ (file : Bytes) (work : List ℕ) (k o p : ℕ) {a b : Bytes} {r : Bool}
               true_of = λ e.
                   let marks : a ≡ b = is ∙ entry_mark (mark_at file o) (body_at file o) X.reads ∙ sym (mark_canonical f x) ∙ ap mark_of e ∙ mark_canonical f y ∙ sym (entry_mark (mark_at file p) (body_at file p) Y.reads) ∙ sym is' in
                   absurd (true≢false (sym (test.1 marks) ∙ h));
-              of_true = λ t. never cc;
+              of_true = λ t. absurd (true≢false (sym t ∙ h));
             };
       }

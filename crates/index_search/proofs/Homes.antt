@@ -11,7 +11,7 @@ use Rattle.script_spec.specs.Base.{Bytes}
 use Rattle.script_spec.specs.Tree.{Var, BoolLit, BitVecLit, StringLit, Entity, ExtLit, None, Some, Set, Record, App}
 use Rattle.script_spec.specs.Fields.{Entry, type, enum, func, term, input}
 use Rattle.script_spec.specs.File.{TermFile, earlier}
-use Rattle.index.specs.Cells.{placed, cell, store, hash, type_first, fun_first, term_first}
+use Rattle.index.specs.Cells.{placed, cell, type_first, fun_first, term_first}
 use Rattle.index.specs.First.{renamed, renumbered, canonical, InRange}
 use Rattle.index.specs.Standing.{mark_at, body_at, entry_at}
 use Rattle.index.specs.Meaning.{Rows}
@@ -28,10 +28,9 @@ use Rattle.check_rules.specs.Marks.{term_bytes, mark_of}
 use Rattle.check_rules.proofs.Marks.{entry_mark}
 use Rattle.index.specs.Names.{mixed_bytes}
 use Rattle.index_search.specs.Hash.{hashed, record_hash}
-use Rattle.index.specs.Names.{slot, scaled, name_home}
+use Rattle.index.specs.Names.{scaled, name_home}
 use Rattle.index_search.specs.Slots.{home_of}
-use Rattle.index_search.specs.Storing.{Scales, Home, NameHome, FirstEmpty, Stores}
-use Rattle.index_search.proofs.Ring.{empties_some, empty_near}
+use Rattle.index_search.specs.Storing.{Scales, Home, NameHome}
 
 pub mark_canonical : (f : TermFile) (x : Entry) → mark_of (canonical f x) ≡ mark_of x
 unfolding mark_of term_bytes canonical renumbered renamed
@@ -93,11 +92,3 @@ home_found work {k} o octets e S = record { inside = S.inside; is = λ f x I rea
 pub name_home_found : {k : ℕ} {name : Bytes} {h b : ℕ} → h ≡ mixed_bytes 0 name → Scales k h b → NameHome k name b
 unfolding name_home
 name_home_found {k} e S = record { inside = S.inside; is = λ p. S.is ∙ ap (scaled k) e }
-
-pub stored_there : {work work' : List ℕ} {k b d s v : ℕ} → FirstEmpty k (cell work k hash) b d → s ≡ slot k b d → work' ≡ store work k hash s v → Stores work work' k b v
-stored_there {k = k} F e q =
-    record {
-      go = λ inside p.
-          let l = empties_some _ k p in
-          record { inside = inside l; distance = _; near = empty_near (inside l) p F; first = F; is = rw (← e) q };
-    }

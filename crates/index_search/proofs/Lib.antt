@@ -3,12 +3,13 @@ pub mod Shapes
 pub mod Ring
 pub mod Homes
 pub mod Reach
+pub mod Narrow
 pub mod Probing
 pub mod Equal
 pub mod Searching
 pub mod Numbers
 pub mod Growth
 pub mod Entered
-pub mod Naming
 pub mod Lookup
 pub mod EnumLaws
+pub mod Naming

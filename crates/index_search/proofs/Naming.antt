@@ -1,93 +1,77 @@
--- The search goes through the slots from the home of a name: none that was passed is empty or has an enum of the name.
+-- The search for a name, from its home.
 -- Assumes nothing.
-use mathlib.Core.Path.{◌≡◌, refl, sym, ◌∙◌}
-use mathlib.Core.Logic.{inl, inr, ⊎_elim}
-use Prim.Native.Nat.{ℕ, ◌+◌, ◌-◌, ◌/◌, ◌≤◌, ◌<◌}
+use mathlib.Core.Path.{◌≡◌, sym, ◌∙◌}
+use Prim.Native.Nat.{ℕ, ◌<◌}
 use native.Mathlib.Omega.{arith}
-use mathlib.Core.Bool.{Bool, true, false}
+use mathlib.Core.Bool.{Bool, true}
 use mathlib.Core.List.{List, []}
-use lib.Dec.{eqb}
-use lib.ListN.{length, get_or}
+use lib.ListN.{get_or}
+use Rattle.std.specs.Result.{result_ok}
+use Rattle.std.specs.Prelude.{Result, Ok, Err, Option, Some, None}
 use Rattle.script_spec.specs.Base.{Bytes}
 use Rattle.script_spec.specs.File.{TermFile, enums}
 use Rattle.index.specs.Cells.{cell, enum_offset, hash}
-use Rattle.index.specs.Names.{slot, code_of, name_home, enum_name, Reached}
-use Rattle.index.proofs.Growth.{counts_fewer}
-use Rattle.check_rules.specs.Enums.{NameAt}
-use Rattle.index_search.specs.Storing.{NameHome, Stores}
-use Rattle.index_search.proofs.Probing.{held_past, held_other, held_same, Passed, passed_none, passed_more, none_at_all, none_beyond}
+use Rattle.index.specs.Names.{name_home, enum_name}
+use Rattle.index.specs.Meaning.{Rows, SizesOf}
 use Rattle.index.specs.declared.Sizes.{Sizes}
-use Rattle.index_search.specs.Named.{Among, HoldsNamed, ProbesNamed, FindsNamed, EnrolsNamed}
+use Rattle.index.specs.declared.Records.{Records}
+use Rattle.index.specs.declared.RecordsMut.{RecordsMut}
+use Rattle.index.proofs.Growth.{counts_fewer}
+use Rattle.index_compare.specs.View.{Decides}
+use Rattle.check_rules.specs.Enums.{NameAt}
+use Rattle.index_search.specs.Storing.{NameHome}
+use Rattle.index_search.specs.Probed.{Viewed, Met, Unmet, Probes, Takes}
+use Rattle.index_search.specs.Named.{IsNamed, HitNamed, MissNamed, EnrolsNamed}
+use Rattle.index_search.specs.Enums.{FindsEnum}
+use Rattle.index_search.proofs.Probing.{met_equal, unmet_none, taken_stored}
+use Rattle.index_search.proofs.EnumLaws.{hit_place, miss_place}
 
--- ---- one slot
+-- ---- one enum
 
-module _ {file : Bytes} {work : List ℕ} {k count : ℕ} {name : Bytes} {v n : ℕ} (is : n ≡ (v - 1) / 4) where
-  pub named_past : count ≤ n → HoldsNamed file work k count name v false
-  named_past h = record { go = λ f A. held_past is h }
+-- the name that was read, compared
+pub named_at : {file : Bytes} {work : List ℕ} {k n p : ℕ} {s name : Bytes} {r : Bool} → p ≡ cell work k enum_offset n → NameAt file p s → (r ≡ true → s ≡ name) × (s ≡ name → r ≡ true) → IsNamed file work k n name r
+unfolding enum_name
+named_at {n = n} {s = s} row N test =
+    record {
+      go = λ f I l.
+          let q : s ≡ enum_name f n = N.go (get_or (enums f) n ([], [])).0 (get_or (enums f) n ([], [])).1 (rw row (I.enum_row n l).stands) in
+          record { true_of = λ e. test.1 (q ∙ e); of_true = λ t. sym q ∙ test.0 t };
+    }
 
-  pub named_other : {h : Bool} → h ≡ eqb v (code_of n 3) → h ≡ false → HoldsNamed file work k count name v false
-  named_other has not = record { go = λ f A. held_other is has not }
+-- a test of a number says whether the enum with that number has the name
+pub record TestsNamed (file : Bytes) (work : List ℕ) (rows : ℕ) (name : Bytes) (test : ℕ → Bool → Type 0) : Type 0 where
+  pub same : (n : ℕ) (r : Bool) → test n r → IsNamed file work rows n name r
 
-  pub named_same : {h : Bool} {p : ℕ} {s : Bytes} {r : Bool} → n < count → h ≡ eqb v (code_of n 3) → h ≡ true → p ≡ cell work k enum_offset n → NameAt file p s → (r ≡ true → s ≡ name) × (s ≡ name → r ≡ true) → HoldsNamed file work k count name v r
-  unfolding enum_name
-  named_same {s = s} below has it row N test =
-      record {
-        go = λ f A.
-            let l : n < length (enums f) = omega (arith, A.count_is) in
-            let q : s ≡ enum_name f n = N.go (get_or (enums f) n ([], [])).0 (get_or (enums f) n ([], [])).1 (rw row (A.index.enum_row n l).stands) in
-            held_same is has below it (record { true_of = λ e. test.1 (q ∙ e); of_true = λ t. sym q ∙ test.0 t });
-      }
-
--- ---- the slots that were passed
-
--- no slot in the first d steps from b has an enum of the name
-pub record PassedNamed (file : Bytes) (work : List ℕ) (k count : ℕ) (name : Bytes) (b d : ℕ) : Type 0 where
-  pub other : (f : TermFile) → Among file work k count f → Passed (enum_name f) name 3 count k (cell work k hash) b d
-
--- an enum is reached by its name
-reached_by : {file : Bytes} {work : List ℕ} {k count : ℕ} {f : TermFile} → Among file work k count f → (n : ℕ) → n < count → Reached (name_home k) k (cell work k hash) 3 count (enum_name f) n
-reached_by {work = work} {k} {f = f} A n l = rw A.count_is (A.index.names.reached n (omega (arith, A.count_is)))
-
-module _ {file : Bytes} {work : List ℕ} {k count : ℕ} {name : Bytes} {b : ℕ} where
-  pub named_passed_none : PassedNamed file work k count name b 0
-  named_passed_none = record { other = λ f A. passed_none }
-
-  module _ {d : ℕ} (P : PassedNamed file work k count name b d) where
-    -- all slots were passed
-    pub named_nowhere : k ≤ d → ProbesNamed file work k count name b count
-    named_nowhere h = record { go = λ f A home. inr (record { none = λ n l q. none_at_all (P.other f A) (omega arith) home n q (reached_by A n l) h; is = refl }) }
-
-    module _ {v : ℕ} (is : v ≡ cell work k hash (slot k b d)) where
-      -- an empty slot ends the search
-      pub named_empty : v ≡ 0 → ProbesNamed file work k count name b count
-      named_empty e = record { go = λ f A home. inr (record { none = λ n l q. none_beyond (P.other f A) (omega arith) home n q (reached_by A n l) is e; is = refl }) }
-
-      module _ {r : Bool} (H : HoldsNamed file work k count name v r) where
-        pub named_held : {n : ℕ} → r ≡ true → n ≡ (v - 1) / 4 → ProbesNamed file work k count name b n
-        named_held h e = record { go = λ f A home. let K = (H.go f A).of_true h in inl (record { below = rw e K.below; equal = rw e K.equal }) }
-
-        pub named_passed_more : r ≡ false → PassedNamed file work k count name b (d + 1)
-        named_passed_more h = record { other = λ f A. passed_more (P.other f A) is (H.go f A) h }
+-- by the records as they are read
+pub tests_viewed : {m : RecordsMut} {v : Records} {name : Bytes} {test : ℕ → Bool → Type 0} → Viewed m v → TestsNamed v.file.now v.work.now v.sizes.rows name test → TestsNamed m.file.now m.work.now m.sizes.rows name test
+tests_viewed V T = rw (V.file_is, V.work_is, V.sizes_are) at T
 
 -- ---- the search
 
-module _ {file : Bytes} {work : List ℕ} {sizes : Sizes} {name : Bytes} {b r : ℕ} (H : NameHome sizes.rows name b) (P : ProbesNamed file work sizes.rows sizes.enums name b r) where
-  pub named_found : FindsNamed file work sizes name r
-  named_found = record { go = λ f I c. P.go f (record { index = I; count_is = c.enums_are }) H.is }
+module _ (file : Bytes) (work : List ℕ) (sizes : Sizes) {name : Bytes} {b : ℕ} {test : ℕ → Bool → Type 0} (H : NameHome sizes.rows name b) (T : TestsNamed file work sizes.rows name test) (f : TermFile) (I : Rows file f work sizes.rows) (c : SizesOf f sizes) where
+  decides : (n : ℕ) (r : Bool) → n < sizes.enums → test n r → Decides r (enum_name f n ≡ name)
+  decides n r l t = (T.same n r t).go f I (omega (arith, c.enums_are))
 
-  -- what was found
-  pub name_known : (r ≡ sizes.enums → ⊥) → EnrolsNamed file work work sizes name r
-  name_known h = record { go = λ f I c room. inl (record { hit = ⊎_elim (λ K. K) (λ M. absurd (h M.is)) (P.go f (record { index = I.index; count_is = c.enums_are }) H.is); unchanged = refl }) }
+  named_hit : {n : ℕ} → Met sizes.rows (cell work sizes.rows hash) 3 sizes.enums test b n → HitNamed f sizes.enums name n
+  named_hit M = record { below = M.below; equal = met_equal (enum_name f) name decides M }
 
-  -- nothing was found
-  pub name_new : {work' : List ℕ} {v : ℕ} → r ≡ sizes.enums → (sizes.enums < 1048576 → 3 < 4 → v ≡ code_of sizes.enums 3) → Stores work work' sizes.rows b v → EnrolsNamed file work work' sizes name r
-  name_new e code S =
-      record {
-        go = λ f I c room.
-            let small : sizes.enums < 1048576 = omega (arith, I.searchable.small, (counts_fewer f).enums_fewer, c.enums_are) in
-            inr
-            (record {
-              miss = ⊎_elim (λ K. absurd (omega (arith, K.below))) (λ M. M) (P.go f (record { index = I.index; count_is = c.enums_are }) H.is);
-              stored = rw (H.is (omega arith), code small (omega arith)) at (S.go H.inside (omega (arith, I.searchable.taken)));
-            });
-      }
+  named_miss : {d : ℕ} → Unmet sizes.rows (cell work sizes.rows hash) 3 sizes.enums test b d → MissNamed f sizes.enums name
+  named_miss U = record { none = λ n l q. unmet_none (enum_name f) name decides U {home = name_home sizes.rows} H.is n q (rw c.enums_are (I.names.reached n (omega (arith, c.enums_are)))) }
+
+pub name_found : (file : Bytes) {work : List ℕ} (sizes : Sizes) {name : Bytes} {b : ℕ} {test : ℕ → Bool → Type 0} {o : Option ℕ} → NameHome sizes.rows name b → TestsNamed file work sizes.rows name test → (r : Result ℕ ℕ) → Probes work sizes.rows 3 sizes.enums test b r → o ≡ result_ok r
+    → FindsEnum file work sizes name o
+name_found file {work} sizes H T (Ok n) P e = record { go = λ f I c. rw e (hit_place I c (named_hit file work sizes H T f I c P.told)) }
+name_found file {work} sizes H T (Err d) P e = record { go = λ f I c. rw e (miss_place I c (named_miss file work sizes H T f I c P.told)) }
+
+pub name_enrolled : (v : RecordsMut) {w : RecordsMut} {name : Bytes} {b : ℕ} {test : ℕ → Bool → Type 0} → NameHome v.sizes.rows name b → TestsNamed v.file.now v.work.now v.sizes.rows name test → (r : Option ℕ) → Takes v w 3 v.sizes.enums test b r → EnrolsNamed v w name r
+name_enrolled v H T (Some n) E = record { stays = E.stays; go = λ f I c room. record { hit = named_hit v.file.now v.work.now v.sizes H T f I.index c E.told.0; unchanged = E.told.1 } }
+name_enrolled v H T None E =
+    record {
+      stays = E.stays;
+      go = λ f I c room.
+          let U = E.told.1 in
+          record {
+            miss = named_miss v.file.now v.work.now v.sizes H T f I.index c U;
+            stored = rw (H.is (omega arith)) at (taken_stored U.empty H.inside (omega (arith, I.searchable.taken)) (E.told.2 (omega (arith, I.searchable.small, (counts_fewer f).enums_fewer, c.enums_are))));
+          };
+    }

@@ -2,10 +2,10 @@
 -- Assumes nothing.
 use Rattle.std.specs.Prelude.{◌≡◌, ℕ, true, false, List, [], ltb, length, get_or}
 use Rattle.std.proofs.Math.Option.{Option, none, some}
-use Rattle.script_spec.specs.Base.{Bytes}
+use Rattle.std.specs.Prelude as rust
+use Rattle.script_spec.specs.Base.{Bytes, same, place, firsts}
 use Rattle.script_spec.specs.File.{TermFile, enums}
-use Rattle.index.specs.Names.{enum_number}
-use Rattle.index.specs.Meaning.{CheckedIndex}
+use Rattle.index.specs.Meaning.{Rows, SizesOf}
 use Rattle.index.specs.declared.Sizes.{Sizes}
 
 -- the enum with a number: its name and its members
@@ -16,6 +16,11 @@ enum_at f n = get_or (enums f) n ([], [])
 unfoldable pub members_at : TermFile → ℕ → Option (List Bytes)
 members_at f n = elim (ltb n (length (enums f))) [ true ↦ some (enum_at f n).1 | false ↦ none ]
 
--- the number that was found is that of the enum with the name
-pub record FindsEnum (file : Bytes) (work : List ℕ) (sizes : Sizes) (name : Bytes) (r : ℕ) : Type 0 where
-  pub go : (f : TermFile) → CheckedIndex file f work sizes → r ≡ enum_number f name
+-- an answer as the place that it tells
+abbrev pub found_place : rust.Option ℕ → Option ℕ
+found_place rust.None = none
+found_place (rust.Some n) = some n
+
+-- the number that was found is that of the enum with the name, and none is found where no enum has it
+pub record FindsEnum (file : Bytes) (work : List ℕ) (sizes : Sizes) (name : Bytes) (r : rust.Option ℕ) : Type 0 where
+  pub go : (f : TermFile) → Rows file f work sizes.rows → SizesOf f sizes → found_place r ≡ place (same name) (firsts (enums f))

@@ -12,10 +12,10 @@ use Rattle.index.specs.Meaning.{Rows}
 use Rattle.index_compare.specs.View.{Decides}
 use Rattle.index.specs.Names.{code_of, Reached}
 use Rattle.index.specs.Empties.{empties}
-use Rattle.index_search.specs.Slots.{Held, home_of}
-use Rattle.index_search.specs.Storing.{FirstEmpty, Stored}
-use Rattle.index_search.specs.declared.search.Answer.{Answer}
-use Rattle.index_search.specs.declared.search.Answer.TheVariants.{Known, Absent}
+use Rattle.index.specs.Held as Held
+use Rattle.index.specs.declared.RecordsMut.{RecordsMut}
+use Rattle.index_search.specs.Slots.{home_of}
+use Rattle.index_search.specs.Storing.{Stored}
 
 -- the entry x is read at an offset, and refers to records of f only
 pub record At (file : Bytes) (f : TermFile) (o : ℕ) (x : Entry) : Type 0 where
@@ -47,32 +47,6 @@ module _ (f : TermFile) (x : Entry) (ε : ℕ → Entry) (count : ℕ) where
     pub none : (n : ℕ) → n < count → canonical f (ε n) ≡ canonical f x → ⊥
     pub is : r ≡ count
 
--- a slot that holds v has an entry of the kind that is equal
-abbrev pub HeldEqual : TermFile → Entry → (ℕ → Entry) → ℕ → ℕ → ℕ → Type 0
-HeldEqual f x ε count kind v = Held (λ m. canonical f (ε m)) (canonical f x) kind count v
-
--- r is whether a slot that holds v has an equal entry
-pub record HoldsEqual (file : Bytes) (work : List ℕ) (rows offsets kind count o v : ℕ) (r : Bool) : Type 0 where
-  pub go : (f : TermFile) (x : Entry) (ε : ℕ → Entry) → LooksFor file work rows offsets kind count o f x ε → Decides r (HeldEqual f x ε count kind v)
-
--- an entry that is equal is found from the slot b on, if this is the home of what is looked for
-pub record FindsEqual (file : Bytes) (work : List ℕ) (rows offsets firsts kind count o b r : ℕ) : Type 0 where
-  pub go : (f : TermFile) (x : Entry) (ε : ℕ → Entry) → LooksFor file work rows offsets kind count o f x ε → (0 < rows → b ≡ home_of rows (canonical f x)) → Hit f x ε count (cell work rows firsts) r
-
--- none is, and the first empty slot is d steps on
-pub record Lacks (file : Bytes) (work : List ℕ) (rows offsets kind count o b d : ℕ) : Type 0 where
-  pub empty : FirstEmpty rows (cell work rows hash) b d
-  pub go : (f : TermFile) (x : Entry) (ε : ℕ → Entry) → LooksFor file work rows offsets kind count o f x ε → (0 < rows → b ≡ home_of rows (canonical f x)) → Miss f x ε count count
-
--- what an answer tells
-abbrev pub ToldEqual : Bytes → List ℕ → ℕ → ℕ → ℕ → ℕ → ℕ → ℕ → ℕ → Answer → Type 0
-ToldEqual file work rows offsets firsts kind count o b (Known r) = FindsEqual file work rows offsets firsts kind count o b r
-ToldEqual file work rows offsets firsts kind count o b (Absent d) = Lacks file work rows offsets kind count o b d
-
--- what the search answers from the slot b on
-pub record Probes (file : Bytes) (work : List ℕ) (rows offsets firsts kind count o b : ℕ) (r : Answer) : Type 0 where
-  pub told : ToldEqual file work rows offsets firsts kind count o b r
-
 -- an equal entry is found, and the memory is as it was
 pub record KnownEntry (work work' : List ℕ) (rows firsts count r : ℕ) (f : TermFile) (x : Entry) (ε : ℕ → Entry) : Type 0 where
   pub hit : Hit f x ε count (cell work rows firsts) r
@@ -90,3 +64,8 @@ pub record Enrolled (work work' : List ℕ) (rows firsts kind count r : ℕ) (f 
 -- what the search answers that takes a slot
 pub record Enrols (file : Bytes) (work work' : List ℕ) (rows offsets firsts kind count o r : ℕ) : Type 0 where
   pub go : (f : TermFile) (x : Entry) (ε : ℕ → Entry) → LooksFor file work rows offsets kind count o f x ε → count < 1048576 → 0 < empties (cell work rows hash) rows → Enrolled work work' rows firsts kind count r f x ε
+
+-- the same of the records v before and w after it
+pub record EnrolsIn (v w : RecordsMut) (offsets firsts kind count o r : ℕ) : Type 0 where
+  pub stays : Held.Stays v w
+  pub enrols : Enrols v.file.now v.work.now w.work.now v.sizes.rows offsets firsts kind count o r

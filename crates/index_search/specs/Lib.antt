@@ -1,6 +1,7 @@
 pub mod Hash
 pub mod Slots
 pub mod Storing
+pub mod Probed
 pub mod Searchable
 pub mod Found
 pub mod Named

@@ -1,6 +1,6 @@
 -- What the slots of the hash table hold: for each type, function and term an equal one, which is met on the way from its home slot.
 -- Assumes nothing.
-use Rattle.std.specs.Prelude.{◌≡◌, ℕ, ◌+◌, ◌-◌, ◌/◌, ◌≤◌, ◌<◌, List, length}
+use Rattle.std.specs.Prelude.{ℕ, ◌+◌, ◌≤◌, ◌<◌, List, length}
 use Rattle.std.proofs.Math.Option.{Option, none, some}
 use Rattle.script_spec.specs.Base.{Bytes}
 use Rattle.script_spec.specs.Fields.{Entry, input}
@@ -9,7 +9,7 @@ use Rattle.index.specs.Cells.{cell, type_offset, fun_offset, term_offset, hash}
 use Rattle.index.specs.Empties.{empties}
 use Rattle.index.specs.First.{canonical}
 use Rattle.index.specs.Standing.{entry_at}
-use Rattle.index.specs.Names.{code_of, scaled, Reached}
+use Rattle.index.specs.Names.{scaled, Reached}
 use Rattle.index_compare.specs.Printed.{segments_of}
 use Rattle.check_rules.specs.Marks.{mark_of}
 use Rattle.index_search.specs.Hash.{hashed}
@@ -30,12 +30,6 @@ entry_or (some x) = x
 -- the entries at the offsets of a column
 unfoldable pub entries : Bytes → List ℕ → ℕ → ℕ → ℕ → Entry
 entries file work rows offsets n = entry_or (entry_at file (cell work rows offsets n))
-
--- a slot that holds v has a record of a kind, of which there are `count`, and its key is x
-pub record Held {A : Type 0} (key : ℕ → A) (x : A) (kind count v : ℕ) : Type 0 where
-  pub below : (v - 1) / 4 < count
-  pub is : v ≡ code_of ((v - 1) / 4) kind
-  pub equal : key ((v - 1) / 4) ≡ x
 
 -- every record of a kind is reached, with first equal numbers for its references
 abbrev pub AllReached : Bytes → TermFile → List ℕ → ℕ → ℕ → ℕ → ℕ → Type 0

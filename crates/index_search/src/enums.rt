@@ -1,11 +1,41 @@
 // The enums of a file by their names.
+ghost use Rattle.index_search.specs.Named.{IsNamed, EnrolsNamed};
 ghost use Rattle.index_search.specs.Enums.{FindsEnum};
 
-use index::Sizes;
+use crate::slots;
+use crate::slots::Table;
+use index::{Column, Records, RecordsMut};
 
-// The number of the enum with this name; how many enums there are where none has it.
-pub fn find(file: &[u8], work: &[u32], sizes: Sizes, name: &[u8]) -> u32
-    ensures { FindsEnum file.now work.now sizes name.now result }
+// Whether the enum with number n has this name.
+fn is_named(records: Records<'_>, n: u32, name: &[u8]) -> bool
+    ensures { IsNamed records.entry.file.now records.entry.work.now records.entry.sizes.rows n name.now result }
 {
-    crate::names::find(file, work, sizes, name)
+    let offset = records.get(Column::EnumOffset, n);
+    check::same(check_rules::members::name_at(records.file, offset), name)
+}
+
+// The number of the enum with this name, if there is one.
+pub fn find(records: Records<'_>, name: &[u8]) -> Option<u32>
+    ensures { FindsEnum records.entry.file.now records.entry.work.now records.entry.sizes name.now result }
+{
+    let b = slots::name_home(name, records.sizes.rows);
+    slots::probe(
+        records,
+        Table::Enums,
+        records.sizes.enums,
+        b,
+        |records, n| { is_named(records, n, name) },
+    )
+    .ok()
+}
+
+// The same; where there is none, the name is entered with how many enums there are for its number.
+pub fn enrol(records: &mut RecordsMut<'_>, name: &[u8]) -> Option<u32>
+    ensures { EnrolsNamed records.old records.new name.now result }
+{
+    let b = slots::name_home(name, records.sizes.rows);
+    let count = records.sizes.enums;
+    slots::enrol(records, Table::Enums, count, b, |records, n| {
+        is_named(records, n, name)
+    })
 }

@@ -1,64 +1,60 @@
-// The hash table in the index's last column: a slot holds nothing, or the kind and the number of a record.
+// The hash table in the index's last column: a slot holds nothing, or the table and the number of a record. A search goes from the home slot
+// of what is looked for to the first empty slot.
 ghost use Rattle.std.specs.Prelude.{◌≡◌, ◌<◌, ◌-◌, ◌/◌, eqb};
-ghost use Rattle.index.specs.Cells.{cell, hash};
 ghost use Rattle.index.specs.Names.{slot, code_of};
-ghost use Rattle.index_search.specs.Storing.{Scales, Home, NameHome, FirstEmpty, Stores};
+ghost use Rattle.index.specs.declared.Records.{Records};
+ghost use Rattle.index_search.specs.Tables.{slot_kind};
+ghost use Rattle.index_search.specs.Storing.{Scales, Home, NameHome};
+ghost use Rattle.index_search.specs.Probed.{Viewed, Probes, Takes};
 
-// The kinds of records that slots have, by their numbers.
-pub const TYPE: u32 = 0;
+use index::{Column, Records, RecordsMut};
 
-pub const FUN: u32 = 1;
+// The tables of records that slots hold.
+#[derive(Clone, Copy)]
+pub enum Table {
+    Types,
+    Funs,
+    Terms,
+    Enums,
+}
 
-pub const TERM: u32 = 2;
-
-pub const ENUM: u32 = 3;
-
-// What a slot holds for the record of a kind with number n.
-fn code_of(n: u32, kind: u32) -> u64
-    ensures { result ≡ code_of n kind }
+// What a slot holds for the record of a table with number n.
+fn code_of(n: u32, table: Table) -> u64
+    ensures { result ≡ code_of n (slot_kind table) }
 {
-    4 * (n as u64) + kind as u64 + 1
+    4 * u64::from(n) + table as u64 + 1
 }
 
 // The same as an entry of the index, 0 where it does not fit.
-pub fn code(n: u32, kind: u32) -> u32
-    ensures { n < 1048576 → kind < 4 → result ≡ code_of n kind }
+fn code(n: u32, table: Table) -> u32
+    ensures { n < 1048576 → result ≡ code_of n (slot_kind table) }
 {
-    let c = code_of(n, kind);
-    if c < 4294967296 {
-        return c as u32;
-    }
-    0
+    u32::try_from(code_of(n, table)).unwrap_or(0)
 }
 
 // The number that a slot holds.
-pub fn number_of(v: u32) -> u32
+fn number_of(v: u32) -> u32
     ensures { result ≡ (v - 1) / 4 }
 {
-    if v == 0 {
-        return 0;
-    }
-    (v - 1) / 4
+    v.saturating_sub(1) / 4
 }
 
-// Whether a slot that holds v has the record of a kind with number n.
-pub fn has(v: u32, n: u32, kind: u32) -> bool
-    ensures { result ≡ eqb v (code_of n kind) }
+// Whether a slot that holds v has the record of a table with number n.
+fn has(v: u32, n: u32, table: Table) -> bool
+    ensures { result ≡ eqb v (code_of n (slot_kind table)) }
 {
-    v as u64 == code_of(n, kind)
+    u64::from(v) == code_of(n, table)
 }
 
 // The slot that comes d steps after slot b, of so many in a ring.
-pub fn slot(rows: usize, b: usize, d: usize) -> usize
+fn slot(rows: usize, b: usize, d: usize) -> usize
     ensures { result ≡ slot rows b d }
 {
-    if rows <= b {
-        return d;
-    }
-    if d < rows - b {
+    let left = rows.saturating_sub(b);
+    if d < left {
         return b + d;
     }
-    d - (rows - b)
+    d - left
 }
 
 // The slot from which a record of a hash is looked for: the hash scaled from 2^32 to the number of rows.
@@ -72,10 +68,14 @@ pub fn scale(rows: usize, h: u32) -> usize
 }
 
 // The slot from which the record at an offset is looked for.
-pub fn home(file: &[u8], work: &[u32], rows: usize, offset: usize) -> usize
-    ensures { Home file.now work.now rows offset result }
+pub fn home(records: Records<'_>, offset: u32) -> usize
+    ensures { Home records.entry.file.now records.entry.work.now records.entry.sizes.rows offset result }
 {
-    scale(rows, crate::hash::record_hash(file, work, rows, offset))
+    crate::octets(records.file);
+    scale(
+        records.sizes.rows,
+        crate::hash::record_hash(records, offset),
+    )
 }
 
 // The slot from which the enum of a name is looked for.
@@ -85,32 +85,49 @@ pub fn name_home(name: &[u8], rows: usize) -> usize
     scale(rows, crate::hash::mix_bytes(0, name))
 }
 
-// How many steps after slot b the first empty slot is, or `rows` where none is empty.
-fn first_empty(work: &[u32], rows: usize, b: usize) -> usize
-    ensures { FirstEmpty rows (cell work.now rows hash) b result }
+// The number of a record of a table, of `count`, for which a test is true, met from slot b on; or that none is met, and how many steps after b
+// the first empty slot is.
+pub fn probe<F: Fn(Records<'_>, u32) -> bool>(
+    records: Records<'_>,
+    table: Table,
+    count: u32,
+    b: usize,
+    is: F,
+) -> Result<u32, usize>
+    requires { F.IsAlwaysCallable is }
+    ensures { Probes records.entry.work.now records.entry.sizes.rows (slot_kind table) count (λ n r. F.post is records.entry n r) b result }
 {
-    let mut d = 0;
-    while d < rows {
-        let v = index::get(work, rows, index::HASH, slot(rows, b, d));
+    let rows = records.sizes.rows;
+    for d in 0..rows {
+        let v = records.get_row(Column::Hash, slot(rows, b, d));
         if v == 0 {
-            return d;
+            return Err(d);
         }
-        d += 1;
+        let n = number_of(v);
+        if n < count && has(v, n, table) && is(records, n) {
+            return Ok(n);
+        }
     }
-    d
+    Err(rows)
 }
 
-// Stores v in the slot d steps after slot b.
-pub fn store_at(work: &mut [u32], rows: usize, b: usize, d: usize, v: u32)
-    ensures { FirstEmpty rows (cell work.old rows hash) b d → Stores work.old work.new rows b v }
+// The number of such a record; where none is met, the first empty slot is taken for the record with number `count`.
+pub fn enrol<F: Fn(Records<'_>, u32) -> bool>(
+    records: &mut RecordsMut<'_>,
+    table: Table,
+    count: u32,
+    b: usize,
+    is: F,
+) -> Option<u32>
+    requires { F.IsAlwaysCallable is }
+    ensures { (v : Records) × Viewed records.old v × Takes records.old records.new (slot_kind table) count (λ n r. F.post is v n r) b result }
 {
-    index::set(work, rows, index::HASH, slot(rows, b, d), v);
-}
-
-// Stores v in the first empty slot from slot b on.
-pub fn store(work: &mut [u32], rows: usize, b: usize, v: u32)
-    ensures { Stores work.old work.new rows b v }
-{
-    let d = first_empty(work, rows, b);
-    store_at(work, rows, b, d, v);
+    match probe(records.view(), table, count, b, is) {
+        Ok(n) => Some(n),
+        Err(d) => {
+            let rows = records.sizes.rows;
+            records.set_row(Column::Hash, slot(rows, b, d), code(count, table));
+            None
+        }
+    }
 }

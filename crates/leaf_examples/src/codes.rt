@@ -1,13 +1,8 @@
 // Texts that are UTF-8 or not, and code points that SMT-LIB's strings have or not.
-use crate::lines::line;
 use std::io;
 
 fn answer(rt: &impl Print, yes: bool) -> io::Result<()> {
-    if yes {
-        line(rt, b"true", 4)
-    } else {
-        line(rt, b"false", 5)
-    }
+    println!(rt; "{yes}")
 }
 
 // RFC 3629, section 7: its four examples of UTF-8.

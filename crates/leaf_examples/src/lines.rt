@@ -1,10 +1,11 @@
 // Lines on standard output.
 use std::io;
+use write_bytes::writer::Writer;
 
-// Writes the first n bytes as a line.
-pub fn line(rt: &impl Print, out: &[u8], n: usize) -> io::Result<()> {
-    if n <= out.len() {
-        rt.write_all(&out[..n])?;
+// Writes as a line what a writer has written.
+pub fn line(rt: &impl Print, w: &Writer<'_>) -> io::Result<()> {
+    if w.at <= w.out.len() {
+        rt.write_all(&w.out[..w.at])?;
     }
     rt.write_all(b"\n")
 }

@@ -1,11 +1,13 @@
 // Patterns, each element a code point of four bytes, low byte first, or the wildcard 4294967295.
 use crate::lines::line;
 use std::io;
+use write_bytes::writer::Writer;
 
 fn regex(rt: &impl Print, p: &[u8]) -> io::Result<()> {
     let mut out = [0u8; 128];
-    let n = write_pattern::put_pattern(&mut out, 0, 128, p);
-    line(rt, &out, n)
+    let mut w = Writer::new(&mut out);
+    write_pattern::put_pattern(&mut w, p);
+    line(rt, &w)
 }
 
 // Document 01, encoder.rs: the empty pattern is `(str.to_re "")`, and one element has no `re.++`. SMT-LIB, theory of Unicode

@@ -1,35 +1,38 @@
 // Literals and sorts of bit vectors.
 use crate::lines::line;
+use refusal::Refusal;
 use std::io;
-use write_bitvec::{Made, reading, spelling};
+use write_bitvec::{BitVec, reading, spelling};
+use write_bytes::writer::Writer;
 
 // A bit vector's literal, or document 01's number for a refusal.
-fn vector(rt: &impl Print, m: Made) -> io::Result<()> {
-    let mut out = [0u8; 64];
-    match m {
-        Made::Vector(b) => {
-            let n = spelling::put_bitvec(&mut out, 0, 64, b.width, b.high, b.low);
-            line(rt, &out, n)
+fn vector(rt: &impl Print, made: Result<BitVec, Refusal>) -> io::Result<()> {
+    match made {
+        Ok(vector) => {
+            let mut out = [0u8; 64];
+            let mut w = Writer::new(&mut out);
+            spelling::put_bitvec(&mut w, vector.width, vector.value);
+            line(rt, &w)
         }
-        Made::Refused => line(rt, b"refused 7", 9),
+        Err(refusal) => println!(rt; "refused {}", refusal.number()),
     }
 }
 
 // SMT-LIB, logic QF_BV: `(_ bvX n)` is the bit vector of n bits with value X, its example being bv13 in 32 bits.
 pub fn published(rt: &impl Print) -> io::Result<()> {
-    vector(rt, write_bitvec::new(32, 0, 13))
+    vector(rt, BitVec::new(32, 13))
 }
 
 // Document 01, ipaddr.rs: 192.168.1.1 with prefix 24 has `(_ bv3232235777 32)` and `(_ bv24 5)`.
 // ::1 and 2001:db8:: (the documentation prefix of RFC 3849) are 1 and 0x20010db8 followed by 96 zero bits.
 pub fn addresses(rt: &impl Print) -> io::Result<()> {
     let v4 = reading::high_first(b"\xc0\xa8\x01\x01");
-    vector(rt, write_bitvec::new(32, v4.high, v4.low))?;
-    vector(rt, write_bitvec::new(5, 0, 24))?;
+    vector(rt, BitVec::new(32, v4))?;
+    vector(rt, BitVec::new(5, 24))?;
     let loopback = reading::high_first(b"\0\0\0\0\0\0\0\0\0\0\0\0\0\0\0\x01");
-    vector(rt, write_bitvec::new(128, loopback.high, loopback.low))?;
+    vector(rt, BitVec::new(128, loopback))?;
     let v6 = reading::high_first(b"\x20\x01\x0d\xb8\0\0\0\0\0\0\0\0\0\0\0\0");
-    vector(rt, write_bitvec::new(128, v6.high, v6.low))
+    vector(rt, BitVec::new(128, v6))
 }
 
 // Document 01, bitvec.rs: signed values are two's complement, and Decimal -1 is `(_ bv18446744073709551615 64)`.
@@ -37,42 +40,40 @@ pub fn addresses(rt: &impl Print) -> io::Result<()> {
 // and, cut to 8 bits, 127; and -1 of 128 bits is 2^128 less 1.
 pub fn signed(rt: &impl Print) -> io::Result<()> {
     let decimal = reading::low_first(b"\xff\xff\xff\xff\xff\xff\xff\xff");
-    vector(rt, write_bitvec::new(64, decimal.high, decimal.low))?;
-    vector(rt, write_bitvec::of_int(64, -1))?;
-    vector(rt, write_bitvec::of_int(8, -1))?;
-    vector(rt, write_bitvec::of_int(8, -128))?;
-    vector(rt, write_bitvec::of_int(8, -129))?;
-    vector(rt, write_bitvec::of_int(8, 127))?;
-    vector(rt, write_bitvec::of_int(128, -1))
+    vector(rt, BitVec::new(64, decimal))?;
+    vector(rt, BitVec::of_int(64, -1))?;
+    vector(rt, BitVec::of_int(8, -1))?;
+    vector(rt, BitVec::of_int(8, -128))?;
+    vector(rt, BitVec::of_int(8, -129))?;
+    vector(rt, BitVec::of_int(8, 127))?;
+    vector(rt, BitVec::of_int(128, -1))
 }
 
 // Document 01, encoder.rs: `Bvnego` compares with 2^(n-1).
 pub fn least(rt: &impl Print) -> io::Result<()> {
-    vector(rt, write_bitvec::int_min(1))?;
-    vector(rt, write_bitvec::int_min(8))?;
-    vector(rt, write_bitvec::int_min(64))?;
-    vector(rt, write_bitvec::int_min(65))?;
-    vector(rt, write_bitvec::int_min(128))
+    vector(rt, BitVec::int_min(1))?;
+    vector(rt, BitVec::int_min(8))?;
+    vector(rt, BitVec::int_min(64))?;
+    vector(rt, BitVec::int_min(65))?;
+    vector(rt, BitVec::int_min(128))
 }
 
 // Document 01, `XN`: a width is 1 to 128 and a value below 2^width, or refusal 7.
 pub fn limits(rt: &impl Print) -> io::Result<()> {
-    vector(rt, write_bitvec::new(0, 0, 0))?;
-    vector(rt, write_bitvec::new(129, 0, 0))?;
-    vector(rt, write_bitvec::new(8, 0, 255))?;
-    vector(rt, write_bitvec::new(8, 0, 256))?;
-    vector(rt, write_bitvec::new(65, 1, 0))?;
-    vector(rt, write_bitvec::new(65, 2, 0))?;
-    vector(
-        rt,
-        write_bitvec::new(128, 0xffff_ffff_ffff_ffff, 0xffff_ffff_ffff_ffff),
-    )
+    vector(rt, BitVec::new(0, 0))?;
+    vector(rt, BitVec::new(129, 0))?;
+    vector(rt, BitVec::new(8, 255))?;
+    vector(rt, BitVec::new(8, 256))?;
+    vector(rt, BitVec::new(65, 0x1_0000_0000_0000_0000))?;
+    vector(rt, BitVec::new(65, 0x2_0000_0000_0000_0000))?;
+    vector(rt, BitVec::new(128, u128::MAX))
 }
 
 fn sort(rt: &impl Print, width: u32) -> io::Result<()> {
     let mut out = [0u8; 64];
-    let n = spelling::put_bitvec_sort(&mut out, 0, 64, width);
-    line(rt, &out, n)
+    let mut w = Writer::new(&mut out);
+    spelling::put_bitvec_sort(&mut w, width);
+    line(rt, &w)
 }
 
 // Document 01, ipaddr.rs: prefixes have the sorts `(_ BitVec 5)` and `(_ BitVec 7)`, and encoder.rs has V6 addresses of 128 bits.

@@ -1,24 +1,24 @@
 -- Laws of what reading a field tells: how readers compose, and what the primitive fields are. By cases on what is told.
 -- Assumes nothing.
 use mathlib.Core.Path.{◌≡◌, refl, sym, ap, ◌∙◌, subst}
-use Prim.Native.Nat.{ℕ, zero, suc, ◌≤◌, ◌<◌, ◌+◌, ◌-◌}
+use Prim.Native.Nat.{ℕ, suc, ◌≤◌, ◌<◌, ◌+◌, ◌-◌}
 use native.Mathlib.Omega.{arith}
 use native.Mathlib.Numerals.{add-one}
-use mathlib.Core.Bool.{Bool, true, false}
+use mathlib.Core.Bool.{Bool, true, false, ◌||◌}
 use mathlib.Core.List.{[], ◌∷◌}
-use lib.Dec.{leb}
+use denote.Ref.{Bor}
+use lib.Dec.{leb, eqb}
 use lib.ListN.{length, take, drop, get_or, length-drop, drop_of_length-le}
 use lib.Seq.{drop-cons, drop-drop, get_or-drop, take_all, take-nil}
 use borrow.Author.Tests.{le-leb, lt-leb}
 use Rattle.script_spec.specs.Base.{Bytes, between}
-use Rattle.script_spec.specs.Fields.{got, bad, Reader, ◌>>=◌, pure, ensure, part, byte, low, u32, pair, ref}
+use Rattle.script_spec.specs.Fields.{got, bad, Reader, ◌>>=◌, pure, ensure, part, byte, low, u32}
 use Rattle.script_spec.specs.Fields as fields
-use Rattle.read_field.specs.Answers.{number_told, text_told, moved_told, number_moved, text_moved, spanned}
-use Rattle.read_field.specs.declared.ReadNumber.{ReadNumber}
-use Rattle.read_field.specs.declared.ReadNumber.TheVariants as number
-use Rattle.read_field.specs.declared.ReadText.{ReadText}
-use Rattle.read_field.specs.declared.ReadText.TheVariants as text
-use Rattle.read_field.specs.declared.Moved.{Moved}
+use Rattle.std.specs.Prelude.{Result, Ok, Err}
+use Rattle.refusal.specs.declared.Refusal.{Refusal}
+use Rattle.refusal.specs.Numbers.{number}
+use Rattle.read_field.specs.declared.Cursor.{Cursor}
+use Rattle.read_field.specs.Takes.{TakesTo, RefusesAt, Takes}
 use Rattle.read_field.specs.Reads.{Told, value, refusal, as_read, Within, Reads, skim, repeat}
 
 -- ---- composition
@@ -67,65 +67,82 @@ module _ {A B : Type 0} {r : Reader A} (k : A → Reader B) {body : Bytes} {at :
   unfolding ◌>>=◌ as_read Within
   reads_stop h = record { is = rw (◌>>=◌, h.is); within = λ w. tt }
 
--- an answer without its value
-unfoldable pub skimmed : {A : Type 0} → Told A → Told (Unit {0})
-skimmed (value a to) = value tt to
-skimmed (refusal n) = refusal n
+-- ---- what a cursor takes
 
-pub reads_skim : {A : Type 0} {r : Reader A} {body : Bytes} {at : ℕ} (t : Told A) → Reads r body at t → Reads (skim r) body at (skimmed t)
-unfolding skim skimmed
-reads_skim (value a to) h = reads_next _ h (reads_pure tt)
-reads_skim (refusal n) h = reads_stop _ h
+-- a field that tells where the cursor stands after it
+pub takes : {A : Type 0} {r : Reader A} {c d : Cursor} {a : A} → d.body ≡ c.body → Reads r c.body.now c.at (value a d.at) → TakesTo r c d a
+takes b h = record { body = b; reads = h }
 
--- ---- answers without their values
+module _ {A B : Type 0} {r : Reader A} (k : A → Reader B) {c : Cursor} where
+  -- one field and then the next, which is taken or refused
+  pub takes_next : {a : A} {d e : Cursor} {b : B} → TakesTo r c d a → TakesTo (k a) d e b → TakesTo (◌>>=◌ r k) c e b
+  takes_next {a} {d} {e} {b} h l = record { body = l.body ∙ h.body; reads = reads_next k h.reads (subst (λ (s : Bor Bytes). Reads (k a) s.now d.at (value b e.at)) h.body l.reads) }
 
-module _ {body : Bytes} {at : ℕ} {m : Moved} where
-  pub skims_number : {reader : Reader ℕ} (r : ReadNumber) → Reads reader body at (number_told r) → m ≡ number_moved r → Reads (skim reader) body at (moved_told m)
-  unfolding number_told number_moved moved_told skimmed
-  skims_number (number.Value n c) h e = rw e (reads_skim (value n c.at) h)
-  skims_number (number.Bad n) h e = rw e (reads_skim (refusal n) h)
+  pub refuses_next : {a : A} {d : Cursor} {e : Refusal} → TakesTo r c d a → RefusesAt (k a) d e → RefusesAt (◌>>=◌ r k) c e
+  refuses_next {a} {d} {e} h l = record { reads = reads_next k h.reads (subst (λ (s : Bor Bytes). Reads (k a) s.now d.at (refusal (number e))) h.body l.reads) }
 
-  pub skims_text : {reader : Reader Bytes} (r : ReadText) → Reads reader body at (text_told body r) → m ≡ text_moved r → Reads (skim reader) body at (moved_told m)
-  unfolding text_told text_moved moved_told skimmed
-  skims_text (text.Bytes p c) h e = rw e (reads_skim (value (spanned body p) c.at) h)
-  skims_text (text.Bad n) h e = rw e (reads_skim (refusal n) h)
+  pub next : {a : A} {d : Cursor} (x : Result (B × Cursor) Refusal) → TakesTo r c d a → Takes (k a) d x → Takes (◌>>=◌ r k) c x
+  next (Ok v) h l = takes_next h l
+  next (Err e) h l = refuses_next h l
+
+  -- a refusal, and no field after it
+  pub refuses_stop : {e : Refusal} → RefusesAt r c e → RefusesAt (◌>>=◌ r k) c e
+  refuses_stop h = record { reads = reads_stop k h.reads }
+
+-- the value, when it is taken as it is
+pub takes_pure : {A : Type 0} {c : Cursor} (a : A) → TakesTo (pure a) c c a
+takes_pure a = takes refl (reads_pure a)
+
+-- a test that passes, or not
+pub takes_ensured : {A : Type 0} {c : Cursor} (n : ℕ) (b : Bool) (a : A) → b ≡ true → TakesTo (ensure n b a) c c a
+takes_ensured n b a h = takes refl (reads_ensured n b a h)
+
+pub takes_refused : {A : Type 0} {c : Cursor} (e : Refusal) (b : Bool) (a : A) → b ≡ false → RefusesAt (ensure (number e) b a) c e
+takes_refused e b a h = record { reads = reads_refused (number e) b a h }
+
+-- a reader that makes the same of every body
+module _ {A : Type 0} {r q : Reader A} (h : (s : Bytes) → q s ≡ r s) where
+  pub takes_alike : {c d : Cursor} {a : A} → TakesTo r c d a → TakesTo q c d a
+  takes_alike l = record { body = l.body; reads = reads_alike h l.reads }
+
+  pub refuses_alike : {c : Cursor} {e : Refusal} → RefusesAt r c e → RefusesAt q c e
+  refuses_alike l = record { reads = reads_alike h l.reads }
+
+  pub alike : (c : Cursor) (x : Result (A × Cursor) Refusal) → Takes r c x → Takes q c x
+  alike c (Ok v) l = takes_alike l
+  alike c (Err e) l = refuses_alike l
+
+-- a field whose value is not kept, and a refusal of it
+pub skims : {A : Type 0} {r : Reader A} {c d : Cursor} {a : A} → TakesTo r c d a → TakesTo (skim r) c d tt
+unfolding skim
+skims h = takes_next _ h (takes_pure tt)
+
+pub skims_not : {A : Type 0} {r : Reader A} {c : Cursor} {e : Refusal} → RefusesAt r c e → RefusesAt (skim r) c e
+unfolding skim
+skims_not h = refuses_stop _ h
 
 -- ---- lists
 
--- a text and a reference
-module _ (count : ℕ) {body : Bytes} {at : ℕ} where
-  named_told : {s : Bytes} {to : ℕ} (t : Told ℕ) → Reads fields.text body at (value s to) → Reads (ref count) body to t → Reads (skim (pair fields.text (ref count))) body at (skimmed t)
-  unfolding pair skim skimmed
-  named_told (value n end) h l = reads_next _ (reads_next _ h (reads_next _ l (reads_pure _))) (reads_pure tt)
-  named_told (refusal n) h l = reads_stop _ (reads_next _ h (reads_stop _ l))
+-- what is left of a list, k of its n items, stands where the cursor b does
+pub record Goes (r : Reader (Unit {0})) (n : ℕ) (c : Cursor) (k : ℕ) (b : Cursor) : Type 0 where
+  pub go : (x : Result (Unit {0} × Cursor) Refusal) → Takes (repeat k r) b x → Takes (repeat n r) c x
 
-  pub reads_named : {s : Bytes} {to : ℕ} {m : Moved} (r : ReadNumber) → Reads fields.text body at (value s to) → Reads (ref count) body to (number_told r) → m ≡ number_moved r → Reads (skim (pair fields.text (ref count))) body at (moved_told m)
-  unfolding number_told number_moved moved_told skimmed
-  reads_named (number.Value n c) h l e = rw e (named_told (value n c.at) h l)
-  reads_named (number.Bad n) h l e = rw e (named_told (refusal n) h l)
+module _ {r : Reader (Unit {0})} {n : ℕ} {c : Cursor} where
+  pub goes_start : {k : ℕ} → k ≡ n → Goes r n c k c
+  goes_start e = record { go = λ x h. rw (← e) h }
 
--- what is left of a list, k of its n items, stands from a place on
-pub record Goes (r : Reader (Unit {0})) (n : ℕ) (body : Bytes) (from k at : ℕ) : Type 0 where
-  pub go : (t : Told (Unit {0})) → Reads (repeat k r) body at t → Reads (repeat n r) body from t
+  module _ {k : ℕ} {b : Cursor} (g : Goes r n c k b) where
+    pub goes_on : {j : ℕ} {d : Cursor} → k ≡ suc j → TakesTo r b d tt → Goes r n c j d
+    unfolding repeat
+    goes_on {j} e h = record { go = λ x l. g.go x (rw e (next _ x h l)) }
 
-module _ {r : Reader (Unit {0})} {n : ℕ} {body : Bytes} {from : ℕ} where
-  pub goes_start : Goes r n body from n from
-  goes_start = record { go = λ t h. h }
+    pub goes_stop : {e : Refusal} → 0 < k → RefusesAt r b e → RefusesAt (repeat n r) c e
+    unfolding repeat
+    goes_stop {e} z h = let q : k ≡ suc (k - 1) = omega arith in g.go (Err e) (rw q (refuses_stop _ h))
 
-  pub goes_on : (k : ℕ) {at to : ℕ} → 0 < k → Goes r n body from k at → Reads r body at (value tt to) → Goes r n body from (k - 1) to
+  pub goes_end : {k : ℕ} {b : Cursor} → Goes r n c k b → k ≡ 0 → TakesTo (repeat n r) c b tt
   unfolding repeat
-  goes_on zero z g h = absurd (omega arith)
-  goes_on (suc k) z g h = let e : suc k - 1 ≡ k = omega arith in rw e (record { go = λ t l. g.go t (reads_next _ h l) })
-
-  pub goes_stop : (k : ℕ) {at m : ℕ} → 0 < k → Goes r n body from k at → Reads r body at (refusal m) → Reads (repeat n r) body from (refusal m)
-  unfolding repeat
-  goes_stop zero z g h = absurd (omega arith)
-  goes_stop (suc k) z g h = g.go _ (reads_stop _ h)
-
-  pub goes_end : (k : ℕ) {at : ℕ} → k ≤ 0 → Goes r n body from k at → Reads (repeat n r) body from (value tt at)
-  unfolding repeat
-  goes_end zero z g = g.go _ (reads_pure tt)
-  goes_end (suc k) z g = absurd (omega arith)
+  goes_end {b = b} g e = g.go (Ok (tt, b)) (rw e (takes_pure tt))
 
 -- ---- parts that are longer than the rest, or start past the end
 
@@ -145,6 +162,11 @@ between_low low high n h = rw (le-leb low n h)
 pub leb_between : (low high n : ℕ) → n < low → leb low n ≡ between low high n
 unfolding between
 leb_between low high n h = rw (lt-leb low n h)
+
+-- a number that a test of its own lets pass
+pub below_or : (b : Bool) → (b || eqb 255 255) ≡ true
+below_or true = refl
+below_or false = refl
 
 -- ---- primitive fields
 

@@ -1,17 +1,18 @@
 -- Laws of numbers of four bytes each: what a reader of elements has read, and that numbers take no more than their bytes.
 -- Assumes nothing.
-use Prim.Native.Nat.{ℕ, zero, suc, ◌+◌, ◌-◌, ◌*◌, ◌≤◌}
-use native.Mathlib.Nat.{zero-add, suc-add}
+use Prim.Native.Nat.{ℕ, zero, suc, ◌+◌, ◌-◌, ◌*◌, ◌≤◌, ◌<◌}
+use native.Mathlib.Nat.{zero-add, suc-add, mul-div_cancel_left}
 use native.Mathlib.Omega.{arith}
 use mathlib.Core.Path.{◌≡◌, refl, ap, ◌∙◌}
 use mathlib.Core.List.{List, [], ◌∷◌}
 use borrow.Author.Tests.{le-leb}
+use lib.Dec.{leb→le}
 use lib.ListN.{length, take, drop}
-use lib.Seq.{take-nil, take-take}
+use lib.Seq.{take-nil, take-take, length-take-le}
 use Rattle.script_spec.specs.Base.{Bytes}
 use Rattle.script_spec.specs.Fields.{got, pure, low, u32, element, times}
 use Rattle.script_spec.proofs.Readers.{bind_inverse, pure_inverse, tested_inverse, Took, Numbered, took_first, took_both, u32_inverse}
-use Rattle.read_field.specs.Words.{words}
+use Rattle.read_field.specs.Words.{words, elements}
 
 -- an element
 element_inverse : (s : Bytes) {n : ℕ} {rest : Bytes} → element s ≡ got n rest → Numbered 4 s n rest
@@ -58,3 +59,19 @@ words_take (suc n) m s h =
     let four : 4 ≤ m = omega arith in
     let size : m ≡ 4 + (m - 4) = omega arith in
     rw (take-take 4 m s four, ap (λ (j : ℕ). drop 4 (take j s)) size ∙ drop_take 4 (m - 4) s, words_take n (m - 4) (drop 4 s) (omega arith))
+
+-- ---- the elements of a pattern
+
+-- the elements of the bytes that hold n of them
+elements_take : (n : ℕ) (s : Bytes) → 4 * n ≤ length s → elements (take (4 * n) s) ≡ words n s
+unfolding elements
+elements_take n s h =
+    let pos : 0 < 4 = omega arith in
+    let l : length (take (4 * n) s) ≡ 4 * n = length-take-le (4 * n) s h in
+    rw (l, mul-div_cancel_left n pos) (words_take n (4 * n) s (omega arith))
+
+-- what a reader of n elements finds in a body, by the bytes that hold them
+pub elements_read : (n : ℕ) (s : Bytes) (cs : List ℕ) (r : Bytes) → times n element s ≡ got cs r → elements (take (4 * n) s) ≡ cs
+elements_read n s cs r h =
+    let w = elements_inverse n s h in
+    elements_take n s (leb→le (4 * n) (length s) (rw w.took.fits tt)) ∙ w.value

@@ -1,4 +1,4 @@
 pub mod Reads
-pub mod Answers
+pub mod Takes
 pub mod Items
 pub mod Words

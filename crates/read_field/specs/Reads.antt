@@ -26,10 +26,6 @@ pub record Reads {A : Type 0} (reader : Reader A) (body : Bytes) (from : ℕ) (t
   pub is : reader (drop from body) ≡ as_read body t
   pub within : from ≤ length body → Within from (length body) t
 
--- a number that has to pass a test, at this place of any body
-pub record Ensured (n : ℕ) (passed : Bool) (refusal from : ℕ) (t : Told ℕ) : Type 0 where
-  pub go : (body : Bytes) → Reads (ensure refusal passed n) body from t
-
 -- a reader whose value is not kept
 unfoldable pub skim : {A : Type 0} → Reader A → Reader (Unit {0})
 skim r = ◌>>=◌ r (λ a. pure tt)

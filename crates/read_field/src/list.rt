@@ -1,9 +1,10 @@
 // Lists: a count and its items.
-ghost use Rattle.read_field.specs.Reads.{Reads, repeat};
-ghost use Rattle.read_field.specs.Answers.{moved_told};
+ghost use Rattle.read_field.specs.Reads.{repeat};
+ghost use Rattle.read_field.specs.Takes.{Takes, moved_of};
 ghost use Rattle.read_field.specs.Items.{item_reader, list_reader};
 
-use crate::{Cursor, Moved, ReadNumber, ReadText};
+use crate::Cursor;
+use refusal::Refusal;
 
 // What the items of a list are.
 #[derive(Clone, Copy)]
@@ -17,54 +18,33 @@ pub enum Item {
     Element,
 }
 
-// A text and a reference.
-fn named(c: Cursor, body: &[u8], count: u32) -> Moved
-    ensures { Reads (item_reader (Item.Named count)) body.now c.at (moved_told result) }
-{
-    match c.text(body) {
-        ReadText::Bad(n) => Moved::Bad(n),
-        ReadText::Bytes(_, d) => crate::number_moved(d.reference(body, count)),
-    }
-}
-
 // One item.
-fn next_item(c: Cursor, body: &[u8], kind: Item) -> Moved
-    ensures { Reads (item_reader kind) body.now c.at (moved_told result) }
+fn next_item<'a>(c: Cursor<'a>, item: Item) -> Result<Cursor<'a>, Refusal>
+    ensures { Takes (item_reader item) c.entry (moved_of result) }
 {
-    match kind {
-        Item::Text => crate::text_moved(c.text(body)),
-        Item::Reference(n) => crate::number_moved(c.reference(body, n)),
-        Item::Named(n) => named(c, body, n),
-        Item::Element => crate::number_moved(c.element(body)),
+    match item {
+        Item::Text => Ok(c.text()?.1),
+        Item::Reference(n) => Ok(c.reference(n)?.1),
+        Item::Named(n) => Ok(c.text()?.1.reference(n)?.1),
+        Item::Element => Ok(c.element()?.1),
     }
 }
 
 // So many items, the first bad one deciding.
-pub fn items(c: Cursor, body: &[u8], kind: Item, count: u32) -> Moved
-    ensures { Reads (repeat count (item_reader kind)) body.now c.at (moved_told result) }
+pub fn items<'a>(c: Cursor<'a>, item: Item, count: u32) -> Result<Cursor<'a>, Refusal>
+    ensures { Takes (repeat count (item_reader item)) c.entry (moved_of result) }
 {
-    let mut at = c.at;
-    let mut left = count;
-    while 0 < left {
-        match next_item(Cursor { at }, body, kind) {
-            Moved::Bad(n) => {
-                return Moved::Bad(n);
-            }
-            Moved::To(d) => {
-                at = d.at;
-            }
-        }
-        left -= 1;
+    let mut rest = c;
+    for _ in 0..count {
+        rest = next_item(rest, item)?;
     }
-    Moved::To(Cursor { at })
+    Ok(rest)
 }
 
 // A count and its items.
-pub fn list(c: Cursor, body: &[u8], kind: Item) -> Moved
-    ensures { Reads (list_reader kind) body.now c.at (moved_told result) }
+pub fn list<'a>(c: Cursor<'a>, item: Item) -> Result<Cursor<'a>, Refusal>
+    ensures { Takes (list_reader item) c.entry (moved_of result) }
 {
-    match c.u32_le(body) {
-        ReadNumber::Bad(n) => Moved::Bad(n),
-        ReadNumber::Value(n, d) => items(d, body, kind, n),
-    }
+    let (n, rest) = c.u32_le()?;
+    items(rest, item, n)
 }

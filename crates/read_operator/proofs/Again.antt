@@ -1,41 +1,56 @@
 -- Operators that are read again: their operands with no test, whatever number names a function.
 -- Assumes nothing.
 use mathlib.Core.Path.{◌≡◌, refl, sym, ap, ◌∙◌, subst}
+use mathlib.Core.Bool.{Bool, true, false, not}
+use borrow.Author.Tests.{ne_eqb}
+use lib.Dec.{eqb}
 use mathlib.Core.List.{List, [], ◌∷◌, ◌++◌}
 use mathlib.Core.Option.{some}
-use Prim.Native.Nat.{ℕ, zero, suc, ◌*◌}
+use Prim.Native.Nat.{ℕ, zero, suc, ◌*◌, ◌^◌}
+use denote.Ref.{Bor}
 use lib.ListN.{length, take, drop}
 use Rattle.script_spec.specs.Base.{Bytes, at}
 use Rattle.script_spec.specs.Tree as tree
-use Rattle.script_spec.specs.Fields.{got, Reader, ◌>>=◌, pure, present, part, u32, text, list, element, times, ref, operators}
-use Rattle.script_spec.proofs.Readers.{bind_inverse, tested_inverse, part_inverse, bind_got}
-use Rattle.read_field.specs.Reads.{Told, value, as_read, Reads, chosen}
-use Rattle.read_field.proofs.Laws.{reads_next, reads_pure}
-use Rattle.read_field.proofs.Words.{elements_inverse}
-use Rattle.write_pattern.specs.Elements.{elements}
-use Rattle.write_pattern.proofs.Read.{elements_read}
-use Rattle.read_operator.specs.Again.{ReadsAgain}
+use Rattle.script_spec.specs.Fields.{got, bad, Reader, ◌>>=◌, pure, present, part, u32, text, list, element, times, ref, operators}
+use Rattle.script_spec.proofs.Laws.{never}
+use Rattle.script_spec.proofs.Readers.{bind_inverse, tested_inverse, bind_got}
+use Rattle.std.specs.Prelude.{Result, Ok, Err}
+use Rattle.refusal.specs.declared.Refusal.{Refusal}
+use Rattle.read_field.specs.declared.Cursor.{Cursor}
+use Rattle.read_field.specs.Reads.{as_read, chosen}
+use Rattle.read_field.specs.Takes.{TakesTo, Takes}
+use Rattle.read_field.proofs.Laws.{next}
+use Rattle.read_field.proofs.Words.{elements_inverse, elements_read}
+use Rattle.read_field.specs.Words.{elements}
+use Rattle.read_operator.specs.Again.{Moves, Gives, TakesAgain, Taken, TakesBy, count}
 use Rattle.read_operator.specs.Operators.{record_get_operand, string_like, uninterpreted, zero_extend}
+use Rattle.read_operator.proofs.Laws.{chosen_by}
 
 -- ---- readers without their tests
 
-module _ {A : Type 0} {reader : Reader A} {body : Bytes} {from : ℕ} where
-  -- the same told in other words
-  pub tells_again : {t u : Told A} → t ≡ u → ReadsAgain reader body from t → ReadsAgain reader body from u
-  tells_again e h = subst (λ t. ReadsAgain reader body from t) e h
-
+module _ {A : Type 0} {reader : Reader A} {c : Cursor} where
   -- another reader, which makes the same where this one refuses nothing
-  again_by : {t : Told A} (loose : Reader A) → ((s : Bytes) (a : A) (rest : Bytes) → reader s ≡ got a rest → loose s ≡ got a rest) → Reads loose body from t → ReadsAgain reader body from t
-  again_by loose same r = record { go = λ a rest h. sym r.is ∙ same (drop from body) a rest h }
+  again_by : (loose : Reader A) (x : Result (A × Cursor) Refusal) → ((s : Bytes) (a : A) (rest : Bytes) → reader s ≡ got a rest → loose s ≡ got a rest) → Takes loose c x → TakesAgain reader c x
+  unfolding as_read
+  again_by loose (Ok v) same h = record { body = h.body; go = λ a rest e. (h.body, sym h.reads.is ∙ same (drop c.at c.body.now) a rest e) }
+  again_by loose (Err q) same h = record { body = tt; go = λ a rest e. let f : bad _ ≡ got a rest = sym h.reads.is ∙ same (drop c.at c.body.now) a rest e in never cc }
 
   -- the reader itself
-  pub again : {t : Told A} → Reads reader body from t → ReadsAgain reader body from t
-  again r = again_by reader (λ s a rest h. h) r
+  pub again : (x : Result (A × Cursor) Refusal) → Takes reader c x → TakesAgain reader c x
+  again x h = again_by reader x (λ s a rest e. e) h
 
 -- one field after the other
-pub again_next : {A B : Type 0} {r : Reader A} (k : A → Reader B) {body : Bytes} {from mid : ℕ} {a : A} {t : Told B} → Reads r body from (value a mid) → ReadsAgain (k a) body mid t → ReadsAgain (◌>>=◌ r k) body from t
+pub again_next : {A B : Type 0} {r : Reader A} (k : A → Reader B) {c d : Cursor} {a : A} (y : Result (B × Cursor) Refusal) → TakesTo r c d a → TakesAgain (k a) d y → TakesAgain (◌>>=◌ r k) c y
 unfolding as_read
-again_next {r = r} k h l = record { go = λ b rest g. l.go b rest (sym (bind_got r k h.is) ∙ g) }
+again_next {B = B} k {c} {d} {a} y h l = record { body = moves y l.body; go = λ z rest g. moved z rest y (l.go z rest (ap (λ (s : Bor Bytes). k a (drop d.at s.now)) h.body ∙ sym (bind_got _ k h.reads.is) ∙ g)) }
+  where
+    moves : (y : Result (B × Cursor) Refusal) → Moves d y → Moves c y
+    moves (Ok v) w = w ∙ h.body
+    moves (Err q) w = w
+
+    moved : (z : B) (rest : Bytes) (y : Result (B × Cursor) Refusal) → Gives d z rest y → Gives c z rest y
+    moved z rest (Ok v) w = (w.0 ∙ h.body, subst (λ (s : Bor Bytes). got v.0 (drop v.1.at s.now) ≡ got z rest) h.body w.1)
+    moved z rest (Err q) w = w
 
 -- ---- operands
 
@@ -77,34 +92,28 @@ pattern_same s {o} {rest} h =
     let listed : elements (take (4 * y.value) y.mid) ≡ x.value = elements_read y.value y.mid x.value x.mid y.after in
     bind_got u32 _ y.first ∙ bind_got (part (4 * y.value)) _ cut ∙ ap (λ (p : List ℕ). got (tree.StringLike p) x.mid) listed ∙ x.after
 
-module _ {body : Bytes} {from : ℕ} {t : Told (tree.Op ℕ)} where
-  pub function_again : (count : ℕ) → Reads any_function body from t → ReadsAgain (uninterpreted count) body from t
-  function_again count r = again_by any_function (λ s o rest h. function_same count s h) r
+module _ {c : Cursor} (x : Result (tree.Op ℕ × Cursor) Refusal) where
+  pub function_again : (count : ℕ) → Takes any_function c x → TakesAgain (uninterpreted count) c x
+  function_again count h = again_by any_function x (λ s o rest e. function_same count s e) h
 
-  pub attribute_again : Reads any_attribute body from t → ReadsAgain record_get_operand body from t
-  attribute_again r = again_by any_attribute (λ s o rest h. attribute_same s h) r
+  pub attribute_again : Takes any_attribute c x → TakesAgain record_get_operand c x
+  attribute_again h = again_by any_attribute x (λ s o rest e. attribute_same s e) h
 
-  pub pattern_again : Reads any_pattern body from t → ReadsAgain string_like body from t
-  pattern_again r = again_by any_pattern (λ s o rest h. pattern_same s h) r
-
--- the elements of a part, by where it begins
-pub reads_pattern : {body bytes : Bytes} {from start to : ℕ} (n : ℕ) → Reads u32 body from (value n start) → Reads (part (4 * n)) body start (value bytes to)
-    → Reads any_pattern body from (value (tree.StringLike (elements (take (4 * n) (drop start body)))) to)
-unfolding any_pattern as_read
-reads_pattern {body} {bytes} {from} {start} {to} n r p =
-    subst (λ (s : Bytes). Reads any_pattern body from (value (tree.StringLike (elements s)) to)) (sym (part_inverse (4 * n) (drop start body) p.is).is)
-    (reads_next _ r (reads_next _ p (reads_pure _)))
+  pub pattern_again : Takes any_pattern c x → TakesAgain string_like c x
+  pattern_again h = again_by any_pattern x (λ s o rest e. pattern_same s e) h
 
 -- ---- the operator of a code
 
 -- one whose operand is read again
-pub chosen_again : {body : Bytes} {from code : ℕ} {t : Told (tree.Op ℕ)} (table : List (Reader (tree.Op ℕ))) (k : ℕ) (r : Reader (tree.Op ℕ)) → code ≡ k → at k table ≡ some r
-    → ReadsAgain r body from t → ReadsAgain (chosen table code) body from t
+chosen_again : {c : Cursor} {code : ℕ} {x : Result (tree.Op ℕ × Cursor) Refusal} (table : List (Reader (tree.Op ℕ))) (k : ℕ) (r : Reader (tree.Op ℕ)) → code ≡ k → at k table ≡ some r
+    → TakesAgain r c x → TakesAgain (chosen table code) c x
 unfolding chosen present ◌>>=◌
-chosen_again {body} {from} table k r e found R = record {
-  go = λ o rest h.
-      let here : chosen table k (drop from body) ≡ r (drop from body) = rw (chosen, found) in
-      R.go o rest (sym (ap (λ (c : ℕ). chosen table c (drop from body)) e ∙ here) ∙ h);
+chosen_again {c} table k r e found h = record {
+  body = h.body;
+  go = λ o rest g.
+      let s = drop c.at c.body.now in
+      let here : chosen table k s ≡ r s = rw (chosen, found) in
+      h.go o rest (sym (ap (λ (n : ℕ). chosen table n s) e ∙ here) ∙ g);
 }
 
 -- two tables that differ at one place
@@ -126,6 +135,41 @@ operators_apart n m code h =
     ap (at code) (operators_split n) ∙ at_apart (take 31 (operators 0)) (uninterpreted n) (uninterpreted m) (zero_extend ∷ []) code h ∙ ap (at code) (sym (operators_split m))
 
 -- one that names no function
-pub other_again : {body : Bytes} {from code : ℕ} {t : Told (tree.Op ℕ)} (n m : ℕ) → (code ≡ 31 → ⊥) → Reads (chosen (operators n) code) body from t → ReadsAgain (chosen (operators m) code) body from t
+other_again : {c : Cursor} {code : ℕ} (x : Result (tree.Op ℕ × Cursor) Refusal) (n m : ℕ) → (code ≡ 31 → ⊥) → Takes (chosen (operators n) code) c x → TakesAgain (chosen (operators m) code) c x
 unfolding chosen
-other_again {body} {from} {code} n m h r = record { go = λ o rest g. sym r.is ∙ ap (λ x. ◌>>=◌ (present 7 x) (λ r. r) (drop from body)) (operators_apart n m code h) ∙ g }
+other_again {c} {code} x n m h r = record { body = (again x r).body; go = λ o rest g. (again x r).go o rest (ap (λ x. ◌>>=◌ (present 7 x) (λ r. r) (drop c.at c.body.now)) (operators_apart n m code h) ∙ g) }
+
+-- ---- with or without the tests
+
+module _ {A : Type 0} {r : Reader A} {c : Cursor} {x : Result (A × Cursor) Refusal} where
+  pub tested : Takes r c x → TakesBy true r c x
+  unfolding Taken
+  tested h = record { is = h }
+
+  pub untested : TakesAgain r c x → TakesBy false r c x
+  unfolding Taken
+  untested h = record { is = h }
+
+pub by_any : {A : Type 0} {r : Reader A} {c : Cursor} (b : Bool) (x : Result (A × Cursor) Refusal) → Takes r c x → TakesBy b r c x
+by_any true x h = tested h
+by_any false x h = untested (again x h)
+
+-- a field that is tested, by a parameter that is not 0
+pub tested_if : {A : Type 0} {c : Cursor} (x : Result (A × Cursor) Refusal) (r : Bool → Reader A) (n : ℕ) → (n ≡ 0 → ⊥) → Takes (r true) c x → TakesBy (not (eqb n 0)) (r (not (eqb n 0))) c x
+tested_if x r n h t = rw (ne_eqb n 0 h) (tested t)
+
+pub by_next : {A B : Type 0} (b : Bool) {q : Reader B} (k : B → Reader A) {c d : Cursor} {a : B} (x : Result (A × Cursor) Refusal) → TakesTo q c d a → TakesBy b (k a) d x → TakesBy b (◌>>=◌ q k) c x
+unfolding Taken
+by_next true k x h l = tested (next k x h l.is)
+by_next false k x h l = untested (again_next k x h l.is)
+
+module _ {c : Cursor} {code : ℕ} (x : Result (tree.Op ℕ × Cursor) Refusal) where
+  pub by_chosen : (b : Bool) (table : List (Reader (tree.Op ℕ))) (k : ℕ) {r : Reader (tree.Op ℕ)} → code ≡ k → at k table ≡ some r → TakesBy b r c x → TakesBy b (chosen table code) c x
+  unfolding Taken
+  by_chosen true table k e f h = tested (chosen_by table k e f c x h.is)
+  by_chosen false table k {r} e f h = untested (chosen_again table k r e f h.is)
+
+  pub by_other : (b : Bool) (n : ℕ) → (code ≡ 31 → ⊥) → Takes (chosen (operators n) code) c x → TakesBy b (chosen (operators (count b n)) code) c x
+  unfolding count
+  by_other true n h t = tested t
+  by_other false n h t = untested (other_again x n (2 ^ 32) h t)

@@ -1,24 +1,19 @@
 -- What each operator of the code is, with its operand, and what its answers tell.
 -- Assumes nothing.
-use Rattle.std.specs.Prelude.{◌≡◌, ℕ, ◌*◌, List, [], ◌∷◌, take, drop}
+use Rattle.std.specs.Prelude.{◌≡◌, ℕ, List, [], ◌∷◌, Result, Ok, Err}
 use Rattle.std.proofs.Math.Option.{some}
-use Rattle.script_spec.specs.Base.{Bytes, at}
+use Rattle.script_spec.specs.Base.{at}
 use Rattle.script_spec.specs.Tree as tree
 use Rattle.script_spec.specs.Fields.{Reader, ◌>>=◌, pure, ext_op, text, list, element, ref, u32, operators}
-use Rattle.read_field.specs.Reads.{Told, value, refusal, Reads, chosen}
-use Rattle.read_field.specs.Answers.{spanned}
+use Rattle.refusal.specs.declared.Refusal.{Refusal}
+use Rattle.read_field.specs.declared.Cursor.{Cursor}
+use Rattle.read_field.specs.Reads.{chosen}
+use Rattle.read_field.specs.Takes.{TakesTo}
 use Rattle.read_operator.specs.declared.ExtOp.{ExtOp}
 use Rattle.read_operator.specs.declared.ExtOp.TheVariants as ext
-use Rattle.write_pattern.specs.Elements.{elements}
-use Rattle.read_operator.specs.declared.Pattern.{Pattern}
+use Rattle.read_field.specs.Words.{elements}
 use Rattle.read_operator.specs.declared.Op.{Op}
 use Rattle.read_operator.specs.declared.Op.TheVariants as op
-use Rattle.read_operator.specs.declared.ReadOp.{ReadOp}
-use Rattle.read_operator.specs.declared.ReadOp.TheVariants as answer
-
--- the bytes of a body that hold a pattern
-abbrev pub pattern_bytes : Bytes → Pattern → Bytes
-pattern_bytes body p = take (4 * p.count) (drop p.start body)
 
 -- an extension operator
 unfoldable pub ext_of : ExtOp → tree.ExtOp
@@ -41,50 +36,50 @@ ext_ops = tree.DatetimeOfBitVec ∷ tree.DatetimeVal ∷ tree.DecimalVal ∷ tre
 pub record IsExt (code : ℕ) (x : ExtOp) : Type 0 where
   pub is : at code ext_ops ≡ some (ext_of x)
 
--- an operator with its operand, which stands in the body
-unfoldable pub op_of : Bytes → Op → tree.Op ℕ
-op_of body op.And = tree.Plain tree.And
-op_of body op.Bvadd = tree.Plain tree.Bvadd
-op_of body op.Bvlshr = tree.Plain tree.Bvlshr
-op_of body op.Bvmul = tree.Plain tree.Bvmul
-op_of body op.Bvneg = tree.Plain tree.Bvneg
-op_of body op.Bvnego = tree.Plain tree.Bvnego
-op_of body op.Bvsaddo = tree.Plain tree.Bvsaddo
-op_of body op.Bvsdiv = tree.Plain tree.Bvsdiv
-op_of body op.Bvshl = tree.Plain tree.Bvshl
-op_of body op.Bvsle = tree.Plain tree.Bvsle
-op_of body op.Bvslt = tree.Plain tree.Bvslt
-op_of body op.Bvsmod = tree.Plain tree.Bvsmod
-op_of body op.Bvsmulo = tree.Plain tree.Bvsmulo
-op_of body op.Bvsrem = tree.Plain tree.Bvsrem
-op_of body op.Bvssubo = tree.Plain tree.Bvssubo
-op_of body op.Bvsub = tree.Plain tree.Bvsub
-op_of body op.Bvudiv = tree.Plain tree.Bvudiv
-op_of body op.Bvule = tree.Plain tree.Bvule
-op_of body op.Bvult = tree.Plain tree.Bvult
-op_of body op.Bvurem = tree.Plain tree.Bvurem
-op_of body op.Eq = tree.Plain tree.Eq
-op_of body (op.Ext x) = tree.Ext (ext_of x)
-op_of body op.Ite = tree.Plain tree.Ite
-op_of body op.Not = tree.Plain tree.Not
-op_of body op.OptionGet = tree.Plain tree.OptionGet
-op_of body op.Or = tree.Plain tree.Or
-op_of body (op.RecordGet p) = tree.RecordGet (spanned body p)
-op_of body op.SetInter = tree.Plain tree.SetInter
-op_of body op.SetMember = tree.Plain tree.SetMember
-op_of body op.SetSubset = tree.Plain tree.SetSubset
-op_of body (op.StringLike p) = tree.StringLike (elements (pattern_bytes body p))
-op_of body (op.Uuf n) = tree.Uuf n
-op_of body (op.ZeroExtend n) = tree.ZeroExtend n
+-- an operator with its operand
+unfoldable pub op_of : Op → tree.Op ℕ
+op_of op.And = tree.Plain tree.And
+op_of op.Bvadd = tree.Plain tree.Bvadd
+op_of op.Bvlshr = tree.Plain tree.Bvlshr
+op_of op.Bvmul = tree.Plain tree.Bvmul
+op_of op.Bvneg = tree.Plain tree.Bvneg
+op_of op.Bvnego = tree.Plain tree.Bvnego
+op_of op.Bvsaddo = tree.Plain tree.Bvsaddo
+op_of op.Bvsdiv = tree.Plain tree.Bvsdiv
+op_of op.Bvshl = tree.Plain tree.Bvshl
+op_of op.Bvsle = tree.Plain tree.Bvsle
+op_of op.Bvslt = tree.Plain tree.Bvslt
+op_of op.Bvsmod = tree.Plain tree.Bvsmod
+op_of op.Bvsmulo = tree.Plain tree.Bvsmulo
+op_of op.Bvsrem = tree.Plain tree.Bvsrem
+op_of op.Bvssubo = tree.Plain tree.Bvssubo
+op_of op.Bvsub = tree.Plain tree.Bvsub
+op_of op.Bvudiv = tree.Plain tree.Bvudiv
+op_of op.Bvule = tree.Plain tree.Bvule
+op_of op.Bvult = tree.Plain tree.Bvult
+op_of op.Bvurem = tree.Plain tree.Bvurem
+op_of op.Eq = tree.Plain tree.Eq
+op_of (op.Ext x) = tree.Ext (ext_of x)
+op_of op.Ite = tree.Plain tree.Ite
+op_of op.Not = tree.Plain tree.Not
+op_of op.OptionGet = tree.Plain tree.OptionGet
+op_of op.Or = tree.Plain tree.Or
+op_of (op.RecordGet p) = tree.RecordGet p.now
+op_of op.SetInter = tree.Plain tree.SetInter
+op_of op.SetMember = tree.Plain tree.SetMember
+op_of op.SetSubset = tree.Plain tree.SetSubset
+op_of (op.StringLike p) = tree.StringLike (elements p.now)
+op_of (op.Uuf n) = tree.Uuf n
+op_of (op.ZeroExtend n) = tree.ZeroExtend n
 
--- an operator and the moved cursor, or a refusal
-unfoldable pub op_told : Bytes → ReadOp → Told (tree.Op ℕ)
-op_told body (answer.Is o c) = value (op_of body o) c.at
-op_told body (answer.Bad n) = refusal n
+-- an answer with the operator of the definitions
+abbrev pub op_read : Result (Op × Cursor) Refusal → Result (tree.Op ℕ × Cursor) Refusal
+op_read (Ok v) = Ok (op_of v.0, v.1)
+op_read (Err e) = Err e
 
--- an operator that has this code and no operand, at this place of any body
-pub record Operand (code from : ℕ) (r : ReadOp) : Type 0 where
-  pub go : (funs : ℕ) (body : Bytes) → Reads (chosen (operators funs) code) body from (op_told body r)
+-- an operator that has this code and no operand, at any place of any body
+pub record Operand (code : ℕ) (o : Op) : Type 0 where
+  pub go : (funs : ℕ) (c : Cursor) → TakesTo (chosen (operators funs) code) c c (op_of o)
 
 -- an extension operator, by its code
 unfoldable pub ext_operator : Reader (tree.Op ℕ)

@@ -3,13 +3,15 @@
 
 ghost use Rattle.std.specs.Prelude.{◌≡◌, ◌<◌, ◌≤◌, ◌^◌};
 ghost use Rattle.script_spec.specs.Fields.{operators, operator};
-ghost use Rattle.read_field.specs.Reads.{Reads, chosen};
-ghost use Rattle.read_operator.specs.Again.{ReadsAgain};
+ghost use Rattle.read_field.specs.Reads.{chosen};
+ghost use Rattle.read_field.specs.Takes.{Takes};
+ghost use Rattle.read_operator.specs.Again.{TakesAgain, TakesBy, count};
 ghost use Rattle.read_operator.specs.Codes.{ext_count, bvsmod_code, ext_code, record_get_code};
-ghost use Rattle.read_operator.specs.Operators.{IsExt, Operand, pattern_bytes, op_told, ext_operator, record_get_operand, string_like, uninterpreted, zero_extend};
+ghost use Rattle.read_operator.specs.Operators.{IsExt, Operand, op_read, ext_operator, record_get_operand, string_like, uninterpreted, zero_extend};
 
 use read_field::list::Item;
-use read_field::{Cursor, Moved, ReadNumber, ReadText, Span, list};
+use read_field::{Cursor, list};
+use refusal::Refusal;
 
 // The codes of the operators, all of them; others ask for those with an operand and for that of `Bvnego`.
 const AND: u8 = 0;
@@ -116,16 +118,9 @@ pub enum ExtOp {
     IpaddrPrefixV6,
 }
 
-// The elements of a pattern: so many numbers of four bytes each, from this place of the body on.
+// The operators, each with its operand: of a `StringLike` the bytes of its elements, four each.
 #[derive(Clone, Copy)]
-pub struct Pattern {
-    pub start: usize,
-    pub count: u32,
-}
-
-// The operators, each with its operand.
-#[derive(Clone, Copy)]
-pub enum Op {
+pub enum Op<'a> {
     And,
     Bvadd,
     Bvlshr,
@@ -152,20 +147,13 @@ pub enum Op {
     Not,
     OptionGet,
     Or,
-    RecordGet(Span),
+    RecordGet(&'a [u8]),
     SetInter,
     SetMember,
     SetSubset,
-    StringLike(Pattern),
+    StringLike(&'a [u8]),
     Uuf(u32),
     ZeroExtend(u32),
-}
-
-// What reading an operator answers.
-#[derive(Clone, Copy)]
-pub enum ReadOp {
-    Is(Op, Cursor),
-    Bad(u32),
 }
 
 // The extension operator of a code.
@@ -188,246 +176,183 @@ fn ext_of(code: u32) -> ExtOp
 }
 
 // An extension operator, after the code of `Ext`.
-fn ext(c: Cursor, body: &[u8]) -> ReadOp
-    ensures { Reads ext_operator body.now c.at (op_told body.now result) }
+fn ext<'a>(c: Cursor<'a>) -> Result<(Op<'a>, Cursor<'a>), Refusal>
+    ensures { Takes ext_operator c.entry (op_read result) }
 {
-    match c.byte(body) {
-        ReadNumber::Bad(n) => ReadOp::Bad(n),
-        ReadNumber::Value(code, d) => {
-            if code < EXT_OPS {
-                ReadOp::Is(Op::Ext(ext_of(code)), d)
-            } else {
-                ReadOp::Bad(7)
-            }
-        }
+    let (code, rest) = c.byte()?;
+    if code < EXT_OPS {
+        return Ok((Op::Ext(ext_of(code)), rest));
     }
+    Err(Refusal::OutOfRange)
 }
 
-// The name of the attribute of a `RecordGet`.
-fn record_get(c: Cursor, body: &[u8]) -> ReadOp
-    ensures { Reads record_get_operand body.now c.at (op_told body.now result) }
+// The name of the attribute of a `RecordGet`, which is tested to be UTF-8, or taken as its count says.
+fn record_get<'a, const TESTED: bool>(c: Cursor<'a>) -> Result<(Op<'a>, Cursor<'a>), Refusal>
+    ensures { TakesBy TESTED record_get_operand c.entry (op_read result) }
 {
-    match c.text(body) {
-        ReadText::Bad(n) => ReadOp::Bad(n),
-        ReadText::Bytes(span, d) => ReadOp::Is(Op::RecordGet(span), d),
+    if TESTED {
+        let (name, rest) = c.text()?;
+        return Ok((Op::RecordGet(name), rest));
     }
+    let (n, counted) = c.u32_le()?;
+    let (name, rest) = counted.part(n as usize)?;
+    Ok((Op::RecordGet(name), rest))
 }
 
-// The bytes of a body that hold a pattern.
-pub fn pattern_bytes<'a>(body: &'a [u8], p: Pattern) -> &'a [u8]
-    ensures { result.now ≡ pattern_bytes body.now p }
+// The pattern of a `StringLike`, whose elements are tested, or taken as their count says.
+fn string_like<'a, const TESTED: bool>(c: Cursor<'a>) -> Result<(Op<'a>, Cursor<'a>), Refusal>
+    ensures { TakesBy TESTED string_like c.entry (op_read result) }
 {
-    read_field::part_of(body, p.start, 4 * (p.count as usize))
+    let (n, start) = c.u32_le()?;
+    let size = 4 * (n as usize);
+    if TESTED {
+        let rest = list::items(start, Item::Element, n)?;
+        let elements = read_field::part_of(start.body, start.at, size);
+        return Ok((Op::StringLike(elements), rest));
+    }
+    let (elements, rest) = start.part(size)?;
+    Ok((Op::StringLike(elements), rest))
 }
 
-// The pattern of a `StringLike`.
-fn string_like(c: Cursor, body: &[u8]) -> ReadOp
-    ensures { Reads string_like body.now c.at (op_told body.now result) }
+// The function of a `Uuf`, one of `funs` earlier ones, or whatever its number.
+fn uuf<'a, const TESTED: bool>(c: Cursor<'a>, funs: u32) -> Result<(Op<'a>, Cursor<'a>), Refusal>
+    ensures { TakesBy TESTED (uninterpreted (count TESTED funs)) c.entry (op_read result) }
 {
-    match c.u32_le(body) {
-        ReadNumber::Bad(n) => ReadOp::Bad(n),
-        ReadNumber::Value(count, d) => match list::items(d, body, Item::Element, count) {
-            Moved::Bad(n) => ReadOp::Bad(n),
-            Moved::To(e) => {
-                let start = d.at;
-                ReadOp::Is(Op::StringLike(Pattern { start, count }), e)
-            }
-        },
+    if TESTED {
+        let (n, rest) = c.reference(funs)?;
+        return Ok((Op::Uuf(n), rest));
     }
-}
-
-// The function of a `Uuf`.
-fn uuf(c: Cursor, body: &[u8], funs: u32) -> ReadOp
-    ensures { Reads (uninterpreted funs) body.now c.at (op_told body.now result) }
-{
-    match c.reference(body, funs) {
-        ReadNumber::Bad(n) => ReadOp::Bad(n),
-        ReadNumber::Value(n, d) => ReadOp::Is(Op::Uuf(n), d),
-    }
+    let (n, rest) = c.u32_le()?;
+    Ok((Op::Uuf(n), rest))
 }
 
 // The number of bits of a `ZeroExtend`.
-fn zero_extend(c: Cursor, body: &[u8]) -> ReadOp
-    ensures { Reads zero_extend body.now c.at (op_told body.now result) }
+fn zero_extend<'a>(c: Cursor<'a>) -> Result<(Op<'a>, Cursor<'a>), Refusal>
+    ensures { Takes zero_extend c.entry (op_read result) }
 {
-    match c.u32_le(body) {
-        ReadNumber::Bad(n) => ReadOp::Bad(n),
-        ReadNumber::Value(n, d) => ReadOp::Is(Op::ZeroExtend(n), d),
-    }
+    let (n, rest) = c.u32_le()?;
+    Ok((Op::ZeroExtend(n), rest))
 }
 
 // The operators by their codes, in four ranges, since a match of all in one function takes long to prove: `And` to `Bvslt`.
-fn and_to_bvslt(c: Cursor, code: u8) -> ReadOp
+fn and_to_bvslt<'a>(code: u8) -> Op<'a>
     requires { code < bvsmod_code }
-    ensures { Operand code c.at result }
+    ensures { Operand code result }
 {
     match code {
-        AND => ReadOp::Is(Op::And, c),
-        BVADD => ReadOp::Is(Op::Bvadd, c),
-        BVLSHR => ReadOp::Is(Op::Bvlshr, c),
-        BVMUL => ReadOp::Is(Op::Bvmul, c),
-        BVNEG => ReadOp::Is(Op::Bvneg, c),
-        BVNEGO => ReadOp::Is(Op::Bvnego, c),
-        BVSADDO => ReadOp::Is(Op::Bvsaddo, c),
-        BVSDIV => ReadOp::Is(Op::Bvsdiv, c),
-        BVSHL => ReadOp::Is(Op::Bvshl, c),
-        BVSLE => ReadOp::Is(Op::Bvsle, c),
-        _ => ReadOp::Is(Op::Bvslt, c),
+        AND => Op::And,
+        BVADD => Op::Bvadd,
+        BVLSHR => Op::Bvlshr,
+        BVMUL => Op::Bvmul,
+        BVNEG => Op::Bvneg,
+        BVNEGO => Op::Bvnego,
+        BVSADDO => Op::Bvsaddo,
+        BVSDIV => Op::Bvsdiv,
+        BVSHL => Op::Bvshl,
+        BVSLE => Op::Bvsle,
+        _ => Op::Bvslt,
     }
 }
 
 // `Bvsmod` to `Eq`.
-fn bvsmod_to_eq(c: Cursor, code: u8) -> ReadOp
+fn bvsmod_to_eq<'a>(code: u8) -> Op<'a>
     requires { (bvsmod_code ≤ code) × (code < ext_code) }
-    ensures { Operand code c.at result }
+    ensures { Operand code result }
 {
     match code {
-        BVSMOD => ReadOp::Is(Op::Bvsmod, c),
-        BVSMULO => ReadOp::Is(Op::Bvsmulo, c),
-        BVSREM => ReadOp::Is(Op::Bvsrem, c),
-        BVSSUBO => ReadOp::Is(Op::Bvssubo, c),
-        BVSUB => ReadOp::Is(Op::Bvsub, c),
-        BVUDIV => ReadOp::Is(Op::Bvudiv, c),
-        BVULE => ReadOp::Is(Op::Bvule, c),
-        BVULT => ReadOp::Is(Op::Bvult, c),
-        BVUREM => ReadOp::Is(Op::Bvurem, c),
-        _ => ReadOp::Is(Op::Eq, c),
+        BVSMOD => Op::Bvsmod,
+        BVSMULO => Op::Bvsmulo,
+        BVSREM => Op::Bvsrem,
+        BVSSUBO => Op::Bvssubo,
+        BVSUB => Op::Bvsub,
+        BVUDIV => Op::Bvudiv,
+        BVULE => Op::Bvule,
+        BVULT => Op::Bvult,
+        BVUREM => Op::Bvurem,
+        _ => Op::Eq,
     }
 }
 
 // `Ext` to `Or`.
-fn ext_to_or(c: Cursor, code: u8, body: &[u8], funs: u32) -> ReadOp
+fn ext_to_or<'a>(c: Cursor<'a>, code: u8, funs: u32) -> Result<(Op<'a>, Cursor<'a>), Refusal>
     requires { (ext_code ≤ code) × (code < record_get_code) }
-    ensures { Reads (chosen (operators funs) code) body.now c.at (op_told body.now result) }
+    ensures { Takes (chosen (operators funs) code) c.entry (op_read result) }
 {
     match code {
-        EXT => ext(c, body),
-        ITE => ReadOp::Is(Op::Ite, c),
-        NOT => ReadOp::Is(Op::Not, c),
-        OPTION_GET => ReadOp::Is(Op::OptionGet, c),
-        _ => ReadOp::Is(Op::Or, c),
+        EXT => ext(c),
+        ITE => Ok((Op::Ite, c)),
+        NOT => Ok((Op::Not, c)),
+        OPTION_GET => Ok((Op::OptionGet, c)),
+        _ => Ok((Op::Or, c)),
     }
 }
 
 // `RecordGet` to `ZeroExtend`.
-fn record_get_to_zero_extend(c: Cursor, code: u8, body: &[u8], funs: u32) -> ReadOp
+fn record_get_to_zero_extend<'a, const TESTED: bool>(
+    c: Cursor<'a>,
+    code: u8,
+    funs: u32,
+) -> Result<(Op<'a>, Cursor<'a>), Refusal>
     requires { record_get_code ≤ code }
-    ensures { Reads (chosen (operators funs) code) body.now c.at (op_told body.now result) }
+    ensures { TakesBy TESTED (chosen (operators (count TESTED funs)) code) c.entry (op_read result) }
 {
     match code {
-        RECORD_GET => record_get(c, body),
-        SET_INTER => ReadOp::Is(Op::SetInter, c),
-        SET_MEMBER => ReadOp::Is(Op::SetMember, c),
-        SET_SUBSET => ReadOp::Is(Op::SetSubset, c),
-        STRING_LIKE => string_like(c, body),
-        UUF => uuf(c, body, funs),
-        ZERO_EXTEND => zero_extend(c, body),
-        _ => ReadOp::Bad(7),
+        RECORD_GET => record_get::<TESTED>(c),
+        SET_INTER => Ok((Op::SetInter, c)),
+        SET_MEMBER => Ok((Op::SetMember, c)),
+        SET_SUBSET => Ok((Op::SetSubset, c)),
+        STRING_LIKE => string_like::<TESTED>(c),
+        UUF => uuf::<TESTED>(c, funs),
+        ZERO_EXTEND => zero_extend(c),
+        _ => Err(Refusal::OutOfRange),
     }
 }
 
 // The operator of a code, with its operand.
-fn operand(c: Cursor, code: u8, body: &[u8], funs: u32) -> ReadOp
-    ensures { Reads (chosen (operators funs) code) body.now c.at (op_told body.now result) }
+fn operand<'a, const TESTED: bool>(
+    c: Cursor<'a>,
+    code: u8,
+    funs: u32,
+) -> Result<(Op<'a>, Cursor<'a>), Refusal>
+    ensures { TakesBy TESTED (chosen (operators (count TESTED funs)) code) c.entry (op_read result) }
 {
     if code < BVSMOD {
-        return and_to_bvslt(c, code);
+        return Ok((and_to_bvslt(code), c));
     }
     if code < EXT {
-        return bvsmod_to_eq(c, code);
+        return Ok((bvsmod_to_eq(code), c));
     }
     if code < RECORD_GET {
-        return ext_to_or(c, code, body, funs);
+        return ext_to_or(c, code, funs);
     }
-    record_get_to_zero_extend(c, code, body, funs)
+    record_get_to_zero_extend::<TESTED>(c, code, funs)
+}
+
+// An operator's code and its operand, with or without the tests of a text, a pattern and a function's number.
+fn coded<'a, const TESTED: bool>(c: Cursor<'a>, funs: u32) -> Result<(Op<'a>, Cursor<'a>), Refusal>
+    ensures { TakesBy TESTED (operator (count TESTED funs)) c.entry (op_read result) }
+{
+    if c.left() < 1 {
+        return Err(Refusal::Misfit);
+    }
+    let code = c.body[c.at];
+    let rest = Cursor {
+        body: c.body,
+        at: c.at + 1,
+    };
+    operand::<TESTED>(rest, code, funs)
 }
 
 // An operator's code and its operand; `funs` is the number of earlier functions.
-pub fn operator(c: Cursor, body: &[u8], funs: u32) -> ReadOp
-    ensures { Reads (operator funs) body.now c.at (op_told body.now result) }
+pub fn operator<'a>(c: Cursor<'a>, funs: u32) -> Result<(Op<'a>, Cursor<'a>), Refusal>
+    ensures { Takes (operator funs) c.entry (op_read result) }
 {
-    let at = c.at;
-    if c.left(body) < 1 {
-        return ReadOp::Bad(5);
-    }
-    operand(Cursor { at: at + 1 }, body[at], body, funs)
-}
-
-// The attribute of a `RecordGet` in an accepted body: as many bytes as their count says.
-fn record_get_again(c: Cursor, body: &[u8]) -> ReadOp
-    ensures { ReadsAgain record_get_operand body.now c.at (op_told body.now result) }
-{
-    match c.u32_le(body) {
-        ReadNumber::Bad(n) => ReadOp::Bad(n),
-        ReadNumber::Value(count, d) => match d.part(body, count as usize) {
-            ReadText::Bad(n) => ReadOp::Bad(n),
-            ReadText::Bytes(span, e) => ReadOp::Is(Op::RecordGet(span), e),
-        },
-    }
-}
-
-// The pattern of a `StringLike` in an accepted body: as many elements as their count says.
-fn string_like_again(c: Cursor, body: &[u8]) -> ReadOp
-    ensures { ReadsAgain string_like body.now c.at (op_told body.now result) }
-{
-    match c.u32_le(body) {
-        ReadNumber::Bad(n) => ReadOp::Bad(n),
-        ReadNumber::Value(count, d) => match d.part(body, 4 * (count as usize)) {
-            ReadText::Bad(n) => ReadOp::Bad(n),
-            ReadText::Bytes(_, e) => {
-                let start = d.at;
-                ReadOp::Is(Op::StringLike(Pattern { start, count }), e)
-            }
-        },
-    }
-}
-
-// The function of a `Uuf` in an accepted body, whatever its number.
-fn uuf_again(c: Cursor, body: &[u8]) -> ReadOp
-    ensures { ReadsAgain (uninterpreted (2 ^ 32)) body.now c.at (op_told body.now result) }
-{
-    match c.u32_le(body) {
-        ReadNumber::Bad(n) => ReadOp::Bad(n),
-        ReadNumber::Value(n, d) => ReadOp::Is(Op::Uuf(n), d),
-    }
-}
-
-// `RecordGet` to `ZeroExtend` in an accepted body.
-fn record_get_to_zero_extend_again(c: Cursor, code: u8, body: &[u8]) -> ReadOp
-    requires { record_get_code ≤ code }
-    ensures { ReadsAgain (chosen (operators (2 ^ 32)) code) body.now c.at (op_told body.now result) }
-{
-    match code {
-        RECORD_GET => record_get_again(c, body),
-        STRING_LIKE => string_like_again(c, body),
-        UUF => uuf_again(c, body),
-        _ => record_get_to_zero_extend(c, code, body, 0),
-    }
-}
-
-// The operator of a code, with its operand, in an accepted body.
-fn operand_again(c: Cursor, code: u8, body: &[u8]) -> ReadOp
-    ensures { ReadsAgain (chosen (operators (2 ^ 32)) code) body.now c.at (op_told body.now result) }
-{
-    if code < BVSMOD {
-        return and_to_bvslt(c, code);
-    }
-    if code < EXT {
-        return bvsmod_to_eq(c, code);
-    }
-    if code < RECORD_GET {
-        return ext_to_or(c, code, body, 0);
-    }
-    record_get_to_zero_extend_again(c, code, body)
+    coded::<true>(c, funs)
 }
 
 // An operator's code and its operand in an accepted body: a text, a pattern and a function's number are not tested again.
-pub fn operator_again(c: Cursor, body: &[u8]) -> ReadOp
-    ensures { ReadsAgain (operator (2 ^ 32)) body.now c.at (op_told body.now result) }
+pub fn operator_again<'a>(c: Cursor<'a>) -> Result<(Op<'a>, Cursor<'a>), Refusal>
+    ensures { TakesAgain (operator (2 ^ 32)) c.entry (op_read result) }
 {
-    let at = c.at;
-    if c.left(body) < 1 {
-        return ReadOp::Bad(5);
-    }
-    operand_again(Cursor { at: at + 1 }, body[at], body)
+    coded::<false>(c, 0)
 }

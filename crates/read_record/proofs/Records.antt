@@ -20,9 +20,11 @@ use Rattle.read_record.specs.Bodies.{verdict_as, valueless, body_read}
 use Rattle.read_field.proofs.Laws.{four_at}
 use Rattle.read_record.specs.Records.{followed, read_record, Said, NextRecord}
 use Rattle.read_record.specs.declared.mark.Kind.{Kind}
-use Rattle.read_record.specs.declared.Next.TheVariants as next
-use Rattle.read_record.specs.declared.body.Verdict.TheVariants as verdict
-use Rattle.read_record.proofs.Marked.{lookup_kind}
+use Rattle.std.specs.Prelude.{None, Some, Ok, Err}
+use Rattle.refusal.specs.declared.Refusal.{Refusal}
+use Rattle.refusal.specs.declared.Refusal.TheVariants.{CutShort, UnknownMark}
+use Rattle.refusal.specs.Numbers.{number}
+use Rattle.read_record.proofs.Marked.{lookup_kind, lookup_no_kind, known_kind}
 
 -- ---- each way through
 
@@ -47,85 +49,84 @@ module _ (e : Earlier) (s : Bytes) where
 
 -- ---- what the code finds
 
-is_none : {A : Type 0} (o : Option A) → is_some o ≡ false → o ≡ none
-unfolding is_some
-is_none none h = refl
-is_none (some a) h = absurd (true≢false h)
-
 is_some_at : {A : Type 0} (o : Option A) → is_some o ≡ true → (a : A) × (o ≡ some a)
 unfolding is_some
 is_some_at none h = absurd (true≢false (sym h))
 is_some_at (some a) h = (a, refl)
 
-valueless_bad : (x : Read Entry) (n : ℕ) → verdict_as (verdict.Bad n) ≡ valueless x → x ≡ bad n
+valueless_bad : (x : Read Entry) (v : Refusal) → verdict_as (Err v) ≡ valueless x → x ≡ bad (number v)
 unfolding valueless verdict_as
-valueless_bad (got e rest) n h = cc
-valueless_bad (bad m) n h = let q : n ≡ m = cc in rw q
+valueless_bad (got e rest) v h = cc
+valueless_bad (bad m) v h = let q : number v ≡ m = cc in rw q
 
-valueless_fine : (x : Read Entry) → verdict_as verdict.Fine ≡ valueless x → (e : Entry) × ((rest : Bytes) → followed rest x ≡ got e rest)
+valueless_fine : (x : Read Entry) → verdict_as (Ok tt) ≡ valueless x → (e : Entry) × ((rest : Bytes) → followed rest x ≡ got e rest)
 unfolding valueless verdict_as followed
 valueless_fine (got e left) h = (e, λ rest. refl)
 valueless_fine (bad m) h = never cc
 
 -- the record at a place of a file
 module _ (e : Earlier) (file : Bytes) (at : ℕ) where
-  pub next_short : length file - at < 6 → NextRecord e file at (next.Bad 3)
-  unfolding Said
+  pub next_short : length file - at < 6 → NextRecord e file at (Err CutShort)
+  unfolding Said number
   next_short h = record { is = record_short e (drop at file) (lt-leb 6 (length (drop at file)) (rw length-drop h)) }
 
-  module _ (k : Kind) (enough : 6 ≤ length file - at) (m : Marked (get_or file at 0 ∷ get_or file (at + 1) 0 ∷ []) k) where
+  module _ (enough : 6 ≤ length file - at) where
     six_bytes : leb 6 (length (drop at file)) ≡ true
     six_bytes = le-leb 6 (length (drop at file)) (rw length-drop enough)
 
     mark_bytes : take 2 (drop at file) ≡ get_or file at 0 ∷ get_or file (at + 1) 0 ∷ []
     mark_bytes = let z : at + 0 ≡ at = omega arith in rw z at (simp get_or-drop at (take_two (drop at file) (rw length-drop (omega arith))))
 
-    lookup_mark : lookup (take 2 (drop at file)) (marks e) ≡ reader_of e k
-    lookup_mark = rw mark_bytes (lookup_kind _ k e m)
+    pub next_unknown : Marked (get_or file at 0 ∷ get_or file (at + 1) 0 ∷ []) None → NextRecord e file at (Err UnknownMark)
+    unfolding Said number
+    next_unknown m = record { is = record_unknown e (drop at file) six_bytes (rw mark_bytes (lookup_no_kind _ e m)) }
 
-    pub next_unknown : is_some (reader_of e k) ≡ false → NextRecord e file at (next.Bad 4)
-    unfolding Said
-    next_unknown h = record { is = record_unknown e (drop at file) six_bytes (lookup_mark ∙ is_none (reader_of e k) h) }
+    module _ (k : Kind) (m : Marked (get_or file at 0 ∷ get_or file (at + 1) 0 ∷ []) (Some k)) where
+      lookup_mark : lookup (take 2 (drop at file)) (marks e) ≡ reader_of e k
+      lookup_mark = rw mark_bytes (lookup_kind _ k e m)
 
-    module _ (known : is_some (reader_of e k) ≡ true) (size : ℕ) (sized : size ≡ low (get_or file (at + 2) 0 ∷ get_or file (at + 2 + 1) 0 ∷ get_or file (at + 2 + 2) 0 ∷ get_or file (at + 2 + 3) 0 ∷ [])) where
-      size_is : low (take 4 (drop 2 (drop at file))) ≡ size
-      size_is = rw (drop-drop 2 at file) (sym (sized ∙ ap low (four_at file (at + 2) (omega arith))))
+      known : is_some (reader_of e k) ≡ true
+      known = known_kind k e
 
-      pub next_past : length file - (at + 6) < size → NextRecord e file at (next.Bad 3)
-      unfolding Said
-      next_past h =
-          let r = is_some_at (reader_of e k) known in
-          record { is = record_past e (drop at file) r.0 six_bytes (lookup_mark ∙ r.1) (rw (size_is, drop-drop 6 at file, length-drop) (lt-leb size _ h)) }
+      module _ (size : ℕ) (sized : size ≡ low (get_or file (at + 2) 0 ∷ get_or file (at + 2 + 1) 0 ∷ get_or file (at + 2 + 2) 0 ∷ get_or file (at + 2 + 3) 0 ∷ [])) where
+        size_is : low (take 4 (drop 2 (drop at file))) ≡ size
+        size_is = rw (drop-drop 2 at file) (sym (sized ∙ ap low (four_at file (at + 2) (omega arith))))
 
-      module _ (fits : size ≤ length file - (at + 6)) (n : ℕ) (whole-size : n ≡ size) where
-        read_is : (r : Reader Entry) → reader_of e k ≡ some r
-            → read_record e (drop at file) ≡ followed (drop (at + 6 + size) file) (whole (r (take n (drop (at + 6) file))))
-        read_is r h =
-            record_read e (drop at file) r six_bytes (lookup_mark ∙ h) (rw (size_is, drop-drop 6 at file, length-drop) (le-leb size _ fits))
-            ∙ rw (size_is, drop-drop 6 at file, drop-drop size (at + 6) file, whole-size)
-
-        pub next_bad : {v : ℕ} → verdict_as (verdict.Bad v) ≡ body_read (reader_of e k) (take n (drop (at + 6) file)) → NextRecord e file at (next.Bad v)
-        unfolding Said body_read followed
-        next_bad {v} h =
+        pub next_past : length file - (at + 6) < size → NextRecord e file at (Err CutShort)
+        unfolding Said number
+        next_past h =
             let r = is_some_at (reader_of e k) known in
-            let x = valueless_bad (whole (r.0 (take n (drop (at + 6) file)))) v (rw r.1 at h) in
-            record { is = read_is r.0 r.1 ∙ ap (followed (drop (at + 6 + size) file)) x }
+            record { is = record_past e (drop at file) r.0 six_bytes (lookup_mark ∙ r.1) (rw (size_is, drop-drop 6 at file, length-drop) (lt-leb size _ h)) }
 
-        pub next_fine : verdict_as verdict.Fine ≡ body_read (reader_of e k) (take n (drop (at + 6) file)) → NextRecord e file at (next.Record k (at + 6) (at + 6 + size))
-        unfolding Said body_read
-        next_fine h =
-            let r = is_some_at (reader_of e k) known in
-            let x = valueless_fine (whole (r.0 (take n (drop (at + 6) file)))) (rw r.1 at h) in
-            record {
-              is = record {
-                marked = rw mark_bytes m;
-                starts = refl;
-                ends = ap (λ z. at + 6 + z) (sym size_is);
-                within = omega arith;
-                entry = x.0;
-                is = read_is r.0 r.1 ∙ x.1 (drop (at + 6 + size) file);
-              };
-            }
+        module _ (fits : size ≤ length file - (at + 6)) (n : ℕ) (whole-size : n ≡ size) where
+          read_is : (r : Reader Entry) → reader_of e k ≡ some r
+              → read_record e (drop at file) ≡ followed (drop (at + 6 + size) file) (whole (r (take n (drop (at + 6) file))))
+          read_is r h =
+              record_read e (drop at file) r six_bytes (lookup_mark ∙ h) (rw (size_is, drop-drop 6 at file, length-drop) (le-leb size _ fits))
+              ∙ rw (size_is, drop-drop 6 at file, drop-drop size (at + 6) file, whole-size)
+
+          pub next_bad : {v : Refusal} → verdict_as (Err v) ≡ body_read (reader_of e k) (take n (drop (at + 6) file)) → NextRecord e file at (Err v)
+          unfolding Said body_read followed
+          next_bad {v} h =
+              let r = is_some_at (reader_of e k) known in
+              let x = valueless_bad (whole (r.0 (take n (drop (at + 6) file)))) v (rw r.1 at h) in
+              record { is = read_is r.0 r.1 ∙ ap (followed (drop (at + 6 + size) file)) x }
+
+          pub next_fine : verdict_as (Ok tt) ≡ body_read (reader_of e k) (take n (drop (at + 6) file)) → NextRecord e file at (Ok (record { kind = k; start = at + 6; end = at + 6 + size }))
+          unfolding Said body_read
+          next_fine h =
+              let r = is_some_at (reader_of e k) known in
+              let x = valueless_fine (whole (r.0 (take n (drop (at + 6) file)))) (rw r.1 at h) in
+              record {
+                is = record {
+                  marked = rw mark_bytes m;
+                  starts = refl;
+                  ends = ap (λ z. at + 6 + z) (sym size_is);
+                  within = omega arith;
+                  entry = x.0;
+                  is = read_is r.0 r.1 ∙ x.1 (drop (at + 6 + size) file);
+                };
+              }
 
 -- ---- check
 

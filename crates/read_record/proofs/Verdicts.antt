@@ -5,18 +5,24 @@ use Prim.Native.Nat.{ℕ, ◌-◌, ◌^◌}
 use native.Mathlib.Omega.{arith}
 use mathlib.Core.Bool.{true, false}
 use mathlib.Core.List.{[], ◌∷◌, map}
+use denote.Ref.{Bor}
 use lib.Dec.{ltb}
 use lib.ListN.{length, drop, length-drop}
 use Rattle.script_spec.specs.Base.{Bytes, bytes, same, lookup}
 use Rattle.script_spec.specs.Tree.{IPAddr, Decimal, Datetime, Duration}
 use Rattle.script_spec.specs.Fields.{Read, got, bad, Reader, ◌>>=◌, pure, ensure, Entry, Earlier, marks, whole, text, ref, width, number, list, pair, value, operator, ext_type, entity_ref, coded}
-use Rattle.read_field.specs.Reads.{Told, as_read, Reads, skim}
+use Rattle.std.specs.Prelude.{Result, Ok, Err}
+use Rattle.refusal.specs.declared.Refusal.{Refusal}
+use Rattle.refusal.specs.declared.Refusal.TheVariants.{Misfit}
+use Rattle.refusal.specs.Numbers.{number as number_of}
+use Rattle.read_field.specs.Reads.{as_read, skim}
+use Rattle.read_field.specs.declared.Cursor.{Cursor}
+use Rattle.read_field.specs.Takes.{TakesTo, RefusesAt}
 use Rattle.read_field.specs.Items.{list_reader}
 use Rattle.read_field.proofs.Skims.{skim_bind, skim_map}
-use Rattle.read_record.specs.Marks.{mark, reader_for, reader_of}
+use Rattle.read_record.specs.Marks.{mark, reader_of}
 use Rattle.read_record.specs.Fields.{fields_of, entity, value_below, bit_vec_field, field_reader, three, body_reader}
 use Rattle.read_record.specs.Bodies.{verdict_as, valueless, body_read, all_read}
-use Rattle.read_record.specs.declared.body.Verdict.TheVariants as verdict
 use Rattle.read_record.specs.declared.fields.Fields.{Fields}
 use Rattle.read_record.specs.declared.mark.Kind.{Kind}
 use Rattle.read_record.specs.declared.mark.Kind.TheVariants as kind
@@ -37,10 +43,6 @@ no_field : (a : Entry) (s : Bytes) → skim (pure a) s ≡ three (pure tt) (pure
 unfolding skim three ◌>>=◌ pure
 no_field a s = refl
 
-ended_unknown : (s : Bytes) → bad 4 ≡ all_read (three (λ t. bad 4) (pure tt) (pure tt) s)
-unfolding all_read three ◌>>=◌
-ended_unknown s = refl
-
 -- the fields that are more than one field of the definitions
 entity_skim : (e : Earlier) (s : Bytes) → skim (entity_ref e) s ≡ entity e.is_entity e.types s
 unfolding entity_ref entity
@@ -54,7 +56,7 @@ bit_vec_skim f s = skim_bind width _ value_below (λ n t. skim_bind (number 16) 
 -- the fields of a mark read what the definitions read
 pub verdict_fields : (e : Earlier) (k : Kind) (s : Bytes)
     → body_read (reader_of e k) s ≡ all_read (body_reader e.is_entity (fields_of e.types e.funs e.terms k) s)
-unfolding body_read reader_of reader_for mark marks lookup same bytes body_reader field_reader list_reader ext_type
+unfolding body_read reader_of mark marks lookup same bytes body_reader field_reader list_reader ext_type
 verdict_fields e kind.TB s = ended_reader _ s (no_field _ s)
 verdict_fields e kind.TS s = ended_reader _ s (no_field _ s)
 verdict_fields e kind.TV s = ended_reader _ s (one_field width _ (λ t. refl) _ s)
@@ -77,28 +79,37 @@ verdict_fields e kind.XC s = ended_reader _ s (two_fields (ref e.types) _ (λ t.
 verdict_fields e kind.XR s = ended_reader _ s (one_field (list (pair text (ref e.terms))) _ (λ t. refl) _ s)
 verdict_fields e kind.XA s = ended_reader _ s (three_fields (ref e.types) _ (λ t. refl) (operator e.funs) _ (λ t. refl) (list (ref e.terms)) _ (λ t. refl) _ s)
 verdict_fields e kind.IN s = ended_reader _ s (one_field (ref e.terms) _ (λ t. refl) _ s)
-verdict_fields e kind.Unknown s = ended_unknown s
 
--- what is told of a body's fields decides
-pub verdict_told : (e : Earlier) (k : Kind) (body : Bytes) (fs : Fields) (t : Told (Unit {0})) {y : Read (Unit {0})}
-    → fs ≡ fields_of e.types e.funs e.terms k → Reads (body_reader e.is_entity fs) body 0 t → y ≡ all_read (as_read body t) → y ≡ body_read (reader_of e k) body
-verdict_told e k body fs t f h g = g ∙ ap all_read (sym h.is) ∙ rw f (sym (verdict_fields e k body))
+-- what a cursor at the start of a body takes decides
+module _ (e : Earlier) (k : Kind) {body : Bor Bytes} {c : Cursor} (starts : (c.body ≡ body) × (c.at ≡ 0)) {fs : Fields} (f : fs ≡ fields_of e.types e.funs e.terms k) where
+  decided : {x y : Read (Unit {0})} → body_reader e.is_entity fs (drop c.at c.body.now) ≡ x → y ≡ all_read x → y ≡ body_read (reader_of e k) body.now
+  decided h g =
+      let here : drop c.at c.body.now ≡ body.now = ap (λ (n : ℕ). drop n c.body.now) starts.1 ∙ ap (λ (b : Bor Bytes). b.now) starts.0 in
+      g ∙ ap all_read (sym h ∙ ap (body_reader e.is_entity fs) here) ∙ rw f (sym (verdict_fields e k body.now))
+
+  pub decided_err : {r : Refusal} → RefusesAt (body_reader e.is_entity fs) c r → verdict_as (Err r) ≡ body_read (reader_of e k) body.now
+  unfolding verdict_as all_read as_read
+  decided_err h = decided h.reads.is refl
+
+  pub decided_ok : {d : Cursor} {y : Read (Unit {0})} → TakesTo (body_reader e.is_entity fs) c d tt → y ≡ all_read (got tt (drop d.at d.body.now)) → y ≡ body_read (reader_of e k) body.now
+  unfolding as_read
+  decided_ok {d} h g = decided h.reads.is (g ∙ ap (λ (b : Bor Bytes). all_read (got tt (drop d.at b.now))) h.body)
 
 -- ---- the end of a body
 
-ended_none : (s : Bytes) → length s ≡ 0 → verdict_as verdict.Fine ≡ all_read (got tt s)
+ended_none : (s : Bytes) → length s ≡ 0 → verdict_as (Ok tt) ≡ all_read (got tt s)
 unfolding all_read verdict_as
 ended_none [] h = refl
 ended_none (b ∷ s) h = absurd (omega arith)
 
-ended_some : (s : Bytes) → (length s ≡ 0 → ⊥) → verdict_as (verdict.Bad 5) ≡ all_read (got tt s)
-unfolding all_read verdict_as
+ended_some : (s : Bytes) → (length s ≡ 0 → ⊥) → verdict_as (Err Misfit) ≡ all_read (got tt s)
+unfolding all_read verdict_as number_of
 ended_some [] h = absurd (h refl)
 ended_some (b ∷ s) h = refl
 
-module _ (body : Bytes) (at n : ℕ) (left : n ≡ length body - at) where
-  pub ended_at : n ≡ 0 → verdict_as verdict.Fine ≡ all_read (got tt (drop at body))
-  ended_at h = ended_none (drop at body) (length-drop at body ∙ sym left ∙ h)
+module _ (c : Cursor) {n : ℕ} (left : n ≡ length c.body.now - c.at) where
+  pub ended_at : n ≡ 0 → verdict_as (Ok tt) ≡ all_read (got tt (drop c.at c.body.now))
+  ended_at h = ended_none (drop c.at c.body.now) (length-drop c.at c.body.now ∙ sym left ∙ h)
 
-  pub ended_before : (n ≡ 0 → ⊥) → verdict_as (verdict.Bad 5) ≡ all_read (got tt (drop at body))
-  ended_before h = ended_some (drop at body) (λ e. h (left ∙ sym (length-drop at body) ∙ e))
+  pub ended_before : (n ≡ 0 → ⊥) → verdict_as (Err Misfit) ≡ all_read (got tt (drop c.at c.body.now))
+  ended_before h = ended_some (drop c.at c.body.now) (λ e. h (left ∙ sym (length-drop c.at c.body.now) ∙ e))

@@ -1,15 +1,11 @@
 -- What reading a whole body answers.
 -- Assumes nothing.
-use Rattle.std.specs.Prelude.{ℕ, Bool, ◌&&◌, List, [], ◌∷◌, ltb, length, take, drop, get_or}
+use Rattle.std.specs.Prelude.{ℕ, Bool, ◌&&◌, List, [], ◌∷◌, ltb, length, take, drop, get_or, Result, Ok, Err}
 use Rattle.std.proofs.Math.Option.{Option, none, some}
 use Rattle.script_spec.specs.Base.{Bytes, bytes, same}
 use Rattle.script_spec.specs.Fields.{Read, got, bad, Reader, Entry, Earlier, whole}
-use Rattle.read_field.specs.declared.Moved.{Moved}
-use Rattle.read_field.specs.declared.Moved.TheVariants as moved
-use Rattle.read_operator.specs.declared.ReadOp.{ReadOp}
-use Rattle.read_operator.specs.declared.ReadOp.TheVariants as answer
-use Rattle.read_record.specs.declared.body.Verdict.{Verdict}
-use Rattle.read_record.specs.declared.body.Verdict.TheVariants as verdict
+use Rattle.refusal.specs.declared.Refusal.{Refusal}
+use Rattle.refusal.specs.Numbers.{number}
 
 -- the record at the offset of type n has the mark `TE`
 unfoldable pub is_entity_at : Bytes → List ℕ → ℕ → Bool
@@ -19,15 +15,10 @@ is_entity_at file offsets n = ltb n (length offsets) && same (take 2 (drop (get_
 unfoldable pub earlier_with : ℕ → ℕ → ℕ → Bytes → List ℕ → Earlier
 earlier_with types funs terms file offsets = record { types = types; funs = funs; terms = terms; is_entity = is_entity_at file offsets }
 
--- an answer without its operator
-unfoldable pub op_moved : ReadOp → Moved
-op_moved (answer.Is o c) = moved.To c
-op_moved (answer.Bad n) = moved.Bad n
-
--- what a verdict says: a body that is read to its end, or document 01's refusal
-unfoldable pub verdict_as : Verdict → Read (Unit {0})
-verdict_as verdict.Fine = got tt []
-verdict_as (verdict.Bad n) = bad n
+-- what an answer says: a body that is read to its end, or document 01's refusal
+unfoldable pub verdict_as : Result (Unit {0}) Refusal → Read (Unit {0})
+verdict_as (Ok u) = got tt []
+verdict_as (Err e) = bad (number e)
 
 -- what was read, without its value
 unfoldable pub valueless : {A : Type 0} → Read A → Read (Unit {0})

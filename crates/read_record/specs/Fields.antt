@@ -2,7 +2,7 @@
 -- Assumes nothing.
 use Rattle.std.specs.Prelude.{ℕ, ◌^◌, Bool, List, [], ◌∷◌, ltb}
 use Rattle.script_spec.specs.Tree.{Value, V4, V6, DecimalV, DatetimeV, DurationV}
-use Rattle.script_spec.specs.Fields.{Reader, ◌>>=◌, pure, ensure, bad, ref, text, width, number, address, prefix, value, operator}
+use Rattle.script_spec.specs.Fields.{Reader, ◌>>=◌, pure, ensure, ref, text, width, number, address, prefix, value, operator}
 use Rattle.read_field.specs.Reads.{skim, code}
 use Rattle.read_field.specs.Items.{list_reader}
 use Rattle.read_field.specs.declared.list.Item.TheVariants as item
@@ -40,7 +40,6 @@ fields_of types funs terms kind.XC = row (field.Reference types) (field.List (it
 fields_of types funs terms kind.XR = row (field.List (item.Named terms)) field.Nothing field.Nothing
 fields_of types funs terms kind.XA = row (field.Reference types) (field.Operator funs) (field.List (item.Reference terms))
 fields_of types funs terms kind.IN = row (field.Reference terms) field.Nothing field.Nothing
-fields_of types funs terms kind.Unknown = row field.Unknown field.Nothing field.Nothing
 
 -- a reference to one of `count` types, which has to be an entity type
 unfoldable pub entity : (ℕ → Bool) → ℕ → Reader (Unit {0})
@@ -88,7 +87,6 @@ field_reader is_entity field.Number = bit_vec_field
 field_reader is_entity field.Value = skim value
 field_reader is_entity (field.Operator n) = skim (operator n)
 field_reader is_entity (field.List k) = list_reader k
-field_reader is_entity field.Unknown = λ s. bad 4
 
 -- three fields in their order
 unfoldable pub three : Reader (Unit {0}) → Reader (Unit {0}) → Reader (Unit {0}) → Reader (Unit {0})

@@ -1,14 +1,15 @@
 -- Reading the next record of a file: its mark, its size, and its body by the mark's reader.
 -- Assumes nothing.
-use Rattle.std.specs.Prelude.{◌≡◌, ℕ, ◌+◌, ◌≤◌, true, false, leb, length, take, drop}
+use Rattle.std.specs.Prelude.{◌≡◌, ℕ, ◌+◌, ◌≤◌, true, false, leb, length, take, drop, Some, Result, Ok, Err}
 use Rattle.std.proofs.Math.Option.{none, some}
 use Rattle.script_spec.specs.Base.{Bytes, lookup}
 use Rattle.script_spec.specs.Fields.{Read, got, bad, Entry, Earlier, low, marks, whole}
 use Rattle.read_field.specs.Reads.{Told, value, refusal}
 use Rattle.read_record.specs.Marks.{Marked}
 use Rattle.read_record.specs.declared.mark.Kind.{Kind}
-use Rattle.read_record.specs.declared.Next.{Next}
-use Rattle.read_record.specs.declared.Next.TheVariants as next
+use Rattle.read_record.specs.declared.Record.{Record}
+use Rattle.refusal.specs.declared.Refusal.{Refusal}
+use Rattle.refusal.specs.Numbers.{number}
 
 -- what a body was read as, with the bytes after the record
 unfoldable pub followed : Bytes → Read Entry → Read Entry
@@ -32,7 +33,7 @@ read_record e s =
 
 -- a record of this kind stands at a place of the file, its body from `start` to `end`
 pub record IsRecord (e : Earlier) (file : Bytes) (at : ℕ) (kind : Kind) (start end : ℕ) : Type 0 where
-  pub marked : Marked (take 2 (drop at file)) kind
+  pub marked : Marked (take 2 (drop at file)) (Some kind)
   pub starts : start ≡ at + 6
   pub ends : end ≡ start + low (take 4 (drop 2 (drop at file)))
   pub within : end ≤ length file
@@ -40,9 +41,9 @@ pub record IsRecord (e : Earlier) (file : Bytes) (at : ℕ) (kind : Kind) (start
   pub is : read_record e (drop at file) ≡ got entry (drop end file)
 
 -- an answer in document 01's terms: the record's kind, the start of its body and the place after it, or the refusal's number
-abbrev pub next_told : Next → Told (Kind × ℕ)
-next_told (next.Record k start end) = value (k, start) end
-next_told (next.Bad n) = refusal n
+abbrev pub next_told : Result Record Refusal → Told (Kind × ℕ)
+next_told (Ok r) = value (r.kind, r.start) r.end
+next_told (Err e) = refusal (number e)
 
 -- what is told is the record at a place of the file, or its refusal
 abbrev pub RecordTold : Earlier → Bytes → ℕ → Told (Kind × ℕ) → Type 0
@@ -50,9 +51,9 @@ RecordTold e file at (value x end) = IsRecord e file at x.0 x.1 end
 RecordTold e file at (refusal n) = read_record e (drop at file) ≡ bad n
 
 -- what an answer says
-unfoldable pub Said : Earlier → Bytes → ℕ → Next → Type 0
+unfoldable pub Said : Earlier → Bytes → ℕ → Result Record Refusal → Type 0
 Said e file at r = RecordTold e file at (next_told r)
 
 -- r is the record at a place of the file
-pub record NextRecord (e : Earlier) (file : Bytes) (at : ℕ) (r : Next) : Type 0 where
+pub record NextRecord (e : Earlier) (file : Bytes) (at : ℕ) (r : Result Record Refusal) : Type 0 where
   pub is : Said e file at r

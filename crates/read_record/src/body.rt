@@ -1,179 +1,135 @@
 // Reading a record's body: its fields in their order, the first bad one deciding, and no bytes left over.
-ghost use Rattle.std.specs.Prelude.{◌≡◌, drop};
-ghost use Rattle.script_spec.specs.Fields.{got, value};
-ghost use Rattle.read_field.specs.Reads.{Reads, skim, chosen};
-ghost use Rattle.read_field.specs.Answers.{moved_told};
+ghost use Rattle.std.specs.Prelude.{◌≡◌};
+ghost use Rattle.script_spec.specs.Fields.{value};
+ghost use Rattle.read_field.specs.Reads.{skim, chosen};
+ghost use Rattle.read_field.specs.Takes.{Takes, moved_of};
 ghost use Rattle.read_record.specs.Marks.{reader_of};
 ghost use Rattle.read_record.specs.Fields.{entity, value_below, bit_vec_field, addressed, values, field_reader};
-ghost use Rattle.read_record.specs.Bodies.{is_entity_at, op_moved, earlier_with, verdict_as, body_read, all_read};
+ghost use Rattle.read_record.specs.Bodies.{is_entity_at, earlier_with, verdict_as, body_read};
 
 use crate::fields;
 use crate::fields::Field;
 use crate::mark::Kind;
-use read_field::{Cursor, Moved, ReadNumber, ReadText};
-use read_operator::ReadOp;
+use read_field::Cursor;
+use refusal::Refusal;
 
-// A body that can be read, or the number of its refusal.
+// The types of a file, by the places where their records stand.
 #[derive(Clone, Copy)]
-pub enum Verdict {
-    Fine,
-    Bad(u32),
+struct Types<'a> {
+    file: &'a [u8],
+    offsets: &'a [u32],
 }
 
-// Whether the record at the offset of type n has the mark `TE`.
-fn is_entity(file: &[u8], offsets: &[u32], n: u32) -> bool
-    ensures { result ≡ is_entity_at file.now offsets.now n }
-{
-    let i = n as usize;
-    if offsets.len() <= i {
-        return false;
+impl Types<'_> {
+    // Whether the record of type n has the mark `TE`.
+    fn is_entity(self, n: u32) -> bool
+        ensures { result ≡ is_entity_at self.entry.file.now self.entry.offsets.now n }
+    {
+        let i = n as usize;
+        if self.offsets.len() <= i {
+            return false;
+        }
+        read_field::part_of(self.file, self.offsets[i] as usize, 2) == b"TE".as_slice()
     }
-    let at = offsets[i] as usize;
-    if (Cursor { at }).left(file) < 2 {
-        return false;
-    }
-    file[at] == b'T' && file[at + 1] == b'E'
 }
 
 // A reference to a `TE`.
-fn entity(c: Cursor, body: &[u8], types: u32, file: &[u8], offsets: &[u32]) -> Moved
-    ensures { Reads (entity (is_entity_at file.now offsets.now) types) body.now c.at (moved_told result) }
+fn entity<'a>(c: Cursor<'a>, count: u32, types: Types<'_>) -> Result<Cursor<'a>, Refusal>
+    ensures { Takes (entity (is_entity_at types.entry.file.now types.entry.offsets.now) count) c.entry (moved_of result) }
 {
-    match c.reference(body, types) {
-        ReadNumber::Bad(n) => Moved::Bad(n),
-        ReadNumber::Value(n, d) => {
-            if is_entity(file, offsets, n) {
-                Moved::To(d)
-            } else {
-                Moved::Bad(8)
-            }
-        }
+    let (n, rest) = c.reference(count)?;
+    if !types.is_entity(n) {
+        return Err(Refusal::NoSuchRecord);
     }
+    Ok(rest)
 }
 
 // 16 bytes, low byte first, below 2^width.
-fn below(c: Cursor, body: &[u8], width: u32) -> Moved
-    ensures { Reads (value_below width) body.now c.at (moved_told result) }
+fn below<'a>(c: Cursor<'a>, width: u32) -> Result<Cursor<'a>, Refusal>
+    ensures { Takes (value_below width) c.entry (moved_of result) }
 {
-    match c.part(body, 16) {
-        ReadText::Bad(n) => Moved::Bad(n),
-        ReadText::Bytes(span, d) => {
-            let v = write_bitvec::reading::low_first(read_field::part_of(
-                body, span.start, span.len,
-            ));
-            if write_bitvec::halves::fits(width, v.high, v.low) {
-                Moved::To(d)
-            } else {
-                Moved::Bad(7)
-            }
-        }
+    let (s, rest) = c.part(16)?;
+    if !write_bitvec::fits(width, write_bitvec::reading::low_first(s)) {
+        return Err(Refusal::OutOfRange);
     }
+    Ok(rest)
 }
 
 // A bit vector's width and value.
-fn bit_vec(c: Cursor, body: &[u8]) -> Moved
-    ensures { Reads bit_vec_field body.now c.at (moved_told result) }
+fn bit_vec<'a>(c: Cursor<'a>) -> Result<Cursor<'a>, Refusal>
+    ensures { Takes bit_vec_field c.entry (moved_of result) }
 {
-    match c.width(body) {
-        ReadNumber::Bad(n) => Moved::Bad(n),
-        ReadNumber::Value(width, d) => below(d, body, width),
-    }
+    let (width, rest) = c.width()?;
+    below(rest, width)
 }
 
 // An address of so many bytes and its prefix.
-fn address(c: Cursor, body: &[u8], size: usize, bound: u32) -> Moved
-    ensures { Reads (addressed size bound) body.now c.at (moved_told result) }
+fn address<'a>(c: Cursor<'a>, size: usize, bound: u32) -> Result<Cursor<'a>, Refusal>
+    ensures { Takes (addressed size bound) c.entry (moved_of result) }
 {
-    match c.part(body, size) {
-        ReadText::Bad(n) => Moved::Bad(n),
-        ReadText::Bytes(_, d) => read_field::number_moved(d.prefix(body, bound)),
-    }
+    let (_, rest) = c.part(size)?;
+    Ok(rest.prefix(bound)?.1)
 }
 
 // What stands after the code of an extension value.
-fn coded_value(c: Cursor, body: &[u8], code: u32) -> Moved
-    ensures { Reads (skim (chosen values code)) body.now c.at (moved_told result) }
+fn coded_value<'a>(c: Cursor<'a>, code: u32) -> Result<Cursor<'a>, Refusal>
+    ensures { Takes (skim (chosen values code)) c.entry (moved_of result) }
 {
     if code == 0 {
-        return address(c, body, 4, 32);
+        return address(c, 4, 32);
     }
     if code == 1 {
-        return address(c, body, 16, 128);
+        return address(c, 16, 128);
     }
     if code < 5 {
-        return read_field::text_moved(c.part(body, 8));
+        return Ok(c.part(8)?.1);
     }
-    Moved::Bad(7)
+    Err(Refusal::OutOfRange)
 }
 
 // An extension value.
-fn ext_value(c: Cursor, body: &[u8]) -> Moved
-    ensures { Reads (skim value) body.now c.at (moved_told result) }
+fn ext_value<'a>(c: Cursor<'a>) -> Result<Cursor<'a>, Refusal>
+    ensures { Takes (skim value) c.entry (moved_of result) }
 {
-    match c.byte(body) {
-        ReadNumber::Bad(n) => Moved::Bad(n),
-        ReadNumber::Value(code, d) => coded_value(d, body, code),
-    }
-}
-
-// The answer without the operator.
-fn op_moved(r: ReadOp) -> Moved
-    ensures { result ≡ op_moved r }
-{
-    match r {
-        ReadOp::Is(_, c) => Moved::To(c),
-        ReadOp::Bad(n) => Moved::Bad(n),
-    }
+    let (code, rest) = c.byte()?;
+    coded_value(rest, code)
 }
 
 // One field.
-fn skip(c: Cursor, body: &[u8], field: Field, file: &[u8], offsets: &[u32]) -> Moved
-    ensures { Reads (field_reader (is_entity_at file.now offsets.now) field) body.now c.at (moved_told result) }
+fn skip<'a>(c: Cursor<'a>, field: Field, types: Types<'_>) -> Result<Cursor<'a>, Refusal>
+    ensures { Takes (field_reader (is_entity_at types.entry.file.now types.entry.offsets.now) field) c.entry (moved_of result) }
 {
     match field {
-        Field::Nothing => Moved::To(c),
-        Field::Text => read_field::text_moved(c.text(body)),
-        Field::Width => read_field::number_moved(c.width(body)),
-        Field::Code(n) => read_field::number_moved(c.code(body, n)),
-        Field::Reference(n) => read_field::number_moved(c.reference(body, n)),
-        Field::Entity(n) => entity(c, body, n, file, offsets),
-        Field::Number => bit_vec(c, body),
-        Field::Value => ext_value(c, body),
-        Field::Operator(n) => op_moved(read_operator::operator(c, body, n)),
-        Field::List(item) => read_field::list::list(c, body, item),
-        Field::Unknown => Moved::Bad(4),
+        Field::Nothing => Ok(c),
+        Field::Text => Ok(c.text()?.1),
+        Field::Width => Ok(c.width()?.1),
+        Field::Code(n) => Ok(c.code(n)?.1),
+        Field::Reference(n) => Ok(c.reference(n)?.1),
+        Field::Entity(n) => entity(c, n, types),
+        Field::Number => bit_vec(c),
+        Field::Value => ext_value(c),
+        Field::Operator(n) => Ok(read_operator::operator(c, n)?.1),
+        Field::List(item) => read_field::list::list(c, item),
     }
 }
 
 // The first field: mostly a reference, which is told before the others.
-fn skip_first(body: &[u8], field: Field, file: &[u8], offsets: &[u32]) -> Moved
-    ensures { Reads (field_reader (is_entity_at file.now offsets.now) field) body.now 0 (moved_told result) }
+fn skip_first<'a>(c: Cursor<'a>, field: Field, types: Types<'_>) -> Result<Cursor<'a>, Refusal>
+    ensures { Takes (field_reader (is_entity_at types.entry.file.now types.entry.offsets.now) field) c.entry (moved_of result) }
 {
-    let c = Cursor { at: 0 };
-    match field {
-        Field::Reference(n) => read_field::number_moved(c.reference(body, n)),
-        _ => skip(c, body, field, file, offsets),
+    if let Field::Reference(n) = field {
+        return Ok(c.reference(n)?.1);
     }
+    skip(c, field, types)
 }
 
 // A field after the first: mostly `Nothing`, which is told before the others.
-fn skip_field(c: Cursor, body: &[u8], field: Field, file: &[u8], offsets: &[u32]) -> Moved
-    ensures { Reads (field_reader (is_entity_at file.now offsets.now) field) body.now c.at (moved_told result) }
+fn skip_field<'a>(c: Cursor<'a>, field: Field, types: Types<'_>) -> Result<Cursor<'a>, Refusal>
+    ensures { Takes (field_reader (is_entity_at types.entry.file.now types.entry.offsets.now) field) c.entry (moved_of result) }
 {
     match field {
-        Field::Nothing => Moved::To(c),
-        _ => skip(c, body, field, file, offsets),
-    }
-}
-
-// The end of a body.
-fn end(c: Cursor, body: &[u8]) -> Verdict
-    ensures { verdict_as result ≡ all_read (got tt (drop c.at body.now)) }
-{
-    if c.left(body) == 0 {
-        Verdict::Fine
-    } else {
-        Verdict::Bad(5)
+        Field::Nothing => Ok(c),
+        _ => skip(c, field, types),
     }
 }
 
@@ -186,21 +142,17 @@ pub fn read_body(
     terms: u32,
     file: &[u8],
     offsets: &[u32],
-) -> Verdict
+) -> Result<(), Refusal>
     ensures { verdict_as result ≡ body_read (reader_of (earlier_with types funs terms file.now offsets.now) kind) body.now }
 {
     let all = fields::fields_of(kind, types, funs, terms);
-    let first = all.0;
-    let second = all.1;
-    let third = all.2;
-    match skip_first(body, first, file, offsets) {
-        Moved::Bad(n) => Verdict::Bad(n),
-        Moved::To(c) => match skip_field(c, body, second, file, offsets) {
-            Moved::Bad(n) => Verdict::Bad(n),
-            Moved::To(d) => match skip_field(d, body, third, file, offsets) {
-                Moved::Bad(n) => Verdict::Bad(n),
-                Moved::To(e) => end(e, body),
-            },
-        },
+    let table = Types { file, offsets };
+    let first = skip_first(Cursor::new(body), all.0, table)?;
+    let second = skip_field(first, all.1, table)?;
+    let third = skip_field(second, all.2, table)?;
+    if third.left() == 0 {
+        Ok(())
+    } else {
+        Err(Refusal::Misfit)
     }
 }

@@ -24,8 +24,6 @@ pub enum Field {
     // An operator with its operand, after so many functions.
     Operator(u32),
     List(Item),
-    // What stands for the body of an unknown mark.
-    Unknown,
 }
 
 // The fields of a body in their order.
@@ -79,6 +77,5 @@ pub fn fields_of(kind: Kind, types: u32, funs: u32, terms: u32) -> Fields
             Field::List(Item::Reference(terms)),
         ),
         Kind::IN => Fields(Field::Reference(terms), Field::Nothing, Field::Nothing),
-        Kind::Unknown => Fields(Field::Unknown, Field::Nothing, Field::Nothing),
     }
 }

@@ -8,19 +8,16 @@ pub mod mark;
 ghost use Rattle.read_record.specs.Bodies.{earlier_with};
 ghost use Rattle.read_record.specs.Records.{NextRecord};
 
-use body::Verdict;
 use mark::Kind;
 use read_field::Cursor;
+use refusal::Refusal;
 
-// The next record: its kind and where its body starts and ends in the file; or the number of its refusal.
+// A record: its kind and where its body starts and ends in the file.
 #[derive(Clone, Copy)]
-pub enum Next {
-    Record {
-        kind: Kind,
-        start: usize,
-        end: usize,
-    },
-    Bad(u32),
+pub struct Record {
+    pub kind: Kind,
+    pub start: usize,
+    pub end: usize,
 }
 
 // The record at a place of the file, after so many types, functions and terms; `offsets` has the places of the types.
@@ -31,16 +28,15 @@ pub fn next_record(
     funs: u32,
     terms: u32,
     offsets: &[u32],
-) -> Next
+) -> Result<Record, Refusal>
     ensures { NextRecord (earlier_with types funs terms file.now offsets.now) file.now at result }
 {
-    if (Cursor { at }).left(file) < 6 {
-        return Next::Bad(3);
+    if (Cursor { body: file, at }).left() < 6 {
+        return Err(Refusal::CutShort);
     }
-    let kind = mark::kind_of(file[at], file[at + 1]);
-    if !mark::is_known(kind) {
-        return Next::Bad(4);
-    }
+    let Some(kind) = mark::kind_of(file[at], file[at + 1]) else {
+        return Err(Refusal::UnknownMark);
+    };
     let from = at + 2;
     let size = read_field::word(
         file[from],
@@ -50,12 +46,9 @@ pub fn next_record(
     ) as usize;
     let start = at + 6;
     if file.len() - start < size {
-        return Next::Bad(3);
+        return Err(Refusal::CutShort);
     }
     let end = start + size;
-    let body = &file[start..end];
-    match body::read_body(kind, body, types, funs, terms, file, offsets) {
-        Verdict::Bad(n) => Next::Bad(n),
-        Verdict::Fine => Next::Record { kind, start, end },
-    }
+    body::read_body(kind, &file[start..end], types, funs, terms, file, offsets)?;
+    Ok(Record { kind, start, end })
 }

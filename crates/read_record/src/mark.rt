@@ -1,8 +1,8 @@
 // The marks of records, two fixed bytes each.
 ghost use Rattle.std.specs.Prelude.{[], ◌∷◌};
-ghost use Rattle.read_record.specs.Marks.{Marked, Known};
+ghost use Rattle.read_record.specs.Marks.{Marked};
 
-// A record's mark; `Unknown` stands for two bytes that are none.
+// A record's mark.
 #[derive(Clone, Copy)]
 pub enum Kind {
     TB,
@@ -27,75 +27,64 @@ pub enum Kind {
     XR,
     XA,
     IN,
-    Unknown,
 }
 
 // The marks of types.
-fn type_kind(b: u8) -> Kind
+fn type_kind(b: u8) -> Option<Kind>
     ensures { Marked (84 ∷ b ∷ []) result }
 {
     match b {
-        b'B' => Kind::TB,
-        b'S' => Kind::TS,
-        b'V' => Kind::TV,
-        b'O' => Kind::TO,
-        b'C' => Kind::TC,
-        b'E' => Kind::TE,
-        b'X' => Kind::TX,
-        b'R' => Kind::TR,
-        _ => Kind::Unknown,
+        b'B' => Some(Kind::TB),
+        b'S' => Some(Kind::TS),
+        b'V' => Some(Kind::TV),
+        b'O' => Some(Kind::TO),
+        b'C' => Some(Kind::TC),
+        b'E' => Some(Kind::TE),
+        b'X' => Some(Kind::TX),
+        b'R' => Some(Kind::TR),
+        _ => None,
     }
 }
 
 // The marks of terms.
-fn term_kind(b: u8) -> Kind
+fn term_kind(b: u8) -> Option<Kind>
     ensures { Marked (88 ∷ b ∷ []) result }
 {
     match b {
-        b'V' => Kind::XV,
-        b'B' => Kind::XB,
-        b'N' => Kind::XN,
-        b'S' => Kind::XS,
-        b'E' => Kind::XE,
-        b'X' => Kind::XX,
-        b'0' => Kind::X0,
-        b'1' => Kind::X1,
-        b'C' => Kind::XC,
-        b'R' => Kind::XR,
-        b'A' => Kind::XA,
-        _ => Kind::Unknown,
+        b'V' => Some(Kind::XV),
+        b'B' => Some(Kind::XB),
+        b'N' => Some(Kind::XN),
+        b'S' => Some(Kind::XS),
+        b'E' => Some(Kind::XE),
+        b'X' => Some(Kind::XX),
+        b'0' => Some(Kind::X0),
+        b'1' => Some(Kind::X1),
+        b'C' => Some(Kind::XC),
+        b'R' => Some(Kind::XR),
+        b'A' => Some(Kind::XA),
+        _ => None,
     }
 }
 
-// The kind of a mark, by its two bytes.
-pub fn kind_of(a: u8, b: u8) -> Kind
+// The kind of a mark, by its two bytes, or none.
+pub fn kind_of(a: u8, b: u8) -> Option<Kind>
     ensures { Marked (a ∷ b ∷ []) result }
 {
     match a {
         b'T' => type_kind(b),
         b'X' => term_kind(b),
         b'E' => match b {
-            b'N' => Kind::EN,
-            _ => Kind::Unknown,
+            b'N' => Some(Kind::EN),
+            _ => None,
         },
         b'U' => match b {
-            b'F' => Kind::UF,
-            _ => Kind::Unknown,
+            b'F' => Some(Kind::UF),
+            _ => None,
         },
         b'I' => match b {
-            b'N' => Kind::IN,
-            _ => Kind::Unknown,
+            b'N' => Some(Kind::IN),
+            _ => None,
         },
-        _ => Kind::Unknown,
-    }
-}
-
-// Whether a kind has a mark, and so a reader.
-pub fn is_known(kind: Kind) -> bool
-    ensures { Known kind result }
-{
-    match kind {
-        Kind::Unknown => false,
-        _ => true,
+        _ => None,
     }
 }

@@ -1,6 +1,7 @@
 -- What a text starts with decides what `decode` makes of it: by the ranges of the first byte and of those that follow.
 -- Assumes nothing.
 use mathlib.Core.Path.{◌≡◌, refl, sym, ◌∙◌}
+use mathlib.Core.Logic.{◌⊎◌, inl, inr}
 use mathlib.Core.Bool.{Bool, true, false}
 use mathlib.Core.List.{List, [], ◌∷◌}
 use mathlib.Core.Option.{Option, none, some, map}
@@ -53,6 +54,10 @@ between_above low high n h k = rw (le-leb low n h, lt-leb n high k)
 pub between_in : (low high n : ℕ) → low ≤ n → n ≤ high → between low high n ≡ true
 unfolding between
 between_in low high n h k = rw (le-leb low n h, le-leb n high k)
+
+pub between_either : (low high n : ℕ) → (n < low) ⊎ ((low ≤ n) × (high < n)) → between low high n ≡ false
+between_either low high n (inl h) = between_below low high n h
+between_either low high n (inr h) = between_above low high n h.0 h.1
 
 -- what `decode` makes of a first byte, by its range
 decode_ascii : (a : ℕ) (s : Bytes) → a < 128 → decode zero 0 0 0 (a ∷ s) ≡ after (point a 1) (a ∷ s)

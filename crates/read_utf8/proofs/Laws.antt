@@ -8,6 +8,7 @@ use Prim.Native.Nat.{ℕ, zero, suc, ◌+◌, ◌-◌, ◌*◌, ◌≤◌, ◌<�
 use native.Mathlib.Nat.{not-suc-le-zero}
 use native.Mathlib.Omega.{arith}
 use borrow.Author.Tests.{lt-ltb}
+use denote.Ref.{Bor}
 use lib.Dec.{ltb}
 use lib.ListN.{length, drop, length-drop}
 use lib.Seq.{drop-drop}
@@ -15,10 +16,10 @@ use Rattle.script_spec.specs.Base.{Bytes, between, is_some}
 use Rattle.script_spec.specs.Utf8.{decode, code_points?, code_points, is_utf8}
 use Rattle.script_spec.specs.Walk.{low_enough}
 use Rattle.script_spec.proofs.Laws.{never}
-use Rattle.read_utf8.specs.declared.Cursor.{Cursor}
-use Rattle.read_utf8.specs.declared.Next.{Next}
-use Rattle.read_utf8.specs.declared.Next.TheVariants.{Point, Malformed, End}
-use Rattle.read_utf8.specs.Decoding.{First, nothing, malformed, point, longer, follow, led, first_point, points, points_by, next_said, DecodesAt, is_low}
+use Rattle.std.specs.Prelude.{Option as Optional, None, Some, Result, Ok, Err}
+use Rattle.read_utf8.specs.declared.CodePoints.{CodePoints}
+use Rattle.read_utf8.specs.declared.Malformed.{Malformed}
+use Rattle.read_utf8.specs.Decoding.{First, nothing, malformed, point, longer, follow, led, first_point, points, points_by, next_said, Decodes, is_low}
 use Rattle.read_utf8.proofs.Decode.{after, decode_first}
 
 -- ---- how far a code point reaches
@@ -156,12 +157,17 @@ utf8_points s h = utf8_cases s (decode zero 0 0 0 s) refl h
 
 -- ---- what a cursor finds
 
--- a code point v at a place of a text, and the place after it
-pub record PointAt (s : Bytes) (at v : ℕ) (c : Cursor) : Type 0 where
-  pub value : points (drop at s) ≡ v ∷ points (drop c.at s)
-  pub utf8 : is_utf8 (drop at s) ≡ is_utf8 (drop c.at s)
-  pub moves : at < c.at
-  pub inside : c.at ≤ length s
+-- what is left of a text
+abbrev left : CodePoints → Bytes
+left c = drop c.at c.text.now
+
+-- a code point v stands first of what c leaves of a text, and d is after it
+pub record PointAt (c d : CodePoints) (v : ℕ) : Type 0 where
+  pub value : points (left c) ≡ v ∷ points (left d)
+  pub utf8 : is_utf8 (left c) ≡ is_utf8 (left d)
+  pub moves : c.at < d.at
+  pub inside : d.at ≤ length c.text.now
+  pub smaller : length d.text.now - d.at < length c.text.now - c.at
 
 some_map : (v : ℕ) (o : Option (List ℕ)) → is_some (map (λ (r : List ℕ). v ∷ r) o) ≡ is_some o
 unfolding is_some
@@ -184,43 +190,45 @@ utf8_first : (s : Bytes) → is_utf8 s ≡ utf8_then (first_point s) s
 unfolding is_utf8 code_points?
 utf8_first s = ap is_some (decode_first s) ∙ utf8_after (first_point s) s
 
--- a cursor that finds a code point
-pub next_point : {s : Bytes} {at v : ℕ} {r : Next} {c : Cursor} → DecodesAt (first_point (drop at s)) at r → r ≡ Point v c → PointAt s at v c
+pub next_point : {c d : CodePoints} {v : ℕ} {r : Optional (Result ℕ Malformed)} → Decodes (first_point (left c)) c d r → r ≡ Some (Ok v) → PointAt c d v
 unfolding next_said pointed utf8_then
-next_point {s} {at} {v} {r} {c} F h =
-    let G : DecodesAt (first_point (drop at s)) at (Point v c) = subst (λ (r : Next). DecodesAt (first_point (drop at s)) at r) h F in
-    let e : first_point (drop at s) ≡ point v (c.at - at) = sym G.is in
-    let w : Within 1 (length (drop at s)) (point v (c.at - at)) = subst (λ (f : First). Within 1 (length (drop at s)) f) e (within_first (drop at s)) in
-    let on : at ≤ c.at = G.onward in
-    let p : at + (c.at - at) ≡ c.at = omega arith in
-    let d : drop (c.at - at) (drop at s) ≡ drop c.at s = drop-drop (c.at - at) at s ∙ ap (λ (n : ℕ). drop n s) p in
-    let l : length (drop at s) ≡ length s - at = length-drop at s in
+next_point {c} {d} {v} F h =
+    let s = c.text.now in
+    let G : Decodes (first_point (left c)) c d (Some (Ok v)) = subst (λ (r : Optional (Result ℕ Malformed)). Decodes (first_point (left c)) c d r) h F in
+    let e : first_point (left c) ≡ point v (d.at - c.at) = sym G.is in
+    let w : Within 1 (length (left c)) (point v (d.at - c.at)) = subst (λ (f : First). Within 1 (length (left c)) f) e (within_first (left c)) in
+    let on : c.at ≤ d.at = G.onward in
+    let p : c.at + (d.at - c.at) ≡ d.at = omega arith in
+    let x : drop (d.at - c.at) (left c) ≡ left d = drop-drop (d.at - c.at) c.at s ∙ ap (λ (n : ℕ). drop n s) p ∙ sym (ap (λ (t : Bor Bytes). drop d.at t.now) G.text) in
+    let l : length (left c) ≡ length s - c.at = length-drop c.at s in
+    let same : length d.text.now ≡ length s = ap (λ (t : Bor Bytes). length t.now) G.text in
     record {
-      value = points_first (drop at s) ∙ ap (λ (f : First). pointed f (drop at s)) e ∙ (rw d);
-      utf8 = utf8_first (drop at s) ∙ ap (λ (f : First). utf8_then f (drop at s)) e ∙ ap is_utf8 d;
+      value = points_first (left c) ∙ ap (λ (f : First). pointed f (left c)) e ∙ (rw x);
+      utf8 = utf8_first (left c) ∙ ap (λ (f : First). utf8_then f (left c)) e ∙ ap is_utf8 x;
       moves = omega (arith, w.0);
       inside = omega (arith, w.0, w.1);
+      smaller = omega (arith, w.0, w.1, same);
     }
 
--- a cursor at bytes that are not UTF-8, and at the end
-pub next_malformed : (s : Bytes) (at : ℕ) {r : Next} → DecodesAt (first_point (drop at s)) at r → r ≡ Malformed → (is_utf8 (drop at s) ≡ false) × (points (drop at s) ≡ [])
+-- bytes that are not UTF-8, and the end
+pub next_malformed : {c d : CodePoints} {m : Malformed} {r : Optional (Result ℕ Malformed)} → Decodes (first_point (left c)) c d r → r ≡ Some (Err m) → (is_utf8 (left c) ≡ false) × (points (left c) ≡ [])
 unfolding next_said pointed utf8_then
-next_malformed s at F h =
-    let e : first_point (drop at s) ≡ malformed = sym F.is ∙ ap (next_said at) h in
-    (utf8_first (drop at s) ∙ ap (λ (f : First). utf8_then f (drop at s)) e, points_first (drop at s) ∙ ap (λ (f : First). pointed f (drop at s)) e)
+next_malformed {c} {d} F h =
+    let e : first_point (left c) ≡ malformed = sym F.is ∙ ap (next_said (d.at - c.at)) h in
+    (utf8_first (left c) ∙ ap (λ (f : First). utf8_then f (left c)) e, points_first (left c) ∙ ap (λ (f : First). pointed f (left c)) e)
 
-pub next_end : (s : Bytes) (at : ℕ) {r : Next} → DecodesAt (first_point (drop at s)) at r → r ≡ End → (is_utf8 (drop at s) ≡ true) × (points (drop at s) ≡ [])
+pub next_end : {c d : CodePoints} {r : Optional (Result ℕ Malformed)} → Decodes (first_point (left c)) c d r → r ≡ None → (is_utf8 (left c) ≡ true) × (points (left c) ≡ [])
 unfolding next_said pointed utf8_then
-next_end s at F h =
-    let e : first_point (drop at s) ≡ nothing = sym F.is ∙ ap (next_said at) h in
-    (utf8_first (drop at s) ∙ ap (λ (f : First). utf8_then f (drop at s)) e, points_first (drop at s) ∙ ap (λ (f : First). pointed f (drop at s)) e)
+next_end {c} {d} F h =
+    let e : first_point (left c) ≡ nothing = sym F.is ∙ ap (next_said (d.at - c.at)) h in
+    (utf8_first (left c) ∙ ap (λ (f : First). utf8_then f (left c)) e, points_first (left c) ∙ ap (λ (f : First). pointed f (left c)) e)
 
 -- ---- code points that SMT-LIB's strings have
 
-pub low_more : {s : Bytes} {at v : ℕ} {c : Cursor} → PointAt s at v c → is_low v ≡ true → low_enough (points (drop at s)) ≡ low_enough (points (drop c.at s))
+pub low_more : {c d : CodePoints} {v : ℕ} → PointAt c d v → is_low v ≡ true → low_enough (points (left c)) ≡ low_enough (points (left d))
 unfolding low_enough is_low
 low_more p h = rw (p.value, h)
 
-pub low_stop : {s : Bytes} {at v : ℕ} {c : Cursor} → PointAt s at v c → is_low v ≡ false → low_enough (points (drop at s)) ≡ false
+pub low_stop : {c d : CodePoints} {v : ℕ} → PointAt c d v → is_low v ≡ false → low_enough (points (left c)) ≡ false
 unfolding low_enough is_low
 low_stop p h = rw (p.value, h)

@@ -4,7 +4,7 @@ use mathlib.Core.Path.{◌≡◌, refl, sym, ap, ◌∙◌}
 use mathlib.Core.Bool.{Bool, true, false}
 use mathlib.Core.List.{◌∷◌}
 use Prim.Native.Nat.{ℕ, zero, suc, ◌+◌, ◌-◌, ◌*◌, ◌^◌, ◌≤◌, ◌<◌}
-use native.Mathlib.Nat.{mul-le-mul_right, mul-le-mul_left, one-le-pow, mul_assoc, pow-succ', le_trans}
+use native.Mathlib.Nat.{mul-le-mul_right, mul-le-mul_left, one-le-pow, mul_assoc, pow-succ', le_refl, le_trans}
 use native.Mathlib.Numerals.{add-one, sub-one}
 use native.Mathlib.Omega.{arith}
 use borrow.Author.Tests.{lt-ltb, le-ltb}
@@ -12,57 +12,63 @@ use lib.Dec.{eqb}
 use lib.ListN.{length, drop, get_or, drop_of_length-le}
 use lib.Seq.{drop-cons}
 use Rattle.script_spec.specs.Base.{Bytes, between}
-use Rattle.read_utf8.specs.declared.Next.{Next}
-use Rattle.read_utf8.specs.declared.Next.TheVariants.{Point, Malformed, End}
-use Rattle.read_utf8.specs.Decoding.{First, malformed, point, longer, follow, led, first_point, choose, next_said, DecodesAt, Small}
+use Rattle.std.specs.Prelude.{Option, None, Some, Result, Ok, Err}
+use Rattle.read_utf8.specs.declared.CodePoints.{CodePoints}
+use Rattle.read_utf8.specs.declared.Malformed.{Malformed}
+use Rattle.read_utf8.specs.Decoding.{First, malformed, point, longer, follow, led, first_point, choose, next_said, Decodes, Small}
 
--- bytes that are not UTF-8
-decodes_malformed : {f : First} {at : ℕ} → f ≡ malformed → DecodesAt f at Malformed
+-- what is left of a text
+abbrev left : CodePoints → Bytes
+left c = drop c.at c.text.now
+
+-- bytes that are not UTF-8, where nothing moves
+decodes_malformed : {f : First} {c : CodePoints} {m : Malformed} → f ≡ malformed → Decodes f c c (Some (Err m))
 unfolding next_said
-decodes_malformed e = record { is = sym e; onward = tt }
+decodes_malformed {c = c} e = record { is = sym e; onward = le_refl c.at; text = refl }
 
 -- a code point of k bytes
-decodes_point : {f : First} {at v n : ℕ} (k : ℕ) → f ≡ point v k → n ≡ at + k → DecodesAt f at (Point v (record { at = n }))
+decodes_point : {f : First} {c d : CodePoints} {v : ℕ} (k : ℕ) → f ≡ point v k → d.at ≡ c.at + k → d.text ≡ c.text → Decodes f c d (Some (Ok v))
 unfolding next_said
-decodes_point {f} {at} {v} {n} k e h =
-    let d : n - at ≡ k = omega arith in
-    record { is = ap (λ (m : ℕ). point v m) d ∙ sym e; onward = omega arith }
+decodes_point {f} {c} {d} {v} k e h t =
+    let n : d.at - c.at ≡ k = omega arith in
+    record { is = ap (λ (m : ℕ). point v m) n ∙ sym e; onward = omega arith; text = t }
 
 -- one byte more is one place further
-decodes_longer : (at : ℕ) {f : First} (r : Next) → DecodesAt f (at + 1) r → DecodesAt (longer f) at r
+decodes_longer : {f : First} {b c d : CodePoints} (r : Result ℕ Malformed) → c.at ≡ b.at + 1 → c.text ≡ b.text → Decodes f c d (Some r) → Decodes (longer f) b d (Some r)
 unfolding next_said longer
-decodes_longer at End F = record { is = ap longer F.is; onward = tt }
-decodes_longer at Malformed F = record { is = ap longer F.is; onward = tt }
-decodes_longer at (Point v c) F =
-    let h : at + 1 ≤ c.at = F.onward in
-    let d : c.at - at ≡ suc (c.at - (at + 1)) = omega arith in
-    record { is = ap (λ (m : ℕ). point v m) d ∙ ap longer F.is; onward = omega arith }
+decodes_longer {b = b} {c} {d} (Err m) e t F =
+    let h : c.at ≤ d.at = F.onward in
+    record { is = ap longer F.is; onward = omega arith; text = F.text ∙ t }
+decodes_longer {b = b} {c} {d} (Ok v) e t F =
+    let h : c.at ≤ d.at = F.onward in
+    let n : d.at - b.at ≡ suc (d.at - c.at) = omega arith in
+    record { is = ap (λ (m : ℕ). point v m) n ∙ ap longer F.is; onward = omega arith; text = F.text ∙ t }
 
 -- ---- a byte that continues a code point
 
-pub follow_done : (more low high v at : ℕ) (s : Bytes) → more ≡ 0 → DecodesAt (follow more low high v s) at (Point v (record { at = at }))
+pub follow_done : (more low high v : ℕ) (c : CodePoints) → more ≡ 0 → Decodes (follow more low high v (left c)) c c (Some (Ok v))
 unfolding follow
-follow_done zero low high v at s h = decodes_point 0 refl (omega arith)
-follow_done (suc m) low high v at s h = absurd (omega arith)
+follow_done zero low high v c h = decodes_point 0 refl (omega arith) refl
+follow_done (suc m) low high v c h = absurd (omega arith)
 
-pub follow_short : (more low high v at : ℕ) (s : Bytes) → (more ≡ 0 → ⊥) → length s ≤ at → DecodesAt (follow more low high v (drop at s)) at Malformed
+pub follow_short : (more low high v : ℕ) (c : CodePoints) {m : Malformed} → (more ≡ 0 → ⊥) → length c.text.now ≤ c.at → Decodes (follow more low high v (left c)) c c (Some (Err m))
 unfolding follow
-follow_short zero low high v at s h k = absurd (h refl)
-follow_short (suc m) low high v at s h k = decodes_malformed (rw (drop_of_length-le s k))
+follow_short zero low high v c h k = absurd (h refl)
+follow_short (suc n) low high v c h k = decodes_malformed (rw (drop_of_length-le c.text.now k))
 
-pub follow_outside : (more low high v b at : ℕ) (s : Bytes) → (more ≡ 0 → ⊥) → at < length s → b ≡ get_or s at 0 → between low high b ≡ false
-    → DecodesAt (follow more low high v (drop at s)) at Malformed
+pub follow_outside : (more low high v b : ℕ) (c : CodePoints) {m : Malformed} → (more ≡ 0 → ⊥) → c.at < length c.text.now → b ≡ get_or c.text.now c.at 0 → between low high b ≡ false
+    → Decodes (follow more low high v (left c)) c c (Some (Err m))
 unfolding follow
-follow_outside zero low high v b at s h k e q = absurd (h refl)
-follow_outside (suc m) low high v b at s h k e q = decodes_malformed (rw (drop-cons s at 0 k, ← e, q, follow))
+follow_outside zero low high v b c h k e q = absurd (h refl)
+follow_outside (suc n) low high v b c h k e q = decodes_malformed (rw (drop-cons c.text.now c.at 0 k, ← e, q, follow))
 
-pub follow_more : (more low high v b at : ℕ) (s : Bytes) (r : Next) → (more ≡ 0 → ⊥) → at < length s → b ≡ get_or s at 0 → between low high b ≡ true
-    → DecodesAt (follow (more - 1) 128 191 (v * 64 + (b - 128)) (drop (at + 1) s)) (at + 1) r → DecodesAt (follow more low high v (drop at s)) at r
+pub follow_more : (more low high v b : ℕ) {c n d : CodePoints} (r : Result ℕ Malformed) → (more ≡ 0 → ⊥) → c.at < length c.text.now → b ≡ get_or c.text.now c.at 0 → between low high b ≡ true
+    → n.at ≡ c.at + 1 → n.text ≡ c.text → Decodes (follow (more - 1) 128 191 (v * 64 + (b - 128)) (left n)) n d (Some r) → Decodes (follow more low high v (left c)) c d (Some r)
 unfolding follow
-follow_more zero low high v b at s r h k e q F = absurd (h refl)
-follow_more (suc m) low high v b at s r h k e q F =
-    let d : drop at s ≡ b ∷ drop (at + 1) s = rw (drop-cons s at 0 k, add-one, e) in
-    rw (d, q, follow) (decodes_longer at r (rw sub-one at F))
+follow_more zero low high v b r h k e q i t F = absurd (h refl)
+follow_more (suc m) low high v b {c} {n} r h k e q i t F =
+    let x : left c ≡ b ∷ left n = rw (t, i) (rw (drop-cons c.text.now c.at 0 k, add-one, e)) in
+    rw (x, q, follow) (decodes_longer r i t (rw sub-one at F))
 
 -- ---- the bits of a code point
 
@@ -96,43 +102,45 @@ small_chosen more low high v x y false false e f h k b = record { bits = b; from
 
 -- ---- a first byte of 128 or more, by its range
 
-module _ (a at : ℕ) (s : Bytes) where
-  pub led_low : a < 194 → DecodesAt (led a s) at Malformed
+module _ (a : ℕ) (s : Bytes) {c : CodePoints} where
+  pub led_low : {m : Malformed} → a < 194 → Decodes (led a s) c c (Some (Err m))
   unfolding led
   led_low h = decodes_malformed (rw (lt-ltb a 194 h, led))
 
-  pub led_two : (r : Next) → 194 ≤ a → a < 224 → DecodesAt (follow 1 128 191 (a - 192) s) at r → DecodesAt (led a s) at r
-  unfolding led
-  led_two r h k e = rw (le-ltb a 194 h, lt-ltb a 224 k, led) e
+  module _ {d : CodePoints} {r : Option (Result ℕ Malformed)} where
+    pub led_two : 194 ≤ a → a < 224 → Decodes (follow 1 128 191 (a - 192) s) c d r → Decodes (led a s) c d r
+    unfolding led
+    led_two h k e = rw (le-ltb a 194 h, lt-ltb a 224 k, led) e
 
-  pub led_three : (r : Next) (low high : ℕ) → 224 ≤ a → a < 240 → low ≡ choose (eqb a 224) 160 128 → high ≡ choose (eqb a 237) 159 191
-      → DecodesAt (follow 2 low high (a - 224) s) at r → DecodesAt (led a s) at r
-  unfolding led
-  led_three r low high h k i j e = rw (le-ltb a 194 (omega arith), le-ltb a 224 h, lt-ltb a 240 k, led) (rw (i, j) at e)
+    pub led_three : (low high : ℕ) → 224 ≤ a → a < 240 → low ≡ choose (eqb a 224) 160 128 → high ≡ choose (eqb a 237) 159 191
+        → Decodes (follow 2 low high (a - 224) s) c d r → Decodes (led a s) c d r
+    unfolding led
+    led_three low high h k i j e = rw (le-ltb a 194 (omega arith), le-ltb a 224 h, lt-ltb a 240 k, led) (rw (i, j) at e)
 
-  pub led_four : (r : Next) (low high : ℕ) → 240 ≤ a → a < 245 → low ≡ choose (eqb a 240) 144 128 → high ≡ choose (eqb a 244) 143 191
-      → DecodesAt (follow 3 low high (a - 240) s) at r → DecodesAt (led a s) at r
-  unfolding led
-  led_four r low high h k i j e = rw (le-ltb a 194 (omega arith), le-ltb a 224 (omega arith), le-ltb a 240 h, lt-ltb a 245 k, led) (rw (i, j) at e)
+    pub led_four : (low high : ℕ) → 240 ≤ a → a < 245 → low ≡ choose (eqb a 240) 144 128 → high ≡ choose (eqb a 244) 143 191
+        → Decodes (follow 3 low high (a - 240) s) c d r → Decodes (led a s) c d r
+    unfolding led
+    led_four low high h k i j e = rw (le-ltb a 194 (omega arith), le-ltb a 224 (omega arith), le-ltb a 240 h, lt-ltb a 245 k, led) (rw (i, j) at e)
 
-  pub led_high : 245 ≤ a → DecodesAt (led a s) at Malformed
+  pub led_high : {m : Malformed} → 245 ≤ a → Decodes (led a s) c c (Some (Err m))
   unfolding led
   led_high h = decodes_malformed (rw (le-ltb a 194 (omega arith), le-ltb a 224 (omega arith), le-ltb a 240 (omega arith), le-ltb a 245 h, led))
 
 -- ---- what stands at a place
 
-pub first_end : (at : ℕ) (s : Bytes) → length s ≤ at → DecodesAt (first_point (drop at s)) at End
+pub first_end : (c : CodePoints) → length c.text.now ≤ c.at → Decodes (first_point (left c)) c c None
 unfolding first_point next_said
-first_end at s h = record { is = rw (drop_of_length-le s h); onward = tt }
+first_end c h = record { is = rw (drop_of_length-le c.text.now h); onward = refl; text = refl }
 
-pub first_ascii : (a at : ℕ) (s : Bytes) → at < length s → a ≡ get_or s at 0 → a < 128 → DecodesAt (first_point (drop at s)) at (Point a (record { at = at + 1 }))
+pub first_ascii : (a : ℕ) {c d : CodePoints} → c.at < length c.text.now → a ≡ get_or c.text.now c.at 0 → a < 128 → d.at ≡ c.at + 1 → d.text ≡ c.text → Decodes (first_point (left c)) c d (Some (Ok a))
 unfolding first_point
-first_ascii a at s h e k =
-    let d : drop at s ≡ a ∷ drop (suc at) s = rw (drop-cons s at 0 h, e) in
-    decodes_point 1 (rw (d, lt-ltb a 128 k, first_point)) refl
+first_ascii a {c} h e k i t =
+    let x : left c ≡ a ∷ drop (suc c.at) c.text.now = rw (drop-cons c.text.now c.at 0 h, e) in
+    decodes_point 1 (rw (x, lt-ltb a 128 k, first_point)) i t
 
-pub first_led : (a at : ℕ) (s : Bytes) (r : Next) → at < length s → a ≡ get_or s at 0 → 128 ≤ a → DecodesAt (led a (drop (at + 1) s)) (at + 1) r → DecodesAt (first_point (drop at s)) at r
+pub first_led : (a : ℕ) {c n d : CodePoints} (r : Result ℕ Malformed) → c.at < length c.text.now → a ≡ get_or c.text.now c.at 0 → 128 ≤ a → n.at ≡ c.at + 1 → n.text ≡ c.text
+    → Decodes (led a (left n)) n d (Some r) → Decodes (first_point (left c)) c d (Some r)
 unfolding first_point
-first_led a at s r h e k F =
-    let d : drop at s ≡ a ∷ drop (at + 1) s = rw (drop-cons s at 0 h, add-one, e) in
-    rw (d, le-ltb a 128 k, first_point) (decodes_longer at r F)
+first_led a {c} {n} r h e k i t F =
+    let x : left c ≡ a ∷ left n = rw (t, i) (rw (drop-cons c.text.now c.at 0 h, add-one, e)) in
+    rw (x, le-ltb a 128 k, first_point) (decodes_longer r i t F)

@@ -1,10 +1,10 @@
 -- Code points one by one: what a text starts with, what a cursor finds, and the code points of any bytes.
 -- Assumes nothing.
-use Rattle.std.specs.Prelude.{◌≡◌, ℕ, zero, suc, ◌+◌, ◌-◌, ◌*◌, ◌^◌, ◌≤◌, Bool, true, false, ◌||◌, List, [], ◌∷◌, eqb, leb, ltb, length, drop}
+use Rattle.std.specs.Prelude.{◌≡◌, ℕ, zero, suc, ◌+◌, ◌-◌, ◌*◌, ◌^◌, ◌≤◌, Bool, true, false, ◌||◌, List, [], ◌∷◌, eqb, leb, ltb, length, drop, Option, None, Some, Result, Ok, Err}
 use Rattle.script_spec.specs.Base.{Bytes, between}
 use Rattle.script_spec.specs.Tree.{wildcard}
-use Rattle.read_utf8.specs.declared.Next.{Next}
-use Rattle.read_utf8.specs.declared.Next.TheVariants.{Point, Malformed, End}
+use Rattle.read_utf8.specs.declared.CodePoints.{CodePoints}
+use Rattle.read_utf8.specs.declared.Malformed.{Malformed}
 
 -- what a text starts with: nothing, bytes that are not UTF-8, or a code point and the number of its bytes
 pub data First : Type 0 where
@@ -63,22 +63,22 @@ points_by (suc fuel) s = elim (first_point s) [ nothing ↦ [] | malformed ↦ [
 unfoldable pub points : Bytes → List ℕ
 points s = points_by (length s) s
 
--- an answer at a place in terms of the text from there on: nothing, bytes that are not UTF-8, or a code point and the number of its bytes
-unfoldable pub next_said : ℕ → Next → First
-next_said at End = nothing
-next_said at Malformed = malformed
-next_said at (Point v c) = point v (c.at - at)
+-- an answer in terms of the text that was left: nothing, bytes that are not UTF-8, or a code point that is so many bytes long
+unfoldable pub next_said : ℕ → Option (Result ℕ Malformed) → First
+next_said k None = nothing
+next_said k (Some (Err m)) = malformed
+next_said k (Some (Ok v)) = point v k
 
--- an answer's cursor is not before a place
-abbrev pub NotBefore : ℕ → Next → Type 0
-NotBefore at End = Unit {0}
-NotBefore at Malformed = Unit {0}
-NotBefore at (Point v c) = at ≤ c.at
+-- the place stays where the text ends, and does not move back elsewhere
+abbrev pub NotBefore : ℕ → ℕ → Option (Result ℕ Malformed) → Type 0
+NotBefore from to None = to ≡ from
+NotBefore from to (Some r) = from ≤ to
 
--- an answer at a place is what is decoded there
-pub record DecodesAt (f : First) (at : ℕ) (r : Next) : Type 0 where
-  pub is : next_said at r ≡ f
-  pub onward : NotBefore at r
+-- what is answered is what is decoded at a place of the text c, which becomes d
+pub record Decodes (f : First) (c d : CodePoints) (r : Option (Result ℕ Malformed)) : Type 0 where
+  pub is : next_said (d.at - c.at) r ≡ f
+  pub onward : NotBefore c.at d.at r
+  pub text : d.text ≡ c.text
 
 -- a code point that SMT-LIB's strings have, or the wildcard
 unfoldable pub is_low : ℕ → Bool

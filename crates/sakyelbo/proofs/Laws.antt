@@ -11,12 +11,12 @@ use Rattle.script_spec.specs.File.{TermFile, checked}
 use Rattle.script_spec.specs.Command.{Command, command_written, left}
 use Rattle.script_spec.specs.Walk.{encoded}
 use Rattle.script_spec.proofs.Demand.{encoded_faithful}
-use Rattle.write_bytes.specs.Writing.{length_of}
-use Rattle.smtlib_script.specs.declared.commands.WrittenCommand.{WrittenCommand}
-use Rattle.smtlib_script.specs.Writes.{command_answer, Writes}
-use Rattle.check_file.specs.declared.Checked.{Checked}
+use Rattle.std.specs.Prelude.{Result, Ok, Err}
+use Rattle.refusal.specs.declared.Refusal.{Refusal}
+use Rattle.refusal.specs.declared.Refused.{Refused}
+use Rattle.write_bytes.specs.Writing.{answer, length_of}
+use Rattle.smtlib_script.specs.Writes.{Writes}
 use Rattle.check_file.specs.Promise.{checked_as, without_records, Checks}
-use Rattle.encoder.specs.declared.Encoded.{Encoded}
 use Rattle.encoder.specs.Printing.{written}
 use Rattle.encoder.specs.Promise.{encoded_as, Encodes}
 use Rattle.sakyelbo.specs.Answers.{answer_code, SaysAnswer}
@@ -71,7 +71,7 @@ module _ (w : Answer Bytes) (room : ℕ) {y : Bytes} {n r : ℕ} (S : SaysAnswer
 -- ---- promises
 
 -- check's promise
-pub checks_file : {file : Bytes} {work work' : List ℕ} {c : Checked} {r : ℕ} → Checks file work work' c → r ≡ answer_code (checked_as c) → ChecksFile file work work' r
+pub checks_file : {file : Bytes} {work work' : List ℕ} {c : Result (Unit {0}) Refused} {r : ℕ} → Checks file work work' c → r ≡ answer_code (checked_as c) → ChecksFile file work work' r
 checks_file {file} {work} {r = r} k e =
     let is : r ≡ answer_code (checked file (length work)) = e ∙ (ap answer_code k.answer ∙ code_without_records (checked file (length work))) in
     record {
@@ -81,13 +81,13 @@ checks_file {file} {work} {r = r} k e =
     }
 
 -- the promise of a call that writes a command
-pub writes_command : {c : Command} {x y : Bytes} {w : WrittenCommand} {n r : ℕ} → Writes c x y w → SaysAnswer (command_answer w) n r → WritesCommand c x y n r
+pub writes_command : {c : Command} {x y : Bytes} {w : Result ℕ Refusal} {n r : ℕ} → Writes c x y w → SaysAnswer (answer w) n r → WritesCommand c x y n r
 writes_command {c} {x} {n = n} {r = r} k s =
     let says : SaysAnswer (length_of (command_written c (length x))) n r = subst (λ (a : Answer ℕ). SaysAnswer a n r) k.leaves.says s in
     record { says = says; accepts = starts_zero (command_written c (length x)) (length x) says k.leaves.holds (command_numbered c (length x)); holds = k.leaves.holds }
 
 -- encode's promise
-pub encodes_file : {file : Bytes} {work : List ℕ} {x : Bytes} {work' : List ℕ} {y : Bytes} {e : Encoded} {n r : ℕ} → Encodes file work x work' y e → SaysAnswer (encoded_as e) n r
+pub encodes_file : {file : Bytes} {work : List ℕ} {x : Bytes} {work' : List ℕ} {y : Bytes} {e : Result ℕ Refused} {n r : ℕ} → Encodes file work x work' y e → SaysAnswer (encoded_as e) n r
     → EncodesFile file work x work' y n r
 encodes_file {file} {work} {x} {y = y} {n = n} {r = r} k s =
     let says : SaysAnswer (length_of (encoded file (length work) (length x))) n r = subst (λ (a : Answer ℕ). SaysAnswer a n r) k.answer s in

@@ -1,63 +1,52 @@
 // Answers as numbers.
 ghost use Rattle.std.specs.Prelude.{◌≡◌, ◌+◌, ◌*◌};
-ghost use Rattle.smtlib_script.specs.Writes.{command_answer};
+ghost use Rattle.refusal.specs.Numbers.{number};
+ghost use Rattle.write_bytes.specs.Writing.{answer};
 ghost use Rattle.encoder.specs.Promise.{encoded_as};
 ghost use Rattle.check_file.specs.Promise.{checked_as};
 ghost use Rattle.sakyelbo.specs.Answers.{answer_code, SaysAnswer};
 
-use check_file::Checked;
-use encoder::Encoded;
-use smtlib_script::commands::WrittenCommand;
+use refusal::{Refusal, Refused};
 
 // A refusal as one number.
-fn refusal(number: u32, place: u32) -> u64
-    ensures { result ≡ number * 4294967296 + place }
+fn code(refused: Refused) -> u64
+    ensures { result ≡ number refused.refusal * 4294967296 + refused.place }
 {
-    (number as u64) * 4294967296 + (place as u64)
+    u64::from(refused.refusal.number()) * 4294967296 + u64::from(refused.place)
 }
 
 // Check's answer as one number.
-pub fn of_check(checked: Checked) -> u64
+pub fn of_check(checked: Result<(), Refused>) -> u64
     ensures { result ≡ answer_code (checked_as checked) }
 {
     match checked {
-        Checked::Accepted => 0,
-        Checked::Refused(number, place) => refusal(number, place),
-    }
-}
-
-// The answer of a call that writes a command: the length behind `size`, and the number.
-pub fn of_command(written: WrittenCommand, size: &mut usize) -> u64
-    ensures { SaysAnswer (command_answer written) size.new result }
-{
-    match written {
-        WrittenCommand::Length(n) => {
-            *size = n;
-            0
-        }
-        WrittenCommand::NotUtf8 => {
-            *size = 0;
-            refusal(6, 0)
-        }
-        WrittenCommand::NoRoom => {
-            *size = 0;
-            refusal(20, 0)
-        }
+        Ok(()) => 0,
+        Err(refused) => code(refused),
     }
 }
 
 // Encode's answer: the script's length behind `size`, and the number.
-pub fn of_encode(encoded: Encoded, size: &mut usize) -> u64
+pub fn of_encode(encoded: Result<usize, Refused>, size: &mut usize) -> u64
     ensures { SaysAnswer (encoded_as encoded) size.new result }
 {
     match encoded {
-        Encoded::Script(n) => {
+        Ok(n) => {
             *size = n;
             0
         }
-        Encoded::Refused(number, place) => {
+        Err(refused) => {
             *size = 0;
-            refusal(number, place)
+            code(refused)
         }
+    }
+}
+
+// The answer of a call that writes a command: the length behind `size`, and the number.
+pub fn of_command(written: Result<usize, Refusal>, size: &mut usize) -> u64
+    ensures { SaysAnswer (answer written) size.new result }
+{
+    match written {
+        Ok(n) => of_encode(Ok(n), size),
+        Err(refusal) => of_encode(Err(Refused { refusal, place: 0 }), size),
     }
 }

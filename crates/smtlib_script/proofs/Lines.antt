@@ -1,9 +1,9 @@
 -- The line of each command as the pieces that it is written by.
 -- Assumes nothing.
-use Prim.Native.Nat.{ℕ, ◌<◌}
+use Prim.Native.Nat.{◌<◌}
 use native.Mathlib.Nat.{not-suc-le-zero}
 use native.Mathlib.Omega.{arith}
-use mathlib.Core.Path.{◌≡◌, refl, ap, ◌∙◌}
+use mathlib.Core.Path.{◌≡◌, refl, ◌∙◌}
 use mathlib.Core.Bool.{true, false, true≢false, false≢true}
 use mathlib.Core.List.{List, [], ◌∷◌, ◌++◌, append_assoc, map}
 use lib.ListN.{length, get_or}
@@ -13,20 +13,10 @@ use denote.Ref.{Bor}
 use Rattle.script_spec.specs.Base.{Bytes, bytes, empty, joined}
 use Rattle.script_spec.specs.Text.{one_line}
 use Rattle.script_spec.specs.Command.{line, spelled, headed, listed, spaced, constructor_list, datatype_body, comment, declare_datatype, declare_const, declare_fun, define_fun, assert_that, set_logic, set_option}
-use Rattle.write_bytes.specs.Writing.{Appends, Wrote}
-use Rattle.write_bytes.proofs.Laws.{◌then◌, says, from_start}
-use Rattle.write_text.specs.Comments.{Comments}
-use Rattle.write_text.specs.declared.Comment.{Comment}
-use Rattle.write_text.proofs.CommentLaws.{text_written}
 
 pub line_comment : (s : Bytes) → bytes "; " ++ (one_line s ++ bytes "\n") ≡ line (comment s)
 unfolding line spelled bytes
 line_comment s = refl
-
--- a comment by the pieces of its text
-pub comment_written : {room r : ℕ} {x y z w s : Bytes} {c d : Comment} → c.points ≡ 0 → Appends room x 0 y c.at (bytes "; ") → Comments room y c z d s → Appends room z d.at w r (bytes "\n")
-    → Wrote room x w r (line (comment s))
-comment_written {s = s} e A C B = from_start (says (line_comment s) (A then text_written e C then B))
 
 pub line_declare_const : (n t : Bytes) → bytes "(declare-const " ++ (spaced (n ∷ t ∷ []) ++ bytes ")\n") ≡ line (declare_const n t)
 unfolding line spelled headed bytes
@@ -83,38 +73,24 @@ blank_more (t ∷ u ∷ ts) h = go t.now
     go [] = refl
     go (b ∷ s) = refl
 
-body_plain : (s : Bytes) (cs : List Bytes) → empty s ≡ true → constructor_list cs ≡ datatype_body s cs
+pub body_plain : (s : Bytes) (cs : List Bytes) → empty s ≡ true → constructor_list cs ≡ datatype_body s cs
 unfolding datatype_body empty
 body_plain [] cs h = refl
 body_plain (b ∷ s) cs h = absurd (false≢true h)
 
-body_parametric : (s : Bytes) (cs : List Bytes) → empty s ≡ false → headed (bytes "par") ((bytes "(" ++ (s ++ bytes ")")) ∷ constructor_list cs ∷ []) ≡ datatype_body s cs
+parametric : (s c : Bytes) → empty s ≡ false → bytes "(par " ++ ((bytes "(" ++ (s ++ bytes ")")) ++ (bytes " " ++ (c ++ bytes ")"))) ≡ headed (bytes "par") ((bytes "(" ++ (s ++ bytes ")")) ∷ c ∷ [])
+unfolding headed bytes spaced joined
+parametric s c h = simp append_assoc
+
+parametric_body : (s : Bytes) (cs : List Bytes) → empty s ≡ false → headed (bytes "par") ((bytes "(" ++ (s ++ bytes ")")) ∷ constructor_list cs ∷ []) ≡ datatype_body s cs
 unfolding datatype_body empty
-body_parametric [] cs h = absurd (true≢false h)
-body_parametric (b ∷ s) cs h = refl
+parametric_body [] cs h = absurd (true≢false h)
+parametric_body (b ∷ s) cs h = refl
 
--- a declaration with any body, and with a parametric one
-declared : (n b : Bytes) → bytes "(declare-datatype " ++ (n ++ (bytes " " ++ (b ++ bytes ")\n"))) ≡ headed (bytes "declare-datatype") (n ∷ b ∷ []) ++ bytes "\n"
-unfolding headed bytes spaced joined
-declared n b = simp append_assoc
+pub body_parametric : (ps cs : List Bytes) → empty (spaced ps) ≡ false → bytes "(par " ++ (listed ps ++ (bytes " " ++ (constructor_list cs ++ bytes ")"))) ≡ datatype_body (spaced ps) cs
+unfolding listed
+body_parametric ps cs h = parametric (spaced ps) (constructor_list cs) h ∙ parametric_body (spaced ps) cs h
 
-parametric : (n s c : Bytes) → bytes "(declare-datatype " ++ (n ++ (bytes " (par " ++ ((bytes "(" ++ (s ++ bytes ")")) ++ (bytes " " ++ (c ++ bytes "))\n")))))
-    ≡ bytes "(declare-datatype " ++ (n ++ (bytes " " ++ (headed (bytes "par") ((bytes "(" ++ (s ++ bytes ")")) ∷ c ∷ []) ++ bytes ")\n")))
-unfolding headed bytes spaced joined
-parametric n s c = simp append_assoc
-
-module _ (n : Bytes) (cs : List Bytes) where
-  pub line_plain : bytes "(declare-datatype " ++ (n ++ (bytes " " ++ (constructor_list cs ++ bytes ")\n"))) ≡ line (declare_datatype n [] cs)
-  unfolding line spelled datatype_body spaced joined
-  line_plain = declared n (constructor_list cs)
-
-module _ (n : Bytes) (ps cs : List Bytes) where
-  -- parameters that are written as nothing are none
-  pub line_blank : empty (spaced ps) ≡ true → line (declare_datatype n [] cs) ≡ line (declare_datatype n ps cs)
-  unfolding line spelled datatype_body spaced joined
-  line_blank h = ap (λ (b : Bytes). headed (bytes "declare-datatype") (n ∷ b ∷ []) ++ bytes "\n") (body_plain (spaced ps) cs h)
-
-  pub line_parametric : empty (spaced ps) ≡ false
-      → bytes "(declare-datatype " ++ (n ++ (bytes " (par " ++ (listed ps ++ (bytes " " ++ (constructor_list cs ++ bytes "))\n"))))) ≡ line (declare_datatype n ps cs)
-  unfolding line spelled listed
-  line_parametric h = parametric n (spaced ps) (constructor_list cs) ∙ declared n _ ∙ ap (λ (b : Bytes). headed (bytes "declare-datatype") (n ∷ b ∷ []) ++ bytes "\n") (body_parametric (spaced ps) cs h)
+pub line_declare_datatype : (n : Bytes) (ps cs : List Bytes) → bytes "(declare-datatype " ++ (n ++ (bytes " " ++ (datatype_body (spaced ps) cs ++ bytes ")\n"))) ≡ line (declare_datatype n ps cs)
+unfolding line spelled headed bytes spaced joined
+line_declare_datatype n ps cs = simp append_assoc

@@ -1,13 +1,13 @@
 -- Laws of lists of texts that are written from the first to the last: lists that are lent, joined, and paired.
 -- Assumes nothing.
-use Prim.Native.Nat.{ℕ, zero, suc, ◌+◌, ◌≤◌, ◌<◌, min}
+use Prim.Native.Nat.{ℕ, zero, suc, ◌+◌, ◌-◌, ◌≤◌, ◌<◌, min}
 use native.Mathlib.Nat.{not-suc-le-zero}
 use native.Mathlib.Numerals.{add-one}
 use native.Mathlib.Omega.{arith}
-use mathlib.Core.Path.{◌≡◌, refl, sym, ◌∙◌}
+use mathlib.Core.Path.{◌≡◌, refl, sym, ap, ◌∙◌}
 use mathlib.Core.List.{List, [], ◌∷◌, ◌++◌, append-nil, append_assoc, map, zip, zip_with}
-use lib.ListN.{length, drop, get_or, length-map, drop_of_length-le, get_or-map}
-use lib.Seq.{drop-cons}
+use lib.ListN.{length, take, drop, get_or, length-map, drop_of_length-le, get_or-map}
+use lib.Seq.{drop-cons, take_all}
 use denote.Ref.{Bor}
 use Rattle.script_spec.specs.Base.{Bytes, bytes, joined, collect}
 use Rattle.script_spec.specs.Command.{spaced}
@@ -46,9 +46,17 @@ pub joined_first : (sep : Bytes) (ts : List Bytes) → 0 < length ts → get_or 
 joined_first sep [] h = absurd (not-suc-le-zero h)
 joined_first sep (t ∷ ts) h = joined_cons sep t ts
 
+-- the first text of a lent list, and each of the part after it, as that is lent, with a separator before it
+pub joined_rest : (sep : Bytes) (ts : List (Bor Bytes)) → 0 < length ts
+    → (get_or ts 0 (record { ref_ptr = (0, 0); now = [] })).now ++ separated sep (map (λ x. x.now) (take (length ts - 1) (drop 1 ts))) ≡ joined sep (map (λ x. x.now) ts)
+joined_rest sep [] h = absurd (not-suc-le-zero h)
+joined_rest sep (t ∷ ts) h =
+    let all : take (length (t ∷ ts) - 1) ts ≡ ts = take_all (length (t ∷ ts) - 1) ts (omega arith) in
+    rw all (joined_cons sep t.now (map (λ x. x.now) ts))
+
 -- ---- paired
 
-pub pair : {x x' y y' : Bytes} → x ≡ x' → y ≡ y' → ◌≡◌ {A = Bytes × Bytes} (x, y) (x', y')
+pair : {x x' y y' : Bytes} → x ≡ x' → y ≡ y' → ◌≡◌ {A = Bytes × Bytes} (x, y) (x', y')
 pair e f i = (e i, f i)
 
 length_zip : (xs ys : List Bytes) → length (zip xs ys) ≡ min (length xs) (length ys)
@@ -83,5 +91,8 @@ module _ (xs ys : List (Bor Bytes)) where
   pub arguments_all : (i : ℕ) → min (length xs) (length ys) ≤ i → length (arguments (zip (map (λ x. x.now) xs) (map (λ x. x.now) ys))) ≤ i
   arguments_all i h = omega (arith, length_arguments)
 
-  pub argument_at : (i : ℕ) → i < min (length xs) (length ys) → argument (get_or (map (λ x. x.now) xs) i [], get_or (map (λ x. x.now) ys) i []) ≡ get_or (arguments (zip (map (λ x. x.now) xs) (map (λ x. x.now) ys))) i []
-  argument_at i h = get_or_map_zip argument (map (λ x. x.now) xs) (map (λ x. x.now) ys) i (simp length-map (omega arith)) (simp length-map (omega arith))
+  pub argument_at : (i : ℕ) → i < min (length xs) (length ys)
+      → argument ((get_or xs i (record { ref_ptr = (0, 0); now = [] })).now, (get_or ys i (record { ref_ptr = (0, 0); now = [] })).now) ≡ get_or (arguments (zip (map (λ x. x.now) xs) (map (λ x. x.now) ys))) i []
+  argument_at i h =
+      ap argument (pair (text_at xs i) (text_at ys i))
+      ∙ get_or_map_zip argument (map (λ x. x.now) xs) (map (λ x. x.now) ys) i (simp length-map (omega arith)) (simp length-map (omega arith))

@@ -2,7 +2,7 @@
 // texts and finish the buffer.
 #![tactic(auto)]
 
+pub mod command;
 pub mod commands;
 pub mod line;
 pub mod list;
-pub mod texts;

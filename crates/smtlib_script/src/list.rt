@@ -1,134 +1,123 @@
-// Lists of texts, written with separators at a place of a lent buffer.
-ghost use Rattle.std.specs.Prelude.{◌≡◌, ◌<◌, length, get_or};
+// Lists of texts, written with separators.
+ghost use Rattle.std.specs.Prelude.{◌≡◌};
 ghost use mathlib.Core.List.{[], ◌∷◌, map, zip};
-ghost use Rattle.script_spec.specs.Base.{empty, joined};
+ghost use Rattle.script_spec.specs.Base.{all, collect, empty, joined};
+ghost use Rattle.script_spec.specs.Utf8.{is_utf8};
 ghost use Rattle.script_spec.specs.Command.{spaced, listed, constructor_list};
-ghost use Rattle.write_bytes.specs.Writing.{Appends};
+ghost use Rattle.write_bytes.specs.Writers.{Writes};
 ghost use Rattle.smtlib_script.specs.Arguments.{argument, arguments};
+
+use write_bytes::writer::Writer;
+
+// Whether each text is UTF-8.
+pub fn are_utf8(texts: &[&[u8]]) -> bool
+    ensures { result ≡ all is_utf8 (map (λ x. x.now) texts.now) }
+{
+    for text in texts {
+        if !read_utf8::is_utf8(text) {
+            return false;
+        }
+    }
+    true
+}
+
+// Whether each text of a pair is UTF-8; there are as many pairs as the shorter list has texts.
+pub fn pairs_are_utf8(xs: &[&[u8]], ys: &[&[u8]]) -> bool
+    ensures { result ≡ all is_utf8 (collect (λ p. p.0 ∷ p.1 ∷ []) (zip (map (λ x. x.now) xs.now) (map (λ x. x.now) ys.now))) }
+{
+    let n = xs.len().min(ys.len());
+    are_utf8(&xs[..n]) && are_utf8(&ys[..n])
+}
 
 // Whether the texts, with spaces between them, are nothing.
 pub fn is_blank(texts: &[&[u8]]) -> bool
     ensures { result ≡ empty (spaced (map (λ x. x.now) texts.now)) }
 {
-    if texts.len() == 0 {
-        return true;
+    match texts {
+        [] => true,
+        [text] => text.is_empty(),
+        _ => false,
     }
-    if texts.len() == 1 {
-        let t = texts[0];
-        return t.len() == 0;
-    }
-    false
 }
 
 // Two texts with a space between them.
-pub fn put_two(out: &mut [u8], at: usize, limit: usize, x: &[u8], y: &[u8]) -> usize
-    ensures { Appends limit out.old at out.new result (spaced (x.now ∷ y.now ∷ [])) }
+pub fn put_two(w: &mut Writer<'_>, x: &[u8], y: &[u8])
+    ensures { Writes w.old w.new (spaced (x.now ∷ y.now ∷ [])) }
 {
-    let a = write_bytes::put_at(out, at, limit, x);
-    let b = write_bytes::put_at(out, a, limit, b" ");
-    write_bytes::put_at(out, b, limit, y)
+    w.put(x);
+    w.put_byte(b' ');
+    w.put(y)
 }
 
 // The texts with a separator between them. Past the limit none is looked at.
-fn put_joined(out: &mut [u8], at: usize, limit: usize, separator: &[u8], texts: &[&[u8]]) -> usize
-    ensures { Appends limit out.old at out.new result (joined separator.now (map (λ x. x.now) texts.now)) }
+fn put_joined(w: &mut Writer<'_>, separator: &[u8], texts: &[&[u8]])
+    ensures { Writes w.old w.new (joined separator.now (map (λ x. x.now) texts.now)) }
 {
-    if texts.len() == 0 {
-        return at;
-    }
-    let first = texts[0];
-    let mut place = write_bytes::put_at(out, at, limit, first);
-    let mut i = 1;
-    while i < texts.len() {
-        if write_bytes::is_past(place, limit) {
-            return place;
+    let [first, rest @ ..] = texts else {
+        return;
+    };
+    w.put(first);
+    for text in rest {
+        if w.is_past() {
+            return;
         }
-        let after = write_bytes::put_at(out, place, limit, separator);
-        let t = texts[i];
-        place = write_bytes::put_at(out, after, limit, t);
-        i += 1;
+        w.put(separator);
+        w.put(text);
     }
-    place
 }
 
 // `(TEXTS)`.
-pub fn put_list(out: &mut [u8], at: usize, limit: usize, texts: &[&[u8]]) -> usize
-    ensures { Appends limit out.old at out.new result (listed (map (λ x. x.now) texts.now)) }
+pub fn put_list(w: &mut Writer<'_>, texts: &[&[u8]])
+    ensures { Writes w.old w.new (listed (map (λ x. x.now) texts.now)) }
 {
-    let a = write_bytes::put_at(out, at, limit, b"(");
-    let b = put_joined(out, a, limit, b" ", texts);
-    write_bytes::put_at(out, b, limit, b")")
+    w.put_byte(b'(');
+    put_joined(w, b" ", texts);
+    w.put_byte(b')')
 }
 
 // Constructors in parentheses, each on a line of its own.
-pub fn put_constructors(out: &mut [u8], at: usize, limit: usize, constructors: &[&[u8]]) -> usize
-    ensures { Appends limit out.old at out.new result (constructor_list (map (λ x. x.now) constructors.now)) }
+pub fn put_constructors(w: &mut Writer<'_>, constructors: &[&[u8]])
+    ensures { Writes w.old w.new (constructor_list (map (λ x. x.now) constructors.now)) }
 {
-    let a = write_bytes::put_at(out, at, limit, b"(\n  ");
-    let b = put_joined(out, a, limit, b"\n  ", constructors);
-    write_bytes::put_at(out, b, limit, b")")
+    w.put(b"(\n  ");
+    put_joined(w, b"\n  ", constructors);
+    w.put_byte(b')')
 }
 
-// `(NAME SORT)`, the argument at a place.
-fn put_argument(
-    out: &mut [u8],
-    at: usize,
-    limit: usize,
-    names: &[&[u8]],
-    sorts: &[&[u8]],
-    i: usize,
-) -> usize
-    requires { (i < length names.now) × (i < length sorts.now) }
-    ensures { Appends limit out.old at out.new result
-        (argument (get_or (map (λ x. x.now) names.now) i [], get_or (map (λ x. x.now) sorts.now) i [])) }
+// `(NAME SORT)`.
+fn put_argument(w: &mut Writer<'_>, name: &[u8], sort: &[u8])
+    ensures { Writes w.old w.new (argument (name.now, sort.now)) }
 {
-    let name = names[i];
-    let sort = sorts[i];
-    let a = write_bytes::put_at(out, at, limit, b"(");
-    let b = put_two(out, a, limit, name, sort);
-    write_bytes::put_at(out, b, limit, b")")
+    w.put_byte(b'(');
+    put_two(w, name, sort);
+    w.put_byte(b')')
 }
 
 // The arguments with a space between them, as many as the shorter list has. Past the limit none is looked at.
-fn put_spaced_arguments(
-    out: &mut [u8],
-    at: usize,
-    limit: usize,
-    names: &[&[u8]],
-    sorts: &[&[u8]],
-) -> usize
-    ensures { Appends limit out.old at out.new result
+fn put_spaced_arguments(w: &mut Writer<'_>, names: &[&[u8]], sorts: &[&[u8]])
+    ensures { Writes w.old w.new
         (spaced (arguments (zip (map (λ x. x.now) names.now) (map (λ x. x.now) sorts.now)))) }
 {
-    let n = write_bytes::smaller(names.len(), sorts.len());
+    let n = names.len().min(sorts.len());
     if n == 0 {
-        return at;
+        return;
     }
-    let mut place = put_argument(out, at, limit, names, sorts, 0);
-    let mut i = 1;
-    while i < n {
-        if write_bytes::is_past(place, limit) {
-            return place;
+    put_argument(w, names[0], sorts[0]);
+    for i in 1..n {
+        if w.is_past() {
+            return;
         }
-        let after = write_bytes::put_at(out, place, limit, b" ");
-        place = put_argument(out, after, limit, names, sorts, i);
-        i += 1;
+        w.put_byte(b' ');
+        put_argument(w, names[i], sorts[i]);
     }
-    place
 }
 
 // `((NAME SORT) .. (NAME SORT))`.
-pub fn put_arguments(
-    out: &mut [u8],
-    at: usize,
-    limit: usize,
-    names: &[&[u8]],
-    sorts: &[&[u8]],
-) -> usize
-    ensures { Appends limit out.old at out.new result
+pub fn put_arguments(w: &mut Writer<'_>, names: &[&[u8]], sorts: &[&[u8]])
+    ensures { Writes w.old w.new
         (listed (arguments (zip (map (λ x. x.now) names.now) (map (λ x. x.now) sorts.now)))) }
 {
-    let a = write_bytes::put_at(out, at, limit, b"(");
-    let b = put_spaced_arguments(out, a, limit, names, sorts);
-    write_bytes::put_at(out, b, limit, b")")
+    w.put_byte(b'(');
+    put_spaced_arguments(w, names, sorts);
+    w.put_byte(b')')
 }

@@ -1,7 +1,8 @@
 // Writes each command once, and then a refusal of each kind, to standard output.
 #![tactic(auto)]
 
-use smtlib_script::commands::WrittenCommand;
+use refusal::Refusal;
+use smtlib_script::commands;
 use std::io;
 
 // Writes the first n bytes.
@@ -13,41 +14,40 @@ fn write_first(rt: &impl Print, out: &[u8], n: usize) -> io::Result<()> {
 }
 
 // Writes what a call left in its buffer, or its refusal.
-fn show(rt: &impl Print, answer: WrittenCommand, out: &[u8]) -> io::Result<()> {
+fn show(rt: &impl Print, answer: Result<usize, Refusal>, out: &[u8]) -> io::Result<()> {
     match answer {
-        WrittenCommand::Length(n) => write_first(rt, out, n),
-        WrittenCommand::NotUtf8 => println!(rt; "refused 6 record 0"),
-        WrittenCommand::NoRoom => println!(rt; "refused 20 record 0"),
+        Ok(n) => write_first(rt, out, n),
+        Err(refusal) => println!(rt; "refused {} record 0", refusal.number()),
     }
 }
 
 // Commands without texts.
 fn plain(rt: &impl Print, out: &mut [u8]) -> io::Result<()> {
-    let a = smtlib_script::commands::reset(out);
+    let a = commands::reset(out);
     show(rt, a, out)?;
-    let b = smtlib_script::commands::check_sat(out);
+    let b = commands::check_sat(out);
     show(rt, b, out)?;
-    let c = smtlib_script::commands::get_model(out);
+    let c = commands::get_model(out);
     show(rt, c, out)?;
-    let d = smtlib_script::commands::exit(out);
+    let d = commands::exit(out);
     show(rt, d, out)
 }
 
 // What a script begins with.
 fn preamble(rt: &impl Print, out: &mut [u8]) -> io::Result<()> {
-    let a = smtlib_script::commands::set_logic(b"ALL", out);
+    let a = commands::set_logic(b"ALL", out);
     show(rt, a, out)?;
-    let b = smtlib_script::commands::set_option(b"produce-models", b"true", out);
+    let b = commands::set_option(b"produce-models", b"true", out);
     show(rt, b, out)?;
-    let c = smtlib_script::commands::comment(b"two\nlines\r", out);
+    let c = commands::comment(b"two\nlines\r", out);
     show(rt, c, out)
 }
 
 // A constant and an assertion.
 fn constant(rt: &impl Print, out: &mut [u8]) -> io::Result<()> {
-    let a = smtlib_script::commands::declare_const(b"t0", b"Bool", out);
+    let a = commands::declare_const(b"t0", b"Bool", out);
     show(rt, a, out)?;
-    let b = smtlib_script::commands::assert_that(b"(not t0)", out);
+    let b = commands::assert_that(b"(not t0)", out);
     show(rt, b, out)
 }
 
@@ -58,17 +58,17 @@ fn declare_datatypes(
     constructors: &[&[u8]],
     out: &mut [u8],
 ) -> io::Result<()> {
-    let a = smtlib_script::commands::declare_datatype(b"Option", params, constructors, out);
+    let a = commands::declare_datatype(b"Option", params, constructors, out);
     show(rt, a, out)?;
-    let b = smtlib_script::commands::declare_datatype(b"E0", &params[..0], constructors, out);
+    let b = commands::declare_datatype(b"E0", &params[..0], constructors, out);
     show(rt, b, out)
 }
 
 // Functions of two arguments.
 fn functions(rt: &impl Print, names: &[&[u8]], sorts: &[&[u8]], out: &mut [u8]) -> io::Result<()> {
-    let a = smtlib_script::commands::declare_fun(b"f0", sorts, b"Bool", out);
+    let a = commands::declare_fun(b"f0", sorts, b"Bool", out);
     show(rt, a, out)?;
-    let b = smtlib_script::commands::define_fun(b"t1", names, sorts, b"Bool", b"(f0 x y)", out);
+    let b = commands::define_fun(b"t1", names, sorts, b"Bool", b"(f0 x y)", out);
     show(rt, b, out)
 }
 
@@ -82,13 +82,13 @@ fn lists<'a>(rt: &impl Print, x: &'a [u8], y: &'a [u8], out: &mut [u8]) -> io::R
 
 // A text that is not UTF-8, room that is one byte short, and room that is just enough.
 fn refusals(rt: &impl Print, out: &mut [u8]) -> io::Result<()> {
-    let a = smtlib_script::commands::assert_that(b"\xc0\x80", out);
+    let a = commands::assert_that(b"\xc0\x80", out);
     show(rt, a, out)?;
     let mut short = [0; 6];
-    let b = smtlib_script::commands::exit(&mut short);
+    let b = commands::exit(&mut short);
     show(rt, b, &short)?;
     let mut enough = [0; 7];
-    let c = smtlib_script::commands::exit(&mut enough);
+    let c = commands::exit(&mut enough);
     show(rt, c, &enough)
 }
 

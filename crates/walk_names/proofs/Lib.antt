@@ -1,5 +1,6 @@
 pub mod Tables
 pub mod Names
-pub mod Sticky
+pub mod Steps
 pub mod Advancing
-pub mod Running
+pub mod Entering
+pub mod Spelling

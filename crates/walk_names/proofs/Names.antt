@@ -4,14 +4,17 @@
 use mathlib.Core.Path.{◌≡◌, refl, sym, ap, ◌∙◌, subst}
 use mathlib.Core.Bool.{Bool, true, true≢false}
 use mathlib.Core.List.{List, [], ◌∷◌, ◌++◌}
-use Prim.Native.Nat.{ℕ, zero, suc, ◌+◌, ◌-◌, ◌*◌, ◌≤◌, ◌<◌}
+use Prim.Native.Nat.{ℕ, suc, ◌^◌, ◌+◌, ◌-◌, ◌*◌, ◌≤◌, ◌<◌}
 use native.Mathlib.Numerals.{add-one}
 use native.Mathlib.Decide.{ℕ_discrete}
 use native.Mathlib.Omega.{arith}
 use borrow.Author.Tests.{ne_eqb, lt-ltb, le-ltb}
 use lib.ListN.{length}
-use Rattle.script_spec.specs.Base.{Bytes, bytes, place}
-use Rattle.script_spec.specs.Tree.{eq_ty}
+use mathlib.Core.Option.{Option}
+use Rattle.std.specs.Prelude as std
+use Rattle.std.specs.Prelude.{None, Some, SomeIff, unwrap_or}
+use Rattle.script_spec.specs.Base.{Bytes, bytes, place, any, is_some}
+use Rattle.script_spec.specs.Tree.{eq_ty, eq_fun}
 use Rattle.script_spec.specs.File.{TermFile, types, funs, terms, members, type_at, fun_at, term_at}
 use Rattle.script_spec.specs.Text.{decimal}
 use Rattle.script_spec.specs.Command.{Command}
@@ -26,8 +29,8 @@ use Rattle.index.proofs.Names.{names_same}
 use Rattle.index.proofs.Cells.{shared, Apart, length_store, cell_store_same, cell_store_apart}
 use Rattle.index.proofs.Growth.{counts_together}
 use Rattle.index.proofs.Rows.{listed_same, types_fit, funs_fit, terms_fit}
-use Rattle.index.proofs.Firsts.{FirstEqual, Equality, first_below, first_types, first_funs, first_terms, equal_types, equal_funs, equal_terms}
-use Rattle.walk_names.specs.Naming.{type_names, fun_names, term_names, is_name, has_names, name_in, raised, name_stored, name_at, place_of, Table, TermsPassed, Numbers, Kept}
+use Rattle.index.proofs.Firsts.{FirstEqual, Equality, any_place, first_below, first_types, first_funs, first_terms, equal_types, equal_funs, equal_terms}
+use Rattle.walk_names.specs.Naming.{type_names, fun_names, term_names, is_name, has_names, name_in, raised, name_stored, name_at, place_of, place_said, Table, TermsPassed, Numbers, Kept}
 use Rattle.walk_names.proofs.Tables.{table_start, table_same, table_place, table_enter}
 
 -- ---- memories that differ in names and notes alone
@@ -245,39 +248,47 @@ module _ {file : Bytes} {f : TermFile} {work : List ℕ} {k : ℕ} (I : Rows fil
     unfolding names
     name_term l = ap (numbered (bytes "t")) (table_place N.term_table n l ∙ ap place_of (sym (name_at_term l)))
 
+-- ---- what is known by a name
+
+-- there is a place where an answer gives one
+known_said : (r : std.Option ℕ) {o : Option ℕ} → place_said r ≡ o → is_some o ≡ std.is_some r
+unfolding place_said is_some
+known_said None e = rw (← e)
+known_said (Some n) e = rw (← e)
+
+module _ {file : Bytes} {f : TermFile} {work : List ℕ} {k : ℕ} {S : State} (I : Rows file f work k) (N : Numbers f work k S) (n : ℕ) (r : std.Option ℕ) where
+  -- a type or a function is in its table where it has a name
+  pub known_type : n < length (types f) → place_said r ≡ place_of (name_at work k type_first type_names n) → any (eq_ty (type_at f n)) S.types ≡ std.is_some r
+  known_type l e = any_place (eq_ty (type_at f n)) S.types ∙ ap is_some (place_type I n N l) ∙ known_said r e
+
+  pub known_fun : n < length (funs f) → place_said r ≡ place_of (name_at work k fun_first fun_names n) → any (eq_fun (fun_at f n)) S.funs ≡ std.is_some r
+  known_fun l e = any_place (eq_fun (fun_at f n)) S.funs ∙ ap is_some (table_place N.fun_table n l ∙ ap place_of (sym (name_at_fun I n l))) ∙ known_said r e
+
 -- ---- what the functions return
 
-module _ (work : List ℕ) (k first column n : ℕ) {at v : ℕ} (a : at ≡ cell work k first n) (e : v ≡ cell work k column at) where
-  is_entry : v ≡ cell work k column (cell work k first n)
-  is_entry = e ∙ ap (cell work k column) a
+-- a name from its entry
+name_there : (v : ℕ) (r : std.Option ℕ) → SomeIff r (257 ≤ v) (v - 257) → place_said r ≡ place_of (v - 256)
+unfolding place_said place_of
+name_there v None h = let e : v - 256 ≡ 0 = omega (arith, h) in rw e
+name_there v (Some n) h = let e : v - 256 ≡ suc n = omega (arith, h.0, h.1) in rw e
 
-  pub no_name : v < 256 → 0 ≡ name_at work k first column n
-  unfolding name_at name_in
-  no_name h = omega (arith, is_entry)
+pub name_got : (work : List ℕ) (k first column n : ℕ) (r : std.Option ℕ) {at v : ℕ} → at ≡ cell work k first n → v ≡ cell work k column at → SomeIff r (257 ≤ v) (v - 257)
+    → place_said r ≡ place_of (name_at work k first column n)
+unfolding name_at name_in
+name_got work k first column n r {v = v} a e h = name_there v r h ∙ ap (λ (m : ℕ). place_of (m - 256)) (e ∙ ap (cell work k column) a)
 
-  pub some_name : v - 256 ≡ name_at work k first column n
-  unfolding name_at name_in
-  some_name = ap (λ (m : ℕ). m - 256) is_entry
-
-pub raised_fits : (v : ℕ) → v < 4294967040 → v + 256 ≡ raised v
+-- what is stored for a name
+pub raised_said : (v : ℕ) (r : std.Option ℕ) → SomeIff r (v + 256 < 2 ^ 32) (v + 256) → unwrap_or r 0 ≡ raised v
 unfolding raised placed
-raised_fits v h = rw (lt-ltb v 4294967040 h)
-
-pub raised_past : (v : ℕ) → 4294967040 ≤ v → 0 ≡ raised v
-unfolding raised placed
-raised_past v h = rw (le-ltb v 4294967040 h)
-
-pub stored_name : (work : List ℕ) (k first column n v : ℕ) {work' : List ℕ} {at r : ℕ} → at ≡ cell work k first n → r ≡ raised v → work' ≡ store work k column at r → work' ≡ name_stored work k column (cell work k first n) v
-unfolding name_stored
-stored_name work k first column n v a q e = rw (← a, ← q) e
+raised_said v None h = rw (le-ltb v 4294967040 (omega (arith, h)))
+raised_said v (Some n) h = rw (lt-ltb v 4294967040 (omega (arith, h.0))) h.1
 
 -- ---- writing a name
 
-pub numbered_none : (letter : Bytes) (name : ℕ) → name ≡ 0 → [] ≡ numbered letter (place_of name)
-unfolding numbered place_of
-numbered_none letter name e = rw e
+pub numbered_none : (letter : Bytes) {name : std.Option ℕ} → name ≡ None → [] ≡ numbered letter (place_said name)
+unfolding numbered place_said
+numbered_none letter e = rw e
 
-pub numbered_some : (letter : Bytes) (name : ℕ) → (name ≡ 0 → ⊥) → letter ++ decimal (name - 1) ≡ numbered letter (place_of name)
-unfolding numbered place_of
-numbered_some letter zero h = absurd (h refl)
-numbered_some letter (suc n) h = let e : suc n - 1 ≡ n = omega arith in rw e
+pub numbered_some : (letter : Bytes) (n : ℕ) {name : std.Option ℕ} → name ≡ Some n → letter ++ decimal n ≡ numbered letter (place_said name)
+unfolding numbered place_said
+numbered_some letter n e = rw e

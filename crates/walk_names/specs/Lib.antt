@@ -1,3 +1,4 @@
 pub mod Naming
-pub mod Sticky
+pub mod Script
+pub mod Spells
 pub mod Progress

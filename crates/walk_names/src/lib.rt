@@ -2,4 +2,4 @@
 #![tactic(auto)]
 
 pub mod naming;
-pub mod progress;
+pub mod walk;

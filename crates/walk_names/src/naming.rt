@@ -2,67 +2,78 @@
 // none is above 256; so a name is stored with 256 more, and an entry without one needs no clearing.
 ghost use Rattle.std.specs.Prelude.{◌≡◌, [], ◌∷◌};
 ghost use Rattle.script_spec.specs.Walk.{numbered};
-ghost use Rattle.index.specs.Cells.{cell, term_first};
-ghost use Rattle.write_bytes.specs.Writing.{Appends};
-ghost use Rattle.walk_names.specs.Naming.{name_at, term_names, raised, name_stored, place_of};
+ghost use Rattle.index.specs.Cells.{number, cell};
+ghost use Rattle.index.specs.Held.{Becomes};
+ghost use Rattle.write_bytes.specs.Writers.{Writes};
+ghost use Rattle.walk_names.specs.Naming.{first_of, names_of, raised, name_at, name_stored, place_of, place_said};
 
-// The columns of the names: those of depths, which only check needs, serve for types and terms.
-pub const TYPE_NAME: usize = index::TYPE_DEPTH;
+use index::{Column, Records, RecordsMut};
+use write_bytes::writer::Writer;
 
-pub const FUN_NAME: usize = index::FUN_NAME;
+// What is named.
+#[derive(Clone, Copy)]
+pub enum Named {
+    Types,
+    Funs,
+    Terms,
+}
 
-pub const TERM_NAME: usize = index::TERM_DEPTH;
+impl Named {
+    // The column of the first equal records.
+    fn first(self) -> Column
+        ensures { number result ≡ first_of self }
+    {
+        match self {
+            Named::Types => Column::TypeFirst,
+            Named::Funs => Column::FunFirst,
+            Named::Terms => Column::TermFirst,
+        }
+    }
+
+    // The column of the names: those of depths, which only check needs, serve for types and terms.
+    fn names(self) -> Column
+        ensures { number result ≡ names_of self }
+    {
+        match self {
+            Named::Types => Column::TypeDepth,
+            Named::Funs => Column::FunName,
+            Named::Terms => Column::TermDepth,
+        }
+    }
+}
 
 // How much more a name is stored with: the greatest depth.
 const RAISE: u32 = 256;
 
-// The first name that does not fit with that much more.
-const TOO_LARGE: u32 = 4294967040;
-
-// What stands for the name of the record with number n, by the columns of first equal records and of names: 0 where it has none.
-pub fn get(work: &[u32], rows: usize, first: usize, column: usize, n: usize) -> u32
-    ensures { result ≡ name_at work.now rows first column n }
+// The number of the name of the record with number n, if it has one.
+pub fn get(records: Records<'_>, named: Named, n: u32) -> Option<u32>
+    ensures { place_said result ≡ place_of (name_at records.entry.work.now records.entry.sizes.rows (first_of named) (names_of named) n) }
 {
-    let at = index::get(work, rows, first, n);
-    let v = index::get(work, rows, column, at as usize);
-    if v < RAISE {
-        return 0;
-    }
-    v - RAISE
-}
-
-// What stands for the name of the term with number n.
-pub fn term_name(work: &[u32], rows: usize, n: u32) -> u32
-    ensures { result ≡ name_at work.now rows term_first term_names n }
-{
-    get(work, rows, index::TERM_FIRST, TERM_NAME, n as usize)
+    let at = records.get(named.first(), n);
+    records.get(named.names(), at).checked_sub(RAISE + 1)
 }
 
 // What is stored for a name, 0 where that does not fit.
 fn raised(v: u32) -> u32
     ensures { result ≡ raised v }
 {
-    if v < TOO_LARGE {
-        return v + RAISE;
-    }
-    0
+    v.checked_add(RAISE).unwrap_or(0)
 }
 
 // Names the record with number n.
-pub fn set(work: &mut [u32], rows: usize, first: usize, column: usize, n: usize, v: u32)
-    ensures { work.new ≡ name_stored work.old rows column (cell work.old rows first n) v }
+pub fn set(records: &mut RecordsMut<'_>, named: Named, n: u32, v: u32)
+    ensures { Becomes records.old records.new (name_stored records.old.work.now records.old.sizes.rows (names_of named) (cell records.old.work.now records.old.sizes.rows (first_of named) n) v) }
 {
-    let at = index::get(work, rows, first, n);
-    index::set(work, rows, column, at as usize, raised(v))
+    let at = records.get(named.first(), n);
+    records.set(named.names(), at, raised(v))
 }
 
 // Writes a name: its letter and its number. Nothing is written where there is no name.
-pub fn put_name(out: &mut [u8], at: usize, limit: usize, letter: u8, name: u32) -> usize
-    ensures { Appends limit out.old at out.new result (numbered (letter ∷ []) (place_of name)) }
+pub fn put_name(w: &mut Writer<'_>, letter: u8, name: Option<u32>)
+    ensures { Writes w.old w.new (numbered (letter ∷ []) (place_said name)) }
 {
-    if name == 0 {
-        return at;
+    if let Some(n) = name {
+        w.put_byte(letter);
+        write_numeral::put_decimal(w, u64::from(n))
     }
-    let after = write_bytes::put_byte(out, at, limit, letter);
-    write_numeral::put_decimal(out, after, limit, (name - 1) as u64)
 }

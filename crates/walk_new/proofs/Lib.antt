@@ -1,7 +1,6 @@
-pub mod Entering
 pub mod Testing
+pub mod Introducing
 pub mod AttributeLaws
-pub mod Defining
 pub mod EntityLaws
 pub mod OperatorLaws
 pub mod ApplicationLaws

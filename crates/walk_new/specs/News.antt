@@ -1,74 +1,95 @@
 -- What the steps that declare or define a new term promise.
 -- Assumes nothing.
+use denote.MutBor.{MutBor}
 use Rattle.std.specs.Prelude.{ℕ, ◌<◌, ◌≡◌, true, length}
 use Rattle.script_spec.specs.Base.{Bytes}
-use Rattle.script_spec.specs.Utf8.{is_utf8}
+use Rattle.script_spec.specs.Utf8.{is_utf8, code_points}
 use Rattle.script_spec.specs.Tree.{Op, App, enum_of, is_variable, negation}
 use Rattle.script_spec.specs.File.{TermFile, types, members, type_at, term_at, named_op}
-use Rattle.script_spec.specs.Walk.{Step, Walk, ◌>>◌, define_term, define_entity, operator_step, define_app}
+use Rattle.script_spec.specs.Walk as walk
+use Rattle.script_spec.specs.Walk.{State, ◌>>◌, low_enough, define_term, define_entity, operator_step, define_app}
 use Rattle.read_operator.specs.Operators.{op_of}
-use Rattle.read_operator.specs.declared.Op as operator
+use Rattle.index.specs.declared.Records.{Records}
+use Rattle.walk_names.specs.Progress.{memory, Enters}
+use Rattle.walk_names.specs.declared.naming.Named.TheVariants as named
 use Rattle.index_entry.specs.Terms.{children_in}
-use Rattle.index_entry.specs.declared.terms.Children.{Children}
+use Rattle.index_entry.specs.declared.terms.Application.{Application}
+use Rattle.write_bytes.specs.declared.writer.Writer.{Writer}
+use Rattle.write_bytes.specs.Writers.{Lends}
+use Rattle.walk_names.specs.declared.walk.Walk.{Walk}
 use Rattle.write_atoms.specs.Records.{TermIs}
 use Rattle.write_terms.specs.Definitions.{PlainIs}
-use Rattle.walk_new.specs.Steps.{NewAt, text_walk, get_walk}
+use Rattle.walk_new.specs.Steps.{NewAt, test_walk}
 
 -- ---- what a step is ready for
 
 -- the term with number n is new, and a variable
-pub record VariableAt (n : ℕ) (f : TermFile) (x : Step) : Type 0 where
-  pub at : NewAt n f x
+pub record VariableAt (n : ℕ) (f : TermFile) (S : State) : Type 0 where
+  pub at : NewAt n f S
   pub is : is_variable (term_at f n) ≡ true
 
 -- it is new, and this is known of it
-pub record KnownAt (n : ℕ) (known : TermFile → Type 0) (f : TermFile) (x : Step) : Type 0 where
-  pub at : NewAt n f x
+pub record KnownAt (n : ℕ) (known : TermFile → Type 0) (f : TermFile) (S : State) : Type 0 where
+  pub at : NewAt n f S
   pub is : known f
 
 -- it is new and not compound, and the text is UTF-8
-pub record StringAt (n : ℕ) (s : Bytes) (f : TermFile) (x : Step) : Type 0 where
-  pub at : KnownAt n (PlainIs n) f x
+pub record StringAt (n : ℕ) (s : Bytes) (f : TermFile) (S : State) : Type 0 where
+  pub at : KnownAt n (PlainIs n) f S
   pub utf8 : is_utf8 s ≡ true
 
 -- and t is the number of a type
-pub record EntityAt (n t : ℕ) (id : Bytes) (f : TermFile) (x : Step) : Type 0 where
-  pub at : KnownAt n (PlainIs n) f x
+pub record EntityAt (n t : ℕ) (id : Bytes) (f : TermFile) (S : State) : Type 0 where
+  pub at : KnownAt n (PlainIs n) f S
   pub type_below : t < length (types f)
   pub utf8 : is_utf8 id ≡ true
 
--- it is new, and an application of an operator to the children that a body has
-pub record AppAt (n : ℕ) (s : Bytes) (o : operator.Op) (c : Children) (f : TermFile) (x : Step) : Type 0 where
-  pub at : NewAt n f x
+-- the term with the number of an application is new, and is this application
+pub record AppAt (call : Application) (f : TermFile) (S : State) : Type 0 where
+  pub at : NewAt call.number f S
   pub result : ℕ
-  pub is : TermIs f n (App result (op_of s o)) (children_in s c)
+  pub is : TermIs f call.number (App result (op_of call.op)) (children_in call.arguments)
 
 -- ---- steps over the term with number n
 
 -- it is defined
-unfoldable pub define_walk : ℕ → TermFile → Walk
+unfoldable pub define_walk : ℕ → TermFile → walk.Walk
 define_walk n f = define_term (members f) (term_at f n)
 
 -- an entity whose type is no enum
-unfoldable pub string_walk : ℕ → Bytes → TermFile → Walk
-string_walk n s f = ◌>>◌ (text_walk n s f) (define_walk n f)
+unfoldable pub string_walk : ℕ → Bytes → TermFile → walk.Walk
+string_walk n s f = ◌>>◌ (test_walk (low_enough (code_points s)) 15 n f) (define_walk n f)
 
 -- an entity of the type with number t
-unfoldable pub entity_walk : ℕ → ℕ → Bytes → TermFile → Walk
+unfoldable pub entity_walk : ℕ → ℕ → Bytes → TermFile → walk.Walk
 entity_walk n t id f = define_entity (members f) (term_at f n) id (enum_of (members f) (type_at f t))
 
--- an attribute of the first child is asked for, and it is defined
-unfoldable pub record_get_walk : ℕ → Bytes → TermFile → Walk
-record_get_walk n a f = ◌>>◌ (get_walk n a f) (define_walk n f)
-
 -- what an operator asks for
-unfoldable pub operator_walk : ℕ → Op ℕ → TermFile → Walk
+unfoldable pub operator_walk : ℕ → Op ℕ → TermFile → walk.Walk
 operator_walk n op f = operator_step (members f) (term_at f n) (named_op f op)
 
 -- and the definition after it
-unfoldable pub ordinary_walk : ℕ → Op ℕ → TermFile → Walk
+unfoldable pub ordinary_walk : ℕ → Op ℕ → TermFile → walk.Walk
 ordinary_walk n op f = ◌>>◌ (operator_walk n op f) (define_walk n f)
 
 -- an application
-unfoldable pub app_walk : ℕ → Op ℕ → TermFile → Walk
+unfoldable pub app_walk : ℕ → Op ℕ → TermFile → walk.Walk
 app_walk n op f = define_app (members f) (term_at f n) (named_op f op) (negation (term_at f n))
+
+-- ---- promises
+
+-- The term with number n gets its name, and then the rest of the script is lent to what this says, with the records as the name left them; all
+-- else is as the name left it.
+pub record Introduces (n : ℕ) (writes : Records → MutBor Writer → MutBor Writer → Type 0) (v w : Walk) : Type 0 where
+  pub entered : Walk
+  pub enters : Enters named.Terms n v entered
+  pub records : Records
+  pub file_is : records.file.now ≡ entered.records.now.file.now
+  pub memory_is : records.work.now ≡ memory entered
+  pub sizes_are : records.sizes ≡ entered.records.now.sizes
+  pub lends : Lends (writes records) entered.script.now w.script.now
+  pub records_are : w.records ≡ entered.records
+  pub script_lent : w.script.ghost_name ≡ entered.script.ghost_name
+  pub types_are : w.types ≡ entered.types
+  pub funs_are : w.funs ≡ entered.funs
+  pub terms_are : w.terms ≡ entered.terms

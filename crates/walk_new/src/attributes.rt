@@ -1,62 +1,49 @@
 // What `RecordGet` asks of its argument's type.
+ghost use Rattle.walk_names.specs.Progress.{Advances};
 ghost use Rattle.index_entry.specs.Terms.{children_in};
-ghost use Rattle.walk_new.specs.Steps.{TypedAt, ParentAt, Tests, attribute_walk, get_walk};
+ghost use Rattle.walk_new.specs.Steps.{TypedAt, ParentAt, attribute_walk, get_walk};
 
-use index::Sizes;
+use crate::steps::refuse_unless;
+use index::Column;
 use index_entry::terms::Application;
-use walk_names::progress::Progress;
+use refusal::Refusal;
+use walk_names::naming::{self, Named};
+use walk_names::walk::{Stopped, Walk};
 use walk_queries::queries::Attribute;
 
 // Refuses the term with number n where the type with number t has no name, or is no record type with this attribute.
-fn check_attribute(
-    file: &[u8],
-    work: &[u32],
-    sizes: Sizes,
-    p: Progress,
-    n: u32,
-    t: u32,
-    a: &[u8],
-) -> Progress
-    ensures { Tests file.now sizes (TypedAt n t) (attribute_walk n t a.now) work.now p result }
+fn check_attribute(walk: &Walk, n: u32, t: u32, a: &[u8]) -> Result<(), Stopped>
+    ensures { Advances (TypedAt n t) (attribute_walk n t a.now) walk.now walk.now result }
 {
-    if p.refused != 0 {
-        return p;
-    }
-    if write_types::sorts::type_name(work, sizes.rows, t) == 0 {
-        return walk_names::progress::refuse(p, 18, n);
-    }
-    match walk_queries::queries::index_of_attr(file, work, sizes, t, a) {
-        Attribute::NotRecord => walk_names::progress::refuse(p, 17, n),
-        Attribute::Missing => walk_names::progress::refuse(p, 16, n),
-        Attribute::At(_) => p,
+    let records = walk.records.view();
+    let named = naming::get(records, Named::Types, t).is_some();
+    refuse_unless(named, Refusal::TypeNotDeclared, n)?;
+    match walk_queries::queries::index_of_attr(records, t, a) {
+        Attribute::NotRecord => Err(Stopped {
+            refusal: Refusal::NotRecord,
+            term: n,
+        }),
+        Attribute::Missing => Err(Stopped {
+            refusal: Refusal::NoAttribute,
+            term: n,
+        }),
+        Attribute::At(_) => Ok(()),
     }
 }
 
 // Refuses an application of `RecordGet` where it has no argument, or where its first argument's type lacks the attribute.
-pub fn record_get(
-    file: &[u8],
-    work: &[u32],
-    sizes: Sizes,
-    p: Progress,
-    body: &[u8],
-    call: Application,
-    a: &[u8],
-) -> Progress
-    ensures { Tests file.now sizes (ParentAt call.number (children_in body.now call.arguments)) (get_walk call.number a.now) work.now p result }
+pub fn record_get(walk: &Walk, call: Application<'_>, a: &[u8]) -> Result<(), Stopped>
+    ensures { Advances (ParentAt call.entry.number (children_in call.entry.arguments)) (get_walk call.entry.number a.now) walk.now walk.now result }
 {
-    if p.refused != 0 {
-        return p;
+    let mut arguments = call.arguments;
+    match arguments.next() {
+        None => Err(Stopped {
+            refusal: Refusal::NoArgument,
+            term: call.number,
+        }),
+        Some(child) => {
+            let t = walk.records.get(Column::TermType, child);
+            check_attribute(walk, call.number, t, a)
+        }
     }
-    let c = call.arguments;
-    if c.left == 0 {
-        return walk_names::progress::refuse(p, 19, call.number);
-    }
-    let child = index_entry::terms::take_child(body, c);
-    let t = index::get(
-        work,
-        sizes.rows,
-        index::TERM_TYPE,
-        index_entry::records::wide(child.number),
-    );
-    check_attribute(file, work, sizes, p, call.number, t, a)
 }

@@ -2,45 +2,35 @@
 ghost use Rattle.walk_names.specs.Progress.{Advances};
 ghost use Rattle.walk_new.specs.News.{StringAt, EntityAt, string_walk, entity_walk};
 
-use index::Sizes;
-use walk_names::progress::Progress;
+use crate::steps::{introduce, refuse_unless};
+use refusal::Refusal;
+use walk_names::naming::Named;
+use walk_names::walk::{Stopped, Walk};
 use walk_queries::queries::Member;
+use write_terms::definitions;
 
 // Defines the entity with number n, whose type is no enum.
-fn define_string_entity(
-    file: &[u8],
-    work: &mut [u32],
-    sizes: Sizes,
-    out: &mut [u8],
-    p: Progress,
-    n: u32,
-    id: &[u8],
-) -> Progress
-    ensures { Advances file.now sizes (StringAt n id.now) (string_walk n id.now) work.old out.old p work.new out.new result }
+fn define_string_entity(walk: &mut Walk, n: u32, id: &[u8]) -> Result<(), Stopped>
+    ensures { Advances (StringAt n id.now) (string_walk n id.now) walk.old walk.new result }
 {
-    let q = crate::texts::check_text(p, n, id);
-    crate::news::define_term(file, work, sizes, out, q, n)
+    refuse_unless(read_utf8::low_enough(id), Refusal::HighCodePoint, n)?;
+    introduce(walk, n, n, definitions::put_definition);
+    Ok(())
 }
 
 // Defines the entity with number n and the type with number t, or enters it where its type is an enum.
-pub fn define_entity(
-    file: &[u8],
-    work: &mut [u32],
-    sizes: Sizes,
-    out: &mut [u8],
-    p: Progress,
-    n: u32,
-    t: u32,
-    id: &[u8],
-) -> Progress
-    ensures { Advances file.now sizes (EntityAt n t id.now) (entity_walk n t id.now) work.old out.old p work.new out.new result }
+pub fn define_entity(walk: &mut Walk, n: u32, t: u32, id: &[u8]) -> Result<(), Stopped>
+    ensures { Advances (EntityAt n t id.now) (entity_walk n t id.now) walk.old walk.new result }
 {
-    if p.refused != 0 {
-        return p;
-    }
-    match walk_queries::queries::find_member(file, work, sizes, t, id) {
-        Member::NoEnum => define_string_entity(file, work, sizes, out, p, n, id),
-        Member::NotMember => walk_names::progress::refuse(p, 14, n),
-        Member::At(_) => crate::steps::enter(work, sizes, p, n),
+    match walk_queries::queries::find_member(walk.records.view(), t, id) {
+        Member::NoEnum => define_string_entity(walk, n, id),
+        Member::NotMember => Err(Stopped {
+            refusal: Refusal::NotMember,
+            term: n,
+        }),
+        Member::At(_) => {
+            walk.enter(Named::Terms, n);
+            Ok(())
+        }
     }
 }

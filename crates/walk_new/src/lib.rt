@@ -3,10 +3,7 @@
 
 pub mod applications;
 pub mod attributes;
-pub mod collections;
 pub mod entities;
-pub mod news;
-pub mod patterns;
-pub mod steps;
+mod steps;
 pub mod terms;
 pub mod texts;

@@ -1,41 +1,35 @@
-// Entering a term, and what its text, its pattern or its attribute asks for.
+// A test of a term before it is defined, and a term that is entered with the command that declares or defines it.
 
 ghost use Rattle.std.specs.Prelude.{◌≡◌};
-ghost use Rattle.walk_new.specs.Steps.{EntersTerm};
+ghost use Rattle.walk_new.specs.Steps.{tested};
+ghost use Rattle.walk_new.specs.News.{Introduces};
 
-use index::Sizes;
-use walk_names::progress::Progress;
+use index::Records;
+use refusal::Refusal;
+use walk_names::naming::Named;
+use walk_names::walk::{Stopped, Walk};
+use write_bytes::writer::Writer;
 
-// The progress with so many terms named.
-fn counted(p: Progress, terms: u32) -> Progress
-    ensures { result ≡ record { at = p.at; limit = p.limit; types = p.types; funs = p.funs; terms = terms; refused = p.refused; term = p.term } }
+// Refuses the term with number n, unless a test of it passes.
+pub(crate) fn refuse_unless(passes: bool, refusal: Refusal, n: u32) -> Result<(), Stopped>
+    ensures { result ≡ tested passes refusal n }
 {
-    Progress {
-        at: p.at,
-        limit: p.limit,
-        types: p.types,
-        funs: p.funs,
-        terms,
-        refused: p.refused,
-        term: p.term,
+    if passes {
+        return Ok(());
     }
+    Err(Stopped { refusal, term: n })
 }
 
-// Names the term with number n.
-pub fn enter(work: &mut [u32], sizes: Sizes, p: Progress, n: u32) -> Progress
-    ensures { EntersTerm sizes n work.old p work.new result }
+// Names the term with number n and lends the rest of the script to what writes the command that declares or defines it.
+pub(crate) fn introduce<T, F: FnOnce(Records<'_>, &mut Writer<'_>, T)>(
+    walk: &mut Walk,
+    n: u32,
+    of: T,
+    write: F,
+)
+    requires { F.IsAlwaysCallable write }
+    ensures { Introduces n (λ records x y. F.post write records x of tt y) walk.old walk.new }
 {
-    if p.refused != 0 {
-        return p;
-    }
-    let name = index::more(p.terms);
-    walk_names::naming::set(
-        work,
-        sizes.rows,
-        index::TERM_FIRST,
-        walk_names::naming::TERM_NAME,
-        index_entry::records::wide(n),
-        name,
-    );
-    counted(p, name)
+    walk.enter(Named::Terms, n);
+    walk.script.lend(walk.records.view(), of, write)
 }

@@ -2,64 +2,58 @@
 ghost use Rattle.walk_names.specs.Progress.{Advances};
 ghost use Rattle.walk_new.specs.Steps.{NewAt, new_walk};
 
-use index::Sizes;
+use crate::steps::introduce;
+use index::Column;
 use index_entry::terms::{Application, Compound, TermEntry};
-use walk_names::progress::Progress;
+use walk_names::walk::{Stopped, Walk};
+use write_terms::{definitions, lines};
 
 // Enters, declares, defines or refuses the term with number n.
-pub fn encode_new(
-    file: &[u8],
-    work: &mut [u32],
-    sizes: Sizes,
-    out: &mut [u8],
-    p: Progress,
-    n: u32,
-) -> Progress
-    ensures { Advances file.now sizes (NewAt n) (new_walk n) work.old out.old p work.new out.new result }
+pub fn encode_new(walk: &mut Walk, n: u32) -> Result<(), Stopped>
+    ensures { Advances (NewAt n) (new_walk n) walk.old walk.new result }
 {
-    let offset = index::get(
-        work,
-        sizes.rows,
-        index::TERM_OFFSET,
-        index_entry::records::wide(n),
-    );
-    let body = index_entry::records::body_at(file, offset);
-    match index_entry::terms::term_at(file, offset) {
-        TermEntry::Var(_, _) => crate::news::declare_var(file, work, sizes, out, p, n),
-        TermEntry::BoolLit(_) => p,
-        TermEntry::BitVecLit(_, _) => p,
-        TermEntry::StringLit(s) => {
-            let text = read_field::part_of(body, s.start, s.len);
-            crate::texts::check_literal(work, sizes, p, n, text)
+    let offset = walk.records.get(Column::TermOffset, n);
+    match index_entry::terms::term_at(walk.records.file, offset) {
+        TermEntry::Var(_, _) => {
+            introduce(walk, n, n, lines::put_declaration);
+            Ok(())
         }
-        TermEntry::Entity(t, s) => {
-            let id = read_field::part_of(body, s.start, s.len);
-            crate::entities::define_entity(file, work, sizes, out, p, n, t, id)
+        TermEntry::BoolLit(_) | TermEntry::BitVecLit(_, _) | TermEntry::Unreadable => Ok(()),
+        TermEntry::StringLit(text) => crate::texts::check_literal(walk, n, text),
+        TermEntry::Entity(t, id) => crate::entities::define_entity(walk, n, t, id),
+        TermEntry::Some(m) => {
+            introduce(walk, n, m, |records, w, m| {
+                definitions::put_some(records, w, n, m)
+            });
+            Ok(())
         }
-        TermEntry::Some(m) => crate::collections::define_some(file, work, sizes, out, p, n, m),
-        TermEntry::Set(_, c) => {
+        TermEntry::Set(_, children) => {
             let term = Compound {
                 number: n,
-                children: c,
+                children,
             };
-            crate::collections::define_set(file, work, sizes, out, p, body, term)
+            introduce(walk, n, term, definitions::put_set);
+            Ok(())
         }
-        TermEntry::Record(c) => {
+        TermEntry::Record(children) => {
             let term = Compound {
                 number: n,
-                children: c,
+                children,
             };
-            crate::collections::define_record(file, work, sizes, out, p, body, term)
+            introduce(walk, n, term, definitions::put_record);
+            Ok(())
         }
-        TermEntry::App(_, op, c) => {
+        TermEntry::App(_, op, arguments) => {
             let call = Application {
                 number: n,
                 op,
-                arguments: c,
+                arguments,
             };
-            crate::applications::define_app(file, work, sizes, out, p, body, call)
+            crate::applications::define_app(walk, call)
         }
-        TermEntry::Unreadable => p,
-        _ => crate::news::define_term(file, work, sizes, out, p, n),
+        TermEntry::ExtLit(_) | TermEntry::None(_) => {
+            introduce(walk, n, n, definitions::put_definition);
+            Ok(())
+        }
     }
 }

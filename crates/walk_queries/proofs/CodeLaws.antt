@@ -2,26 +2,28 @@
 -- Assumes nothing.
 use Prim.Native.Nat.{ℕ, zero, suc, ◌^◌}
 use mathlib.Core.Path.{◌≡◌, refl, sym, ap, ◌∙◌, subst}
-use mathlib.Core.Bool.{Bool, false}
+use mathlib.Core.Bool.{Bool, not}
 use mathlib.Core.List.{List, [], ◌∷◌, ◌++◌}
-use mathlib.Core.Option.{Option, none, some, none-ne-some}
+use mathlib.Core.Option.{some, none-ne-some}
 use lib.ListN.{length, take, drop, get_or}
+use lib.Dec.{eqb}
+use lib.Seq.{get_or-drop}
+use borrow.Author.Tests.{eq-eqb}
 use Rattle.script_spec.specs.Base.{Bytes, bytes, at, same, lookup, and_then}
 use Rattle.script_spec.specs.Tree as tree
 use Rattle.script_spec.specs.Tree.{PlainOp, Op, App, Plain, Bvnego}
-use Rattle.script_spec.specs.Fields.{term, got, Reader, ◌>>=◌, pure, present, byte, u32, text, list, ref, element, ext_op, plain, operators, operator, marks}
+use Rattle.script_spec.specs.Fields.{term, got, Reader, ◌>>=◌, pure, u32, text, list, ref, element, ext_op, plain, operators, operator, marks}
 use Rattle.script_spec.proofs.Laws.{never}
-use Rattle.script_spec.proofs.Readers.{got_value, bad_not_got}
+use Rattle.script_spec.proofs.Readers.{got_value, coded_inverse}
 use Rattle.index_compare.proofs.Standing.{entry_whole}
 use Rattle.index.specs.First.{All}
 use Rattle.index.specs.Standing.{mark_at, body_at, entry_of, entry_at, loose}
 use Rattle.index.proofs.Readers.{Gives, gives_after, gives_pure}
-use Rattle.read_field.specs.Reads.{value, as_read, Reads}
 use Rattle.check_rules.specs.Marks.{term_bytes, mark_of}
 use Rattle.check_rules.proofs.Marks.{entry_mark}
 use Rattle.index_entry.proofs.Inverse.{bind_inverse, tested_inverse}
-use Rattle.index_entry.proofs.TypeEntries.{coded_by}
 use Rattle.walk_queries.specs.Negations.{OtherCode, IsOther}
+use Rattle.walk_queries.proofs.Order.{untrue}
 
 -- ---- the table of operators
 
@@ -76,18 +78,13 @@ other_at n code r h e = at_other Unlike (take 5 (operators n)) (plain Bvnego) (d
 
 -- ---- applications
 
-present_inverse : {A P : Type 0} (n : ℕ) (o : Option A) (s : Bytes) {a : A} {rest : Bytes} → present n o s ≡ got a rest → (o ≡ some a → P) → P
-unfolding present
-present_inverse n none s {a} {rest} h next = absurd (bad_not_got n a rest h)
-present_inverse n (some b) s {a} {rest} h next = next (ap some (got_value b a s rest h))
-
-module _ {body : Bytes} {code to : ℕ} (b : Reads byte body 4 (value code to)) (h : code ≡ 5 → ⊥) where
+module _ (body : Bytes) {code : ℕ} (b : code ≡ get_or body 4 0) (h : code ≡ 5 → ⊥) where
   operator_other : {o : Op ℕ} {rest : Bytes} → operator (2 ^ 32) (drop 4 body) ≡ got o rest → o ≡ Plain Bvnego → ⊥
-  unfolding operator as_read
+  unfolding operator
   operator_other {o} {rest} e =
-      bind_inverse (present 7 (at code (operators (2 ^ 32)))) (λ r. r) (drop to body) (sym (coded_by (drop 4 body) (operators (2 ^ 32)) b.is) ∙ e) (λ r mid p q.
-      present_inverse 7 (at code (operators (2 ^ 32))) (drop to body) p (λ found.
-      ((other_at (2 ^ 32) code r h found).go mid rest o q).0))
+      let c = coded_inverse (operators (2 ^ 32)) (drop 4 body) e in
+      let same : code ≡ c.code = b ∙ sym (get_or-drop 4 body 0 0) ∙ ap (λ (s : Bytes). get_or s 0 0) c.is in
+      ((other_at (2 ^ 32) c.code c.reader (λ q. h (same ∙ q)) c.has).go c.mid rest o c.reads).0
 
   app_other : (t : ℕ) (rs : List ℕ) → entry_of (bytes "XA") body ≡ some (term (App t (Plain Bvnego)) rs) → ⊥
   unfolding entry_of and_then marks lookup same bytes ref pure loose
@@ -99,11 +96,8 @@ module _ {body : Bytes} {code to : ℕ} (b : Reads byte body 4 (value code to)) 
       let op-is : y ≡ Plain Bvnego = cc in
       operator_other (ap (operator (2 ^ 32)) d ∙ i) op-is))))
 
-  pub code_other : (r : Bool) → OtherCode body r
-  code_other r = record { go = λ e t rs. app_other t rs }
-
-pub code_any : {body : Bytes} → OtherCode body false
-code_any = record { go = λ e t rs g. never (cc) }
+pub code_other : {body : Bytes} {code : ℕ} → code ≡ get_or body 4 0 → OtherCode body (not (eqb code 5))
+code_other {code = code} b = record { go = λ h t rs. app_other _ b (λ e. untrue (sym (ap not (eq-eqb code 5 e)) ∙ h)) t rs }
 
 -- ---- records
 

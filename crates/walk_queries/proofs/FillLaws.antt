@@ -11,10 +11,15 @@ use Rattle.script_spec.specs.Base.{Bytes, ascending}
 use Rattle.index.specs.Cells.{placed, cell, store, shared, list_row}
 use Rattle.index.specs.Lists.{texts, Listed}
 use Rattle.index.proofs.Cells.{length_store, cell_store_same, cell_store_apart}
+use Rattle.index.specs.Held.{Becomes, Stays}
+use Rattle.index.specs.declared.RecordsMut.{RecordsMut}
+use Rattle.index.specs.declared.Sizes.{Sizes}
 use Rattle.index_entry.specs.Places.{rest_after_text}
+use Rattle.index_entry.specs.declared.lists.Texts.{Texts}
 use Rattle.index_entry.proofs.Places.{length_texts}
 use Rattle.walk_queries.specs.Made.{RowsOf, Fits, rest_after_texts, RowsStored, RowsFilled, RowsMade, ListAt, left_out, made}
 use Rattle.walk_queries.proofs.Order.{untrue}
+use Rattle.index.proofs.Held.{stays_same, stays_store}
 
 -- ---- texts
 
@@ -82,6 +87,23 @@ module _ {body : Bytes} {k base rows from skip : ℕ} where
           filled = λ _ fits. record { place = λ m g. (F.filled fits).place m (omega arith) };
         }
 
+-- j rows are filled in the records that were u and are v
+pub record FillingRecords (among : Texts) (base rows : ℕ) (u v : RecordsMut) (at j : ℕ) : Type 0 where
+  pub stays : Stays u v
+  pub rows_are : Filling among.body.now u.sizes.rows base rows among.from among.skip u.work.now v.work.now at j
+
+module _ {among : Texts} {base rows : ℕ} where
+  pub fills_none : (u : RecordsMut) → FillingRecords among base rows u u among.from 0
+  fills_none u = record { stays = stays_same u; rows_are = filling_start u.work.now }
+
+  pub fills_more : {u v w : RecordsMut} {at j : ℕ} → FillingRecords among base rows u v at j → j < rows → base + rows ≤ u.sizes.rows → Becomes v w (store v.work.now v.sizes.rows list_row (base + j) at)
+      → (mid next : ℕ) → drop mid among.body.now ≡ rest_after_text among.skip (drop at among.body.now) → drop next among.body.now ≡ rest_after_text among.skip (drop mid among.body.now)
+      → FillingRecords among base rows u w next (j + 1)
+  fills_more {v = v} {at = at} {j} F l room B mid next a b = record {
+    stays = stays_store v.sizes.rows list_row (base + j) at F.stays B;
+    rows_are = filling_more F.rows_are mid next l room (B.memory ∙ ap (λ (s : Sizes). store v.work.now s.rows list_row (base + j) at) F.stays.sizes_are) a b;
+  }
+
 -- ---- a list
 
 -- rows that are filled are the list of texts that ascend
@@ -99,18 +121,33 @@ rows_list {body} {rows = rows} {from} {count} {skip} {names = names} R P e up sa
 
 -- ---- what `list_at` does
 
-module _ {body : Bytes} {k terms column n from count skip next : ℕ} {work : List ℕ} where
-  pub too_few : {work' : List ℕ} {next' : ℕ} → (work' ≡ store work k column n 0) × (next' ≡ next) → ListAt body k terms column n from count skip next work next' work'
-  too_few h = left_out 0 work (λ l. absurd (omega arith)) (rows_none k next work) h.0 h.1
+-- some rows are filled of the next ones, where they fit, in the records that were u and are v
+pub record Tried (next : ℕ) (u v : RecordsMut) : Type 0 where
+  pub stays : Stays u v
+  pub taken : ℕ
+  pub room : 0 < taken → next + taken + u.sizes.terms ≤ u.sizes.rows
+  pub stored : RowsStored u.sizes.rows next taken u.work.now v.work.now
 
-  module _ {filled : List ℕ} {rows a b : ℕ} {r fits : Bool} (F : fits ≡ true → Fits k terms next rows) (f : fits ≡ true) (p : a ≡ next) (q : b ≡ rows) (M : RowsMade body k a b from skip work filled r) where
-    pub not_filled : {work' : List ℕ} {next' : ℕ} → (work' ≡ store filled k column n 0) × (next' ≡ next) → ListAt body k terms column n from count skip next work next' work'
-    not_filled h =
-        let here : RowsMade body k next rows from skip work filled r = rw (p, q) at M in
-        left_out rows filled (λ l. (F f).room) here.stored h.0 h.1
+pub tried_none : (next : ℕ) (u : RecordsMut) → Tried next u u
+tried_none next u = record { stays = stays_same u; taken = 0; room = λ l. absurd (omega arith); stored = rows_none u.sizes.rows next u.work.now }
 
-    pub list_made : {work' : List ℕ} → RowsOf count rows → r ≡ true → work' ≡ store filled k column n (next + 1) → ListAt body k terms column n from count skip next work (next + rows) work'
-    list_made R t e =
-        let here : RowsMade body k next rows from skip work filled r = rw (p, q) at M in
+pub tried_rows : (among : Texts) {next rows : ℕ} {u v : RecordsMut} {r : Bool} → Fits u.sizes.rows u.sizes.terms next rows → Stays u v
+    → RowsMade among.body.now u.sizes.rows next rows among.from among.skip u.work.now v.work.now r → Tried next u v
+tried_rows among {rows = rows} F s M = record { stays = s; taken = rows; room = λ l. F.room; stored = M.stored }
+
+module _ {u v w : RecordsMut} (column n : ℕ) where
+  -- the first row of the list is noted, or that there is none
+  noted : (x : ℕ) → Stays u v → Becomes v w (store v.work.now v.sizes.rows column n x) → w.work.now ≡ store v.work.now u.sizes.rows column n x
+  noted x S B = B.memory ∙ ap (λ (s : Sizes). store v.work.now s.rows column n x) S.sizes_are
+
+  module _ (among : Texts) {next : ℕ} where
+    pub list_left : Tried next u v → Becomes v w (store v.work.now v.sizes.rows column n 0)
+        → ListAt among.body.now u.sizes.rows u.sizes.terms column n among.from among.left among.skip next u.work.now next w.work.now
+    list_left T B = left_out T.taken v.work.now T.room T.stored (noted 0 T.stays B) refl
+
+    pub list_made : {rows : ℕ} {r : Bool} → RowsOf among.left rows → Fits u.sizes.rows u.sizes.terms next rows → Stays u v
+        → RowsMade among.body.now u.sizes.rows next rows among.from among.skip u.work.now v.work.now r → r ≡ true → Becomes v w (store v.work.now v.sizes.rows column n (next + 1))
+        → ListAt among.body.now u.sizes.rows u.sizes.terms column n among.from among.left among.skip next u.work.now (next + rows) w.work.now
+    list_made {rows} R F S M t B =
         let one : next + 1 ≡ suc next = omega arith in
-        made rows filled (λ l. (F f).room) here.stored (e ∙ ap (λ (v : ℕ). store filled k column n v) one) refl R (here.filled t)
+        made rows v.work.now (λ l. F.room) M.stored (noted (next + 1) S B ∙ ap (λ (x : ℕ). store v.work.now u.sizes.rows column n x) one) refl R (M.filled t)

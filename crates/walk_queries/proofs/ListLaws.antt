@@ -5,8 +5,8 @@ use native.Mathlib.Omega.{arith}
 use native.Mathlib.Decide.{dec_lt}
 use mathlib.Core.Path.{◌≡◌, refl, sym, ap, ◌∙◌, subst}
 use mathlib.Core.Bool.{true}
-use mathlib.Core.List.{List}
-use lib.ListN.{length, drop}
+use mathlib.Core.List.{List, []}
+use lib.ListN.{length, drop, get_or}
 use Rattle.script_spec.specs.Base.{Bytes, ascending}
 use Rattle.script_spec.specs.File.{TermFile, types, enums}
 use Rattle.index.specs.Cells.{placed, cell, store, shared, Apart, type_offset, enum_offset, hash, enum_list, type_list, list_row}
@@ -19,10 +19,13 @@ use Rattle.index.proofs.Rows.{listed_same, rows_same, unnamed_same}
 use Rattle.index_entry.proofs.Places.{length_texts}
 use Rattle.walk_queries.specs.Made.{RowsOf, RowsStored, RowsFilled, ListAt, left_out, made, Side, Listing, KnownRecords, Relisted}
 use Rattle.walk_queries.proofs.FillLaws.{rows_list}
-use Rattle.walk_queries.proofs.Attributes.{attributes_here, members_here}
+use Rattle.walk_queries.proofs.Attributes.{attributes_here, attributes_inside, members_here}
 use Rattle.index_entry.specs.Types.{TypeAt}
-use Rattle.index_entry.specs.Symbols.{EnumAt}
-use Rattle.index_entry.specs.declared.symbols.Enum.{Enum}
+use Rattle.index_entry.specs.Places.{texts_in}
+use Rattle.index_entry.specs.Terms.{names_of}
+use Rattle.index_entry.specs.Symbols.{EnumSaid, EnumAt}
+use Rattle.index_entry.specs.declared.lists.Texts.{Texts}
+use Rattle.index_entry.specs.declared.terms.Children.{Children}
 use Rattle.index_entry.specs.declared.types.TypeEntry.{TypeEntry}
 use Rattle.index_entry.specs.declared.types.TypeEntry.TheVariants as entry
 
@@ -167,43 +170,55 @@ module _ {file : Bytes} {f : TermFile} {k terms : ℕ} {work₀ : List ℕ} (K :
             new;
       }
 
-  pub type_listed : {t n : ℕ} {r : TypeEntry} {o w next next' : ℕ} {work work' : List ℕ} {body : Bytes} → t < length (types f) → Listing file f k work₀ t 0 next work → o ≡ cell work k type_offset t → TypeAt file o r → r ≡ entry.Record n → body ≡ body_at file o → w ≡ t
-      → ListAt body k terms type_list w 4 n 4 next work next' work' → Listing file f k work₀ (t + 1) 0 next' work'
-  unfolding used_entries shared placed
-  type_listed {t} {n} {r} {o} {w} {next} {next'} {work} {work'} {body} l L at T e' b wide A = go (subst (λ (y : ℕ). ListAt body k terms type_list y 4 n 4 next work next' work') wide A)
+  -- the list of a type's attributes
+  pub type_listed : {t : ℕ} {r : TypeEntry} {c : Children} {among : Texts} {next next' : ℕ} {work work' : List ℕ} → t < length (types f) → Listing file f k work₀ t 0 next work → TypeAt file (cell work k type_offset t) r
+      → r ≡ entry.Record c → among ≡ names_of c → ListAt among.body.now k terms type_list t among.from among.left among.skip next work next' work' → Listing file f k work₀ (t + 1) 0 next' work'
+  unfolding used_entries shared placed names_of texts_in
+  type_listed {t} {r} {c} {among} {next} {next'} {work} {work'} l L T is named A =
+      go (subst (λ (x : Texts). ListAt x.body.now k terms type_list t x.from x.left x.skip next work next' work') named A)
     where
       few : t < k
       few = omega (arith, K.index.fit, counts_together f)
 
-      go : ListAt body k terms type_list t 4 n 4 next work next' work' → Listing file f k work₀ (t + 1) 0 next' work'
+      here : cell work k type_offset t ≡ cell work₀ k type_offset t
+      here = L.same type_offset t l
+
+      go : ListAt c.body.now k terms type_list t c.from c.left 4 next work next' work' → Listing file f k work₀ (t + 1) 0 next' work'
       go (left_out rows filled room S e q) =
           let M = rows_kept (omega arith) (omega arith) room S L in
-          type_noted 0 l (omega arith) e M (λ base c names h. noted_none k type_list t (omega arith) few filled (omega (arith, M.same_size, K.index.fits)) base e c)
+          type_noted 0 l (omega arith) e M (λ base d names h. noted_none k type_list t (omega arith) few filled (omega (arith, M.same_size, K.index.fits)) base e d)
       go (made rows filled room S e q R P) =
           let M = rows_kept (omega arith) (omega arith) room S L in
           let fits : 12 * k ≤ length filled = omega (arith, M.same_size, K.index.fits) in
-          let place : cell work' k type_offset t ≡ o =
+          let place : cell work' k type_offset t ≡ cell work k type_offset t =
           (rw e (cell_store_apart filled k type_list t (suc next) type_offset t (record { other = λ h q. omega arith; facing = λ h q. omega arith })))
-          ∙ S.same type_offset t (λ j g. record { other = λ h q. omega arith; facing = λ h q. omega arith }) ∙ sym at in
+          ∙ S.same type_offset t (λ j g. record { other = λ h q. omega arith; facing = λ h q. omega arith }) in
           type_noted (suc next) l (omega arith) e M
-          (λ base c names h. noted_list k type_list t (omega arith) few filled fits base e (λ i. record { other = λ h q. omega arith; facing = λ h q. omega arith }) R (P (omega (arith, L.same_size, K.index.fits)))
-          (ap (body_at file) place ∙ sym b) (let here = attributes_here (at ∙ L.same type_offset t l) T e' b f K.index l in cc) (K.ascends.attributes_ascend t names l h) q c)
+          (λ base d names h. noted_list k type_list t (omega arith) few filled fits base e (λ i. record { other = λ h q. omega arith; facing = λ h q. omega arith }) R (P (omega (arith, L.same_size, K.index.fits)))
+          (ap (body_at file) place ∙ sym (attributes_inside T is)) (names_listed names h) (K.ascends.attributes_ascend t names l h) q d)
+        where
+          names_listed : (names : List Bytes) → HasAttributes f t names → names ≡ texts 4 c.left (drop c.from c.body.now)
+          names_listed names h = let at = attributes_here (subst (λ (o : ℕ). TypeAt file o r) here T) is f K.index l in cc
 
-  pub type_unlisted : {t w next next' : ℕ} {work work' : List ℕ} → t < length (types f) → Listing file f k work₀ t 0 next work → w ≡ t → (work' ≡ store work k type_list w 0) × (next' ≡ next) → Listing file f k work₀ (t + 1) 0 next' work'
-  type_unlisted {t} {w} {next} {next'} {work} {work'} l L wide h =
-      let e : work' ≡ store work k type_list t 0 = h.0 ∙ ap (λ (x : ℕ). store work k type_list x 0) wide in
-      type_noted 0 l (omega (arith, h.1)) e L
+  -- a type that has none
+  pub type_unlisted : {t next : ℕ} {work work' : List ℕ} → t < length (types f) → Listing file f k work₀ t 0 next work → work' ≡ store work k type_list t 0 → Listing file f k work₀ (t + 1) 0 next work'
+  type_unlisted {t} {next} {work} {work'} l L e =
+      type_noted 0 l (omega arith) e L
       (λ base c names q. noted_none k type_list t (omega arith) (omega (arith, K.index.fit, counts_together f)) work (omega (arith, L.same_size, K.index.fits)) base e c)
 
-  pub enum_listed : {n : ℕ} {x : Enum} {o w next next' : ℕ} {work work' : List ℕ} {body : Bytes} → n < length (enums f) → Listing file f k work₀ (length (types f)) n next work → o ≡ cell work k enum_offset n → EnumAt file o x → body ≡ body_at file o → w ≡ n
-      → ListAt body k terms enum_list w x.from x.members 0 next work next' work' → Listing file f k work₀ (length (types f)) (n + 1) next' work'
-  unfolding used_entries shared placed
-  enum_listed {n} {x} {o} {w} {next} {next'} {work} {work'} {body} l L at E b wide A = go (subst (λ (y : ℕ). ListAt body k terms enum_list y x.from x.members 0 next work next' work') wide A)
+  -- the list of an enum's members
+  pub enum_listed : {n o : ℕ} {x : Texts} {next next' : ℕ} {work work' : List ℕ} → n < length (enums f) → Listing file f k work₀ (length (types f)) n next work → o ≡ cell work k enum_offset n → EnumAt file o x
+      → ListAt x.body.now k terms enum_list n x.from x.left x.skip next work next' work' → Listing file f k work₀ (length (types f)) (n + 1) next' work'
+  unfolding used_entries shared placed texts_in
+  enum_listed {n} {o} {x} {next} {next'} {work} {work'} l L at E A = go (subst (λ (y : ℕ). ListAt x.body.now k terms enum_list n x.from x.left y next work next' work') said.dense A)
     where
       few : n < k
       few = omega (arith, K.index.fit, counts_together f)
 
-      go : ListAt body k terms enum_list n x.from x.members 0 next work next' work' → Listing file f k work₀ (length (types f)) (n + 1) next' work'
+      said : EnumSaid (body_at file o) x (get_or (enums f) n ([], [])).1
+      said = members_here (at ∙ L.same enum_offset n l) E f K.index l
+
+      go : ListAt x.body.now k terms enum_list n x.from x.left 0 next work next' work' → Listing file f k work₀ (length (types f)) (n + 1) next' work'
       go (left_out rows filled room S e q) =
           let M = rows_kept (omega arith) (omega arith) room S L in
           enum_noted 0 l (omega arith) e M (λ base c names h. noted_none k enum_list n (omega arith) few filled (omega (arith, M.same_size, K.index.fits)) base e c)
@@ -215,7 +230,10 @@ module _ {file : Bytes} {f : TermFile} {k terms : ℕ} {work₀ : List ℕ} (K :
           ∙ S.same enum_offset n (λ j g. record { other = λ h q. omega arith; facing = λ h q. omega arith }) ∙ sym at in
           enum_noted (suc next) l (omega arith) e M
           (λ base c names h. noted_list k enum_list n (omega arith) few filled fits base e (λ i. record { other = λ h q. omega arith; facing = λ h q. omega arith }) R (P (omega (arith, L.same_size, K.index.fits)))
-          (ap (body_at file) place ∙ sym b) (let here = members_here (at ∙ L.same enum_offset n l) E b f K.index l in cc) (K.ascends.members_ascend n names l h) q c)
+          (ap (body_at file) place ∙ sym said.within) (names_listed names h) (K.ascends.members_ascend n names l h) q c)
+        where
+          names_listed : (names : List Bytes) → HasMembers f n names → names ≡ texts 0 x.left (drop x.from x.body.now)
+          names_listed names h = sym h ∙ sym said.members_are ∙ ap (λ (y : ℕ). texts y x.left (drop x.from x.body.now)) said.dense
 
   -- ---- all lists
 

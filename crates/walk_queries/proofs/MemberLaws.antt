@@ -4,11 +4,10 @@ use Prim.Native.Nat.{ℕ, ◌<◌, ◌≤◌}
 use native.Mathlib.Omega.{arith}
 use mathlib.Core.Path.{◌≡◌, refl, sym, ap, ◌∙◌, subst}
 use mathlib.Core.Bool.{true}
-use mathlib.Core.List.{List, [], ◌∷◌}
+use mathlib.Core.List.{List}
 use mathlib.Core.Option.{Option, none, some}
-use lib.ListN.{length, drop}
-use package.types.Run.{OneOf, miss}
-use denote.Enum.Declared.{tag_of}
+use lib.ListN.{length}
+use denote.Ref.{Bor}
 use borrow.Author.Tests.{lt-ltb, le-ltb}
 use Rattle.script_spec.specs.Base.{Bytes, is_some, and_then, same, place}
 use Rattle.script_spec.specs.Tree.{Datatype, entity_name, attributes_of, attributes, attribute, enum_of}
@@ -17,124 +16,128 @@ use Rattle.index.specs.Cells.{cell, type_offset, enum_offset, enum_list, type_li
 use Rattle.index.specs.Standing.{body_at}
 use Rattle.index.specs.Meaning.{Index}
 use Rattle.index.specs.declared.Sizes.{Sizes}
-use Rattle.read_field.specs.Answers.{spanned}
-use Rattle.read_field.specs.declared.Span.{Span}
-use Rattle.index.specs.Lists.{texts, Listed}
+use Rattle.std.specs.Prelude as std
+use Rattle.index.specs.Lists.{Listed}
+use Rattle.index_entry.specs.Places.{texts_in}
+use Rattle.index_entry.specs.Terms.{names_of}
 use Rattle.index_entry.specs.Types.{TypeAt}
 use Rattle.index_entry.specs.Symbols.{EnumAt}
-use Rattle.index_entry.specs.declared.symbols.Enum.{Enum}
+use Rattle.index_entry.specs.declared.lists.Texts.{Texts}
+use Rattle.index_entry.specs.declared.terms.Children.{Children}
 use Rattle.index_entry.specs.declared.types.TypeEntry.{TypeEntry}
 use Rattle.index_entry.specs.declared.types.TypeEntry.TheVariants as entry
-use Rattle.index_entry.specs.contracts.types.TypeEntry.{the_type}
 use Rattle.index_search.specs.Enums.{enum_at, members_at}
 use Rattle.index_search.proofs.EnumLaws.{number_members}
-use Rattle.walk_queries.specs.Searches.{FindsAttribute, IsEnumType, FindsIn, FindsMember}
+use Rattle.walk_queries.specs.Searches.{FindsAttribute, IsEnum, IsEnumType, FindsIn, FindsMember}
 use Rattle.walk_queries.proofs.AnswerLaws.{AttributeSaid, attribute_answer_lem, MemberSaid, member_answer_lem}
 use Rattle.walk_queries.specs.Found.{place_said, FindsText, Finds}
-use Rattle.walk_queries.specs.declared.positions.Found.{Found}
-use Rattle.walk_queries.specs.declared.positions.Found.TheVariants as found
-use Rattle.walk_queries.proofs.Attributes.{datatype_said, datatype_here, attributes_here, members_here}
-use Rattle.walk_queries.proofs.EntityLaws.{not_entities, entity_named, entity_unnamed}
+use Rattle.walk_queries.proofs.Attributes.{datatype_said, datatype_here, attributes_here, attributes_inside, members_here}
+use Rattle.walk_queries.proofs.EntityLaws.{entity_named, entity_unnamed}
 use Rattle.walk_queries.specs.declared.queries.Attribute.TheVariants as answer
 use Rattle.walk_queries.specs.declared.queries.Member.TheVariants as member
 
--- the places of the types that are no record types
-abbrev not_records : List ℕ
-not_records = 0 ∷ 1 ∷ 2 ∷ 3 ∷ 4 ∷ 5 ∷ 6 ∷ 8 ∷ []
-
-no_record : (body : Bytes) (r : TypeEntry) → OneOf not_records (tag_of the_type r) → and_then (datatype_said body r) attributes_of ≡ none
+no_record : (r : TypeEntry) → ((c : Children) → r ≡ entry.Record c → ⊥) → and_then (datatype_said r) attributes_of ≡ none
 unfolding datatype_said and_then attributes_of
-no_record body entry.Bool h = refl
-no_record body entry.String h = refl
-no_record body (entry.BitVec n) h = refl
-no_record body (entry.Option n) h = refl
-no_record body (entry.Set n) h = refl
-no_record body (entry.Entity p) h = refl
-no_record body (entry.Ext x) h = refl
-no_record body (entry.Record n) h = absurd (miss not_records 7 tt h)
-no_record body entry.Unreadable h = refl
+no_record entry.Bool h = refl
+no_record entry.String h = refl
+no_record (entry.BitVec n) h = refl
+no_record (entry.Option n) h = refl
+no_record (entry.Set n) h = refl
+no_record (entry.Entity name) h = refl
+no_record (entry.Ext x) h = refl
+no_record (entry.Record c) h = absurd (h c refl)
+no_record entry.Unreadable h = refl
 
-module _ {file : Bytes} {work : List ℕ} {sizes : Sizes} {t o : ℕ} {r : TypeEntry} (place_is : o ≡ cell work sizes.rows type_offset t) (T : TypeAt file o r) where
+module _ {file : Bytes} {work : List ℕ} {sizes : Sizes} {t : ℕ} {r : TypeEntry} (T : TypeAt file (cell work sizes.rows type_offset t) r) where
   -- ---- attributes
 
-  pub not_record : {name : Bytes} → OneOf not_records (tag_of the_type r) → FindsAttribute file work sizes t name answer.NotRecord
+  pub not_record : {name : Bytes} → ((c : Children) → r ≡ entry.Record c → ⊥) → FindsAttribute file work sizes t name answer.NotRecord
   unfolding AttributeSaid attributes
   not_record h = record {
-    go = λ f I l. attribute_answer_lem answer.NotRecord _ _ (ap (λ (d : Option Datatype). and_then d attributes_of) (datatype_here place_is T f I.rows l) ∙ no_record (body_at file o) r h);
+    go = λ f I l. attribute_answer_lem answer.NotRecord _ _ (ap (λ (d : Option Datatype). and_then d attributes_of) (datatype_here T f I.rows l) ∙ no_record r h);
   }
 
-  module _ {n list w : ℕ} {body name : Bytes} {q : Found} (e : r ≡ entry.Record n) (v : w ≡ t) (list-is : list ≡ cell work sizes.rows type_list w) (b : body ≡ body_at file o)
-      (F : Finds body work sizes.rows list 4 n 4 name q) where
-    found_here : (f : TermFile) → Index file f work sizes → t < length (types f) → FindsText body 4 n 4 name q
+  module _ {c : Children} {among : Texts} {list : ℕ} {name : Bytes} {q : std.Option ℕ} (e : r ≡ entry.Record c) (n : among ≡ names_of c) (list-is : list ≡ cell work sizes.rows type_list t)
+      (F : Finds work sizes.rows list among name q) where
+    found_here : (f : TermFile) → Index file f work sizes → t < length (types f) → FindsText (names_of c) name q
+    unfolding names_of
     found_here f I l =
-        F.go (λ base h.
-        subst (λ (s : Bytes). Listed s 4 (texts 4 n (drop 4 body)) work sizes.rows base) (sym (b ∙ ap (body_at file) place_is))
-        (I.rows.listed.of_types.list t base l (sym (list-is ∙ ap (cell work sizes.rows type_list) v) ∙ h) (texts 4 n (drop 4 body)) (attributes_here place_is T e b f I.rows l)))
+        let finds : Finds work sizes.rows list (names_of c) name q = subst (λ (x : Texts). Finds work sizes.rows list x name q) n F in
+        finds.go (λ base h.
+        subst (λ (s : Bytes). Listed s 4 (texts_in (names_of c)) work sizes.rows base) (sym (attributes_inside T e))
+        (I.rows.listed.of_types.list t base l (sym list-is ∙ h) (texts_in (names_of c)) (attributes_here T e f I.rows l)))
 
     attribute_here : (f : TermFile) → Index file f work sizes → t < length (types f) → (is_some (attributes (type_at f t)) ≡ true) × (attribute name (type_at f t) ≡ place_said q)
     unfolding attribute and_then is_some
     attribute_here f I l =
-        let are = attributes_here place_is T e b f I.rows l in
+        let are = attributes_here T e f I.rows l in
         (ap is_some are, ap (λ (ns : Option (List Bytes)). and_then ns (place (same name))) are ∙ (found_here f I l).is)
 
-    pub attribute_at : {i : ℕ} → q ≡ found.At i → FindsAttribute file work sizes t name (answer.At i)
+    pub attribute_at : {i : ℕ} → q ≡ std.Some i → FindsAttribute file work sizes t name (answer.At i)
     unfolding AttributeSaid place_said
     attribute_at {i} h = record { go = λ f I l. let a = attribute_here f I l in attribute_answer_lem (answer.At i) _ _ (a.0, a.1 ∙ ap place_said h) }
 
-    pub attribute_missing : q ≡ found.Nowhere → FindsAttribute file work sizes t name answer.Missing
+    pub attribute_missing : q ≡ std.None → FindsAttribute file work sizes t name answer.Missing
     unfolding AttributeSaid place_said
     attribute_missing h = record { go = λ f I l. let a = attribute_here f I l in attribute_answer_lem answer.Missing _ _ (a.0, a.1 ∙ ap place_said h) }
 
   -- ---- enums
 
-  pub not_entity : OneOf not_entities (tag_of the_type r) → IsEnumType file work sizes t sizes.enums
-  unfolding enum_of and_then members_at
-  not_entity h = record {
-    go = λ f I l.
-        ap (λ (x : Option Bytes). and_then x (members f)) (entity_unnamed place_is T h f I.rows l)
-        ∙ sym (rw (members_at, le-ltb sizes.enums (length (enums f)) (omega (arith, I.sizes_are.enums_are))));
-  }
+  pub not_entity : ((name : Bor Bytes) → r ≡ entry.Entity name → ⊥) → IsEnumType file work sizes t std.None
+  unfolding enum_of and_then IsEnum
+  not_entity h = record { go = λ f I l. ap (λ (x : Option Bytes). and_then x (members f)) (entity_unnamed T h f I.rows l) }
 
-  pub entity_enum : {q w : ℕ} {p : Span} → r ≡ entry.Entity p → w ≡ t → q ≡ cell work sizes.rows type_list w → IsEnumType file work sizes t q
-  unfolding enum_of and_then
-  entity_enum {p = p} e v noted = record {
-    go = λ f I l.
-        let named : entity_name (type_at f t) ≡ some (spanned (body_at file o) p) = entity_named place_is T e f I.rows l in
-        ap (λ (x : Option Bytes). and_then x (members f)) named ∙ number_members f (spanned (body_at file o) p)
-        ∙ ap (members_at f) (sym (noted ∙ ap (cell work sizes.rows type_list) v ∙ I.enum_noted t _ l named));
-  }
+  module _ {e : ℕ} {name : Bor Bytes} (is : r ≡ entry.Entity name) (noted : e ≡ cell work sizes.rows type_list t) where
+    members_noted : (f : TermFile) → Index file f work sizes → t < length (types f) → enum_of (members f) (type_at f t) ≡ members_at f e
+    unfolding enum_of and_then
+    members_noted f I l =
+        let named : entity_name (type_at f t) ≡ some name.now = entity_named T is f I.rows l in
+        ap (λ (x : Option Bytes). and_then x (members f)) named ∙ number_members f name.now ∙ ap (members_at f) (sym (noted ∙ I.enum_noted t _ l named))
+
+    pub entity_enum : e < sizes.enums → IsEnumType file work sizes t (std.Some e)
+    unfolding IsEnum members_at
+    entity_enum h = record {
+      go = λ f I l.
+          let inside : e < length (enums f) = omega (arith, I.sizes_are.enums_are) in
+          (inside, members_noted f I l ∙ (rw (members_at, lt-ltb e (length (enums f)) inside)));
+    }
+
+    pub entity_alone : sizes.enums ≤ e → IsEnumType file work sizes t std.None
+    unfolding IsEnum members_at
+    entity_alone h = record { go = λ f I l. members_noted f I l ∙ (rw (members_at, le-ltb e (length (enums f)) (omega (arith, I.sizes_are.enums_are)))) }
 
 -- ---- members
 
-pub finds_in : {file : Bytes} {work : List ℕ} {sizes : Sizes} {e o list w : ℕ} {body id : Bytes} {x : Enum} {q : Found} → o ≡ cell work sizes.rows enum_offset e → EnumAt file o x → w ≡ e
-    → list ≡ cell work sizes.rows enum_list w → body ≡ body_at file o → Finds body work sizes.rows list x.from x.members 0 id q → FindsIn file work sizes e id q
+pub finds_in : {file : Bytes} {work : List ℕ} {sizes : Sizes} {e o list : ℕ} {id : Bytes} {x : Texts} {q : std.Option ℕ} → o ≡ cell work sizes.rows enum_offset e → EnumAt file o x
+    → list ≡ cell work sizes.rows enum_list e → Finds work sizes.rows list x id q → FindsIn file work sizes e id q
 unfolding enum_at
-finds_in {file} {work} {sizes} {e} {o} {body = body} {id} {x} {q} place_is E v list-is b F = record {
+finds_in {file} {work} {sizes} {e} {o} {id = id} {x} {q} place_is E list-is F = record {
   go = λ f I l.
-      let are = members_here place_is E b f I.rows l in
-      let found = F.go (λ base h. subst (λ (s : Bytes). Listed s 0 (texts 0 x.members (drop x.from body)) work sizes.rows base) (sym (b ∙ ap (body_at file) place_is)) (I.rows.listed.of_enums.list e base l (sym (list-is ∙ ap (cell work sizes.rows enum_list) v) ∙ h) (texts 0 x.members (drop x.from body)) are)) in
-      ap (place (same id)) are ∙ found.is;
+      let are = members_here place_is E f I.rows l in
+      let found = F.go (λ base h.
+      subst (λ (s : Bytes). Listed s x.skip (texts_in x) work sizes.rows base) (ap (body_at file) (sym place_is) ∙ sym are.within)
+      (subst (λ (n : ℕ). Listed (body_at file (cell work sizes.rows enum_offset e)) n (texts_in x) work sizes.rows base) (sym are.dense)
+      (I.rows.listed.of_enums.list e base l (sym list-is ∙ h) (texts_in x) (sym are.members_are)))) in
+      ap (place (same id)) (sym are.members_are) ∙ found.is;
 }
 
-module _ {file : Bytes} {work : List ℕ} {sizes : Sizes} {t e : ℕ} {id : Bytes} (E : IsEnumType file work sizes t e) where
-  pub no_enum : sizes.enums ≤ e → FindsMember file work sizes t id member.NoEnum
-  unfolding MemberSaid members_at
-  no_enum h = record {
-    go = λ f I l. member_answer_lem member.NoEnum _ _ _ (E.go f I l ∙ (rw (members_at, le-ltb e (length (enums f)) (omega (arith, I.sizes_are.enums_are)))));
-  }
+module _ {file : Bytes} {work : List ℕ} {sizes : Sizes} {t : ℕ} {r : std.Option ℕ} (E : IsEnumType file work sizes t r) where
+  enum_there : (f : TermFile) → Index file f work sizes → t < length (types f) → (x : std.Option ℕ) → r ≡ x → IsEnum f (enum_of (members f) (type_at f t)) x
+  enum_there f I l x e = subst (IsEnum f (enum_of (members f) (type_at f t))) e (E.go f I l)
 
-  module _ {q : Found} (h : e < sizes.enums) (F : FindsIn file work sizes e id q) where
-    inside : (f : TermFile) → Index file f work sizes → e < length (enums f)
-    inside f I = omega (arith, I.sizes_are.enums_are)
+  pub no_enum : {id : Bytes} → r ≡ std.None → FindsMember file work sizes t id member.NoEnum
+  unfolding MemberSaid IsEnum
+  no_enum e = record { go = λ f I l. member_answer_lem member.NoEnum _ _ _ (enum_there f I l std.None e) }
 
-    enum_members : (f : TermFile) → Index file f work sizes → t < length (types f) → enum_of (members f) (type_at f t) ≡ some (enum_at f e).1
-    unfolding members_at
-    enum_members f I l = E.go f I l ∙ (rw (members_at, lt-ltb e (length (enums f)) (inside f I)))
+  module _ {e : ℕ} {id : Bytes} {q : std.Option ℕ} (is : r ≡ std.Some e) (F : FindsIn file work sizes e id q) where
+    pub member_at : {i : ℕ} → q ≡ std.Some i → FindsMember file work sizes t id (member.At i)
+    unfolding MemberSaid place_said IsEnum
+    member_at {i} p = record {
+      go = λ f I l. let h = enum_there f I l (std.Some e) is in member_answer_lem (member.At i) _ _ _ (record { members = (enum_at f e).1; are = h.1; is = F.go f I h.0 ∙ ap place_said p });
+    }
 
-    pub member_at : {i : ℕ} → q ≡ found.At i → FindsMember file work sizes t id (member.At i)
-    unfolding MemberSaid place_said
-    member_at {i} p = record { go = λ f I l. member_answer_lem (member.At i) _ _ _ (record { members = (enum_at f e).1; are = enum_members f I l; is = F.go f I (inside f I) ∙ ap place_said p }) }
-
-    pub not_member : q ≡ found.Nowhere → FindsMember file work sizes t id member.NotMember
-    unfolding MemberSaid place_said
-    not_member p = record { go = λ f I l. member_answer_lem member.NotMember _ _ _ (record { members = (enum_at f e).1; are = enum_members f I l; is = F.go f I (inside f I) ∙ ap place_said p }) }
+    pub not_member : q ≡ std.None → FindsMember file work sizes t id member.NotMember
+    unfolding MemberSaid place_said IsEnum
+    not_member p = record {
+      go = λ f I l. let h = enum_there f I l (std.Some e) is in member_answer_lem member.NotMember _ _ _ (record { members = (enum_at f e).1; are = h.1; is = F.go f I h.0 ∙ ap place_said p });
+    }

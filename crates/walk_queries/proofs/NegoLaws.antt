@@ -5,67 +5,60 @@ use mathlib.Core.Path.{◌≡◌, refl, ap}
 use mathlib.Core.Bool.{true, false}
 use mathlib.Core.List.{List, [], ◌∷◌, map}
 use lib.ListN.{length}
-use package.types.Run.{OneOf, miss}
-use denote.Enum.Declared.{tag_of}
-use Rattle.script_spec.specs.Base.{Bytes, is_yes}
+use Rattle.script_spec.specs.Base.{is_yes}
 use Rattle.script_spec.specs.Tree as tree
 use Rattle.script_spec.specs.Tree.{Ty, Tm, Mark, TypeMark, Forest, node, nil, cons, forest, Bool·, App, Plain, Bvnego, Negation, ordinary, type_of, types_of, mark_dec, negation_with, negation}
 use Rattle.script_spec.specs.File.{TermFile, named_op}
 use Rattle.script_spec.proofs.Laws.{never}
 use Rattle.read_operator.specs.Operators.{op_of}
-use Rattle.read_operator.specs.contracts.Op.{the_type}
 use Rattle.read_operator.specs.declared.Op.{Op}
 use Rattle.read_operator.specs.declared.Op.TheVariants as op
 use Rattle.walk_queries.specs.Negations.{IsNego}
 
 -- ---- operators
 
--- the places of the other operators
-abbrev others : List ℕ
-others = 0 ∷ 1 ∷ 2 ∷ 3 ∷ 4 ∷ 6 ∷ 7 ∷ 8 ∷ 9 ∷ 10 ∷ 11 ∷ 12 ∷ 13 ∷ 14 ∷ 15 ∷ 16 ∷ 17 ∷ 18 ∷ 19 ∷ 20 ∷ 21 ∷ 22 ∷ 23 ∷ 24 ∷ 25 ∷ 26 ∷ 27 ∷ 28 ∷ 29 ∷ 30 ∷ 31 ∷ 32 ∷ []
-
-other_op : (body : Bytes) (o : Op) → OneOf others (tag_of the_type o) → op_of body o ≡ Plain Bvnego → ⊥
+other_op : (o : Op) → (o ≡ op.Bvnego → ⊥) → op_of o ≡ Plain Bvnego → ⊥
 unfolding op_of
-other_op body op.And h e = never (cc)
-other_op body op.Bvadd h e = never (cc)
-other_op body op.Bvlshr h e = never (cc)
-other_op body op.Bvmul h e = never (cc)
-other_op body op.Bvneg h e = never (cc)
-other_op body op.Bvnego h e = absurd (miss others 5 tt h)
-other_op body op.Bvsaddo h e = never (cc)
-other_op body op.Bvsdiv h e = never (cc)
-other_op body op.Bvshl h e = never (cc)
-other_op body op.Bvsle h e = never (cc)
-other_op body op.Bvslt h e = never (cc)
-other_op body op.Bvsmod h e = never (cc)
-other_op body op.Bvsmulo h e = never (cc)
-other_op body op.Bvsrem h e = never (cc)
-other_op body op.Bvssubo h e = never (cc)
-other_op body op.Bvsub h e = never (cc)
-other_op body op.Bvudiv h e = never (cc)
-other_op body op.Bvule h e = never (cc)
-other_op body op.Bvult h e = never (cc)
-other_op body op.Bvurem h e = never (cc)
-other_op body op.Eq h e = never (cc)
-other_op body (op.Ext x) h e = never (cc)
-other_op body op.Ite h e = never (cc)
-other_op body op.Not h e = never (cc)
-other_op body op.OptionGet h e = never (cc)
-other_op body op.Or h e = never (cc)
-other_op body (op.RecordGet x) h e = never (cc)
-other_op body op.SetInter h e = never (cc)
-other_op body op.SetMember h e = never (cc)
-other_op body op.SetSubset h e = never (cc)
-other_op body (op.StringLike x) h e = never (cc)
-other_op body (op.Uuf x) h e = never (cc)
-other_op body (op.ZeroExtend x) h e = never (cc)
+other_op op.And h e = never (cc)
+other_op op.Bvadd h e = never (cc)
+other_op op.Bvlshr h e = never (cc)
+other_op op.Bvmul h e = never (cc)
+other_op op.Bvneg h e = never (cc)
+other_op op.Bvnego h e = h refl
+other_op op.Bvsaddo h e = never (cc)
+other_op op.Bvsdiv h e = never (cc)
+other_op op.Bvshl h e = never (cc)
+other_op op.Bvsle h e = never (cc)
+other_op op.Bvslt h e = never (cc)
+other_op op.Bvsmod h e = never (cc)
+other_op op.Bvsmulo h e = never (cc)
+other_op op.Bvsrem h e = never (cc)
+other_op op.Bvssubo h e = never (cc)
+other_op op.Bvsub h e = never (cc)
+other_op op.Bvudiv h e = never (cc)
+other_op op.Bvule h e = never (cc)
+other_op op.Bvult h e = never (cc)
+other_op op.Bvurem h e = never (cc)
+other_op op.Eq h e = never (cc)
+other_op (op.Ext x) h e = never (cc)
+other_op op.Ite h e = never (cc)
+other_op op.Not h e = never (cc)
+other_op op.OptionGet h e = never (cc)
+other_op op.Or h e = never (cc)
+other_op (op.RecordGet x) h e = never (cc)
+other_op op.SetInter h e = never (cc)
+other_op op.SetMember h e = never (cc)
+other_op op.SetSubset h e = never (cc)
+other_op (op.StringLike x) h e = never (cc)
+other_op (op.Uuf x) h e = never (cc)
+other_op (op.ZeroExtend x) h e = never (cc)
 
 pub is_nego : {o : Op} → o ≡ op.Bvnego → IsNego o true
 unfolding op_of
-is_nego e = record { if_so = λ body h. rw e; if_not = λ body h. never (cc) }
+is_nego e = record { if_so = λ h. rw e; if_not = λ h. never (cc) }
 
-pub not_nego : {o : Op} → OneOf others (tag_of the_type o) → IsNego o false
-not_nego {o} k = record { if_so = λ body h. never (cc); if_not = λ body h. other_op body o k }
+pub not_nego : {o : Op} → (o ≡ op.Bvnego → ⊥) → IsNego o false
+not_nego {o} k = record { if_so = λ h. never (cc); if_not = λ h. other_op o k }
 
 pub named_op_nego : (f : TermFile) (o : tree.Op ℕ) → named_op f o ≡ Plain Bvnego → o ≡ Plain Bvnego
 unfolding named_op

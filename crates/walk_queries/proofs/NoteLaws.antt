@@ -1,35 +1,36 @@
 -- The enums of entity types, noted one after the other where the lists of other types stand: an entity type has no attributes.
 -- Assumes nothing.
-use Prim.Native.Nat.{ℕ, suc, ◌+◌, ◌<◌, ◌≤◌}
+use Prim.Native.Nat.{ℕ, suc, ◌+◌, ◌<◌}
 use native.Mathlib.Omega.{arith}
 use native.Mathlib.Decide.{ℕ_discrete, dec_lt}
 use mathlib.Core.Path.{◌≡◌, refl, sym, ap, ◌∙◌, subst}
 use mathlib.Core.List.{List}
 use mathlib.Core.Option.{Option, none, some, none-ne-some}
-use lib.ListN.{length, take, drop}
-use package.types.Run.{OneOf}
-use denote.Enum.Declared.{tag_of}
+use lib.ListN.{length}
+use denote.Ref.{Bor}
 use Rattle.script_spec.specs.Base.{Bytes, and_then}
 use Rattle.script_spec.specs.Tree.{Ty, Datatype, entity, extension, record_of, datatype, name_of_entity, entity_name, attributes_of, attributes}
-use Rattle.script_spec.specs.File.{TermFile, types, type_at}
+use Rattle.script_spec.specs.File.{TermFile, types, enums, type_at}
 use Rattle.index.specs.Cells.{placed, cell, store, shared, Apart, type_offset, enum_offset, hash, enum_list, type_list, list_row}
 use Rattle.index.specs.Standing.{body_at}
 use Rattle.index.specs.Names.{enum_number}
 use Rattle.index.specs.Lists.{Listed}
 use Rattle.index.specs.Meaning.{used_entries, HasAttributes, Listings, Rows, CheckedIndex}
 use Rattle.index.specs.declared.Sizes.{Sizes}
+use Rattle.index.specs.declared.Records.{Records}
+use Rattle.index.specs.declared.RecordsMut.{RecordsMut}
 use Rattle.index.proofs.Cells.{length_store, cell_store_same, cell_store_apart}
 use Rattle.index.proofs.Growth.{counts_together}
 use Rattle.index.proofs.Rows.{listed_same, rows_same, unnamed_same}
-use Rattle.read_field.specs.Answers.{spanned}
-use Rattle.read_field.specs.declared.Span.{Span}
 use Rattle.index_entry.specs.Types.{TypeAt}
 use Rattle.index_entry.specs.declared.types.TypeEntry.{TypeEntry}
 use Rattle.index_entry.specs.declared.types.TypeEntry.TheVariants as entry
-use Rattle.index_entry.specs.contracts.types.TypeEntry.{the_type}
-use Rattle.index_search.specs.Enums.{FindsEnum}
-use Rattle.walk_queries.specs.Made.{EnumsNoted, NotesEnum, NotesEnums}
-use Rattle.walk_queries.proofs.EntityLaws.{not_entities, entity_named, entity_unnamed}
+use Rattle.std.specs.Prelude as std
+use Rattle.std.specs.Option.{unwrap_or}
+use Rattle.index.specs.First.{or_else}
+use Rattle.index_search.specs.Enums.{found_place, FindsEnum}
+use Rattle.walk_queries.specs.Made.{EnumsNoted, NotesEnum}
+use Rattle.walk_queries.proofs.EntityLaws.{entity_named, entity_unnamed}
 
 -- an entity type has no attributes
 no_attributes : {A : Type 0} (ty : Ty) {name : Bytes} {names : List Bytes} → entity_name ty ≡ some name → attributes ty ≡ some names → A
@@ -85,40 +86,53 @@ module _ {file : Bytes} {f : TermFile} {k t : ℕ} {name : Bytes} {work : List �
 
 -- ---- one type
 
-module _ {file : Bytes} {sizes : Sizes} {t o w : ℕ} {r : TypeEntry} {work : List ℕ} (wide : w ≡ t) (at : o ≡ cell work sizes.rows type_offset w) (T : TypeAt file o r) where
-  pub enum_noted : {p : Span} {e : ℕ} {body text : Bytes} {work' : List ℕ} → r ≡ entry.Entity p → body ≡ body_at file o → text ≡ take p.len (drop p.start body) → FindsEnum file work sizes text e
-      → work' ≡ store work sizes.rows type_list w e → NotesEnum file sizes t work work'
-  unfolding spanned shared placed
-  enum_noted {p} {e} {body} {text} {work'} is b h F stored = record {
+-- what is found of the records as they are read
+pub found_of : (m : RecordsMut) (v : Records) {name : Bytes} {r : std.Option ℕ} → (v.file.now ≡ m.file.now) × (v.work.now ≡ m.work.now) × (v.sizes ≡ m.sizes) → FindsEnum v.file.now v.work.now v.sizes name r
+    → FindsEnum m.file.now m.work.now m.sizes name r
+found_of m v {name} {r} V F = rw (← V.0, ← V.1, ← V.2) F
+
+-- the number that is noted
+pub noted_number : {file : Bytes} {work : List ℕ} {sizes : Sizes} {name : Bytes} {r : std.Option ℕ} {e : ℕ} → FindsEnum file work sizes name r → e ≡ unwrap_or r sizes.enums
+    → (f : TermFile) → CheckedIndex file f work sizes → e ≡ enum_number f name
+unfolding enum_number or_else
+noted_number {sizes = sizes} {name} {r} F e f I = e ∙ by r ∙ ap (or_else (length (enums f))) (F.go f I.rows I.sizes_are)
+  where
+    by : (r : std.Option ℕ) → unwrap_or r sizes.enums ≡ or_else (length (enums f)) (found_place r)
+    by std.None = I.sizes_are.enums_are
+    by (std.Some n) = refl
+
+module _ {file : Bytes} {sizes : Sizes} {t : ℕ} {r : TypeEntry} {work : List ℕ} (T : TypeAt file (cell work sizes.rows type_offset t) r) where
+  pub enum_noted : {name : Bor Bytes} (e : ℕ) {work' : List ℕ} → r ≡ entry.Entity name → ((f : TermFile) → CheckedIndex file f work sizes → e ≡ enum_number f name.now)
+      → work' ≡ store work sizes.rows type_list t e → NotesEnum file sizes t work work'
+  unfolding shared placed
+  enum_noted {name = text} e {work'} is number-is place = record {
     go = λ f work₀ l N.
         let I = N.index in
         let few = counts_together f in
         let fit = I.rows.fit in
-        let place : work' ≡ store work sizes.rows type_list t e = stored ∙ ap (λ (i : ℕ). store work sizes.rows type_list i e) wide in
-        let text_is : spanned (body_at file o) p ≡ text = ap (λ (s : Bytes). spanned s p) (sym b) ∙ sym h in
-        let named : entity_name (type_at f t) ≡ some text = entity_named (at ∙ ap (cell work sizes.rows type_offset) wide) T is f I.rows l ∙ ap some text_is in
+        let named : entity_name (type_at f t) ≡ some text.now = entity_named T is f I.rows l in
         let stands : cell (store work sizes.rows type_list t e) sizes.rows type_list t ≡ e =
         cell_store_same work sizes.rows type_list t e (record { fits = I.rows.fits; column_is = omega arith; index_is = omega arith }) in
         rw place
         (record {
           index = record { rows = rows_noted e I.rows l named; sizes_are = I.sizes_are; small = I.small };
           unnamed = λ U. unnamed_same (length_store work sizes.rows type_list t e) (same e I.rows l named) (N.unnamed U);
-          noted = λ u name g q. of_type f N l (stands ∙ F.go f I) named u name g q (ℕ_discrete t u);
+          noted = λ u name g q. of_type f N l (stands ∙ number-is f I) named u name g q (ℕ_discrete t u);
         });
   }
     where
-      of_type : (f : TermFile) {work₀ : List ℕ} → EnumsNoted file f sizes work₀ t work → t < length (types f) → cell (store work sizes.rows type_list t e) sizes.rows type_list t ≡ enum_number f text
-          → entity_name (type_at f t) ≡ some text → (u : ℕ) (name : Bytes) → u < t + 1 → entity_name (type_at f u) ≡ some name → Dec (t ≡ u)
+      of_type : (f : TermFile) {work₀ : List ℕ} → EnumsNoted file f sizes work₀ t work → t < length (types f) → cell (store work sizes.rows type_list t e) sizes.rows type_list t ≡ enum_number f text.now
+          → entity_name (type_at f t) ≡ some text.now → (u : ℕ) (name : Bytes) → u < t + 1 → entity_name (type_at f u) ≡ some name → Dec (t ≡ u)
           → cell (store work sizes.rows type_list t e) sizes.rows type_list u ≡ enum_number f name
       of_type f N l stands named u name g q (yes s) =
-          let both : some text ≡ some name = sym named ∙ ap (λ (m : ℕ). entity_name (type_at f m)) s ∙ q in
-          let text_is : text ≡ name = cc in
+          let both : some text.now ≡ some name = sym named ∙ ap (λ (m : ℕ). entity_name (type_at f m)) s ∙ q in
+          let text_is : text.now ≡ name = cc in
           ap (cell (store work sizes.rows type_list t e) sizes.rows type_list) (sym s) ∙ stands ∙ ap (enum_number f) text_is
       of_type f N l stands named u name g q (no s) =
           cell_store_apart work sizes.rows type_list t e type_list u (record { other = λ _ z. s z; facing = λ h z. omega arith }) ∙ N.noted u name (omega arith) q
 
   -- another type is left as it is
-  pub enum_passed : OneOf not_entities (tag_of the_type r) → NotesEnum file sizes t work work
+  pub enum_passed : ((name : Bor Bytes) → r ≡ entry.Entity name → ⊥) → NotesEnum file sizes t work work
   enum_passed h = record {
     go = λ f work₀ l N.
         record {
@@ -133,24 +147,4 @@ module _ {file : Bytes} {sizes : Sizes} {t o w : ℕ} {r : TypeEntry} {work : Li
       of_type f N l u name g q (yes s) = N.noted u name s q
       of_type f N l u name g q (no s) =
           let last : u ≡ t = omega arith in
-          absurd (none-ne-some name (sym (entity_unnamed (at ∙ ap (cell work sizes.rows type_offset) wide) T h f N.index.rows l) ∙ ap (λ (m : ℕ). entity_name (type_at f m)) (sym last) ∙ q))
-
--- ---- all types
-
--- the enums of the first types are noted
-pub record NotedSoFar (file : Bytes) (sizes : Sizes) (work₀ : List ℕ) (t : ℕ) (work : List ℕ) : Type 0 where
-  pub most : t ≤ sizes.types
-  pub same_size : length work ≡ length work₀
-  pub go : (f : TermFile) → CheckedIndex file f work₀ sizes → EnumsNoted file f sizes work₀ t work
-
-module _ {file : Bytes} {sizes : Sizes} where
-  pub noted_start : (work : List ℕ) → NotedSoFar file sizes work 0 work
-  noted_start work = record { most = omega arith; same_size = refl; go = λ f I. record { index = I; unnamed = λ U. U; noted = λ t name l. absurd (omega arith) } }
-
-  pub noted_more : {work₀ work work' : List ℕ} {t : ℕ} → NotedSoFar file sizes work₀ t work → t < sizes.types → NotesEnum file sizes t work work' → length work' ≡ length work → NotedSoFar file sizes work₀ (t + 1) work'
-  noted_more S l N e = record { most = omega arith; same_size = e ∙ S.same_size; go = λ f I. N.go f _ (omega (arith, I.sizes_are.types_are)) (S.go f I) }
-
-  pub noted_end : {work₀ work : List ℕ} {t : ℕ} → NotedSoFar file sizes work₀ t work → sizes.types ≤ t → NotesEnums file sizes work₀ work
-  noted_end {work₀} {work} {t} S h = record {
-    go = λ f I. let all : t ≡ length (types f) = omega (arith, S.most, I.sizes_are.types_are) in subst (λ (n : ℕ). EnumsNoted file f sizes work₀ n work) all (S.go f I);
-  }
+          absurd (none-ne-some name (sym (entity_unnamed T h f N.index.rows l) ∙ ap (λ (m : ℕ). entity_name (type_at f m)) (sym last) ∙ q))

@@ -1,7 +1,7 @@
 -- The search of a text by halves of the rows of its list: the texts before the lower row and from the higher row on are other ones,
 -- since they ascend.
 -- Assumes nothing.
-use Prim.Native.Nat.{ℕ, zero, suc, ◌+◌, ◌*◌, ◌-◌, ◌<◌, ◌≤◌}
+use Prim.Native.Nat.{ℕ, zero, suc, ◌+◌, ◌*◌, ◌-◌, ◌<◌, ◌≤◌, min}
 use native.Mathlib.Omega.{arith}
 use native.Mathlib.Decide.{ℕ_discrete}
 use mathlib.Core.Path.{◌≡◌, refl, sym, ap, ◌∙◌, subst}
@@ -14,11 +14,13 @@ use Rattle.script_spec.specs.Base.{Bytes, same, before, ascending, place}
 use Rattle.script_spec.proofs.Laws.{same_eq}
 use Rattle.index.specs.Cells.{cell, list_row}
 use Rattle.index.specs.Lists.{first_text, text_size, texts, Listed}
-use Rattle.index_entry.proofs.Places.{length_texts}
-use Rattle.walk_queries.specs.Found.{place_said, FindsText, FindsListed, row_text, Halves, Few}
+use Rattle.index_entry.proofs.Places.{length_texts, length_texts_in}
+use Rattle.std.specs.Prelude as std
+use Rattle.std.specs.Prelude.{Some, None}
+use Rattle.index_entry.specs.Places.{texts_in}
+use Rattle.index_entry.specs.declared.lists.Texts.{Texts}
+use Rattle.walk_queries.specs.Found.{place_said, FindsText, HaveList, FindsListed, row_text, Halves}
 use Rattle.walk_queries.specs.Made.{RowsOf}
-use Rattle.walk_queries.specs.declared.positions.Found.{Found}
-use Rattle.walk_queries.specs.declared.positions.Found.TheVariants as found
 use Rattle.walk_queries.proofs.Order.{untrue, before_irreflexive, before_trans, ascending_before}
 use Rattle.walk_queries.proofs.SearchLaws.{after}
 use Rattle.walk_queries.proofs.Window.{place_window, place_below}
@@ -56,8 +58,8 @@ module _ {body : Bytes} {work : List ℕ} {k base rows : ℕ} {name : Bytes} whe
   pub halves_end : {low high : ℕ} → Halves body work k base rows name low high → high - low ≤ 1 → Halves body work k base rows name low (low + 1)
   halves_end {low} {high} H h = let one : high ≡ low + 1 = omega (arith, H.apart) in subst (λ (n : ℕ). Halves body work k base rows name low n) one H
 
-  module _ {low high middle a b at wide : ℕ} {t : Bool} (H : Halves body work k base rows name low high) (inside : (low < middle) × (middle < high)) (p : a ≡ base) (q : b ≡ middle) (e : at ≡ cell work k list_row (a + b)) (w : wide ≡ at)
-      (d : t ≡ before name (first_text (drop wide body))) where
+  module _ {low high middle at : ℕ} {t : Bool} (H : Halves body work k base rows name low high) (inside : (low < middle) × (middle < high)) (e : at ≡ cell work k list_row (base + middle))
+      (d : t ≡ before name (first_text (drop at body))) where
     row_before : t ≡ before name (row_text body work k base middle)
     unfolding row_text
     row_before = cc
@@ -89,14 +91,14 @@ module _ {body : Bytes} {work : List ℕ} {k base count skip : ℕ} {names : Lis
   row_few : (j m : ℕ) → 2 * j < count → m ≤ count - 2 * j → texts skip m (drop (cell work k list_row (base + j)) body) ≡ take m (drop (2 * j) names)
   row_few j m l g = sym (ap (take m) (sym (L.held j (omega arith))) ∙ texts_take skip m _ _ (omega arith))
 
-  module _ {name : Bytes} {rows low m : ℕ} (R : RowsOf count rows) (H : Halves body work k base rows name low (low + 1)) (F : Few (count - low * 2) m) where
+  module _ {name : Bytes} {rows low m : ℕ} (R : RowsOf count rows) (H : Halves body work k base rows name low (low + 1)) (F : m ≡ min (count - low * 2) 2) where
     low_inside : 2 * low < count
     low_inside = omega (arith, R.few, H.within)
 
     found_in : place (same name) names ≡ after (2 * low) (place (same name) (texts skip m (drop (cell work k list_row (base + low)) body)))
     found_in =
         place_window (same name) [] names (2 * low) m earlier later
-        ∙ ap (λ (xs : List Bytes). after (2 * low) (place (same name) xs)) (sym (row_few low m low_inside (omega (arith, F.most))))
+        ∙ ap (λ (xs : List Bytes). after (2 * low) (place (same name) xs)) (sym (row_few low m low_inside (omega (arith, F))))
       where
         earlier : (i : ℕ) → i < 2 * low → i < length names → same name (get_or names i []) ≡ false
         earlier i g l =
@@ -107,33 +109,34 @@ module _ {body : Bytes} {work : List ℕ} {k base count skip : ℕ} {names : Lis
         later : (i : ℕ) → 2 * low + m ≤ i → i < length names → same name (get_or names i []) ≡ false
         later i g l =
             ⊎_elim
-            (λ e. absurd (⊎_elim (λ q. omega (arith, R.enough, low_inside)) (λ q. omega (arith, R.enough)) F.whole))
-            (λ h. ⊎_elim (λ q. absurd (omega (arith, low_inside)))
-            (λ q. let next : 2 * (low + 1) < count = omega arith in later_unlike name names L.ordered i (2 * (low + 1)) (omega arith) l (ap (before name) (sym (row_text_lem (low + 1) next)) ∙ h)) F.whole)
+            (λ e. absurd (omega (arith, R.enough, low_inside, F)))
+            (λ h.
+            let next : 2 * (low + 1) < count = omega (arith, low_inside, F) in
+            later_unlike name names L.ordered i (2 * (low + 1)) (omega (arith, F)) l (ap (before name) (sym (row_text_lem (low + 1) next)) ∙ h))
             H.below
 
 -- ---- the answer
 
 -- the place of a text is below the number of texts
-pub place_few : {body : Bytes} {at m skip : ℕ} {name : Bytes} {q : Found} {i : ℕ} → FindsText body at m skip name q → q ≡ found.At i → i < m
+pub place_few : (among : Texts) {name : Bytes} {q : std.Option ℕ} {i : ℕ} → FindsText among name q → q ≡ Some i → i < among.left
 unfolding place_said
-place_few {body} {at} {m} {skip} {name} {i = i} T h = subst (λ (x : ℕ). i < x) (length_texts skip m (drop at body)) (place_below (same name) [] (texts skip m (drop at body)) i (T.is ∙ ap place_said h))
+place_few among {name} {i = i} T h = subst (λ (x : ℕ). i < x) (length_texts_in among) (place_below (same name) [] (texts_in among) i (T.is ∙ ap place_said h))
 
-module _ (from : ℕ) {body : Bytes} {work : List ℕ} {k base count skip rows low at first m wide a b : ℕ} {name : Bytes} {q : Found} (R : RowsOf count rows) (H : Halves body work k base rows name low (low + 1)) (p : a ≡ base)
-    (p' : b ≡ low) (e : at ≡ cell work k list_row (a + b)) (d : first ≡ low * 2) (F : Few (count - first) m) (w : wide ≡ at) (T : FindsText body wide m skip name q) where
-  from_row : Listed body skip (texts skip count (drop from body)) work k base → place (same name) (texts skip count (drop from body)) ≡ after first (place_said q)
+module _ (among : Texts) {work : List ℕ} {k base rows low at first m : ℕ} {name : Bytes} {q : std.Option ℕ} (R : RowsOf among.left rows) (H : Halves among.body.now work k base rows name low (low + 1))
+    (e : at ≡ cell work k list_row (base + low)) (d : first ≡ low * 2) (F : m ≡ min (among.left - first) 2) (T : FindsText (record { body = among.body; from = at; left = m; skip = among.skip }) name q) where
+  from_row : HaveList work k base among → place (same name) (texts_in among) ≡ after first (place_said q)
+  unfolding texts_in
   from_row L =
-      let few : Few (count - low * 2) m = subst (λ (x : ℕ). Few (count - x) m) d F in
-      let here : wide ≡ cell work k list_row (base + low) = cc in
+      let few : m ≡ min (among.left - low * 2) 2 = F ∙ ap (λ (x : ℕ). min (among.left - x) 2) d in
       let first_is : 2 * low ≡ first = omega arith in
-      found_in L (length_texts skip count (drop from body)) R H few
-      ∙ (λ j. after (first_is j) (place (same name) (texts skip m (drop (sym here j) body))))
+      found_in L (length_texts among.skip among.left (drop among.from among.body.now)) R H few
+      ∙ (λ j. after (first_is j) (place (same name) (texts among.skip m (drop (sym e j) among.body.now))))
       ∙ ap (after first) T.is
 
-  pub listed_at : {i : ℕ} → q ≡ found.At i → FindsListed body work k base from count skip name (found.At (first + i))
+  pub listed_at : {i : ℕ} → q ≡ Some i → FindsListed work k base among name (Some (first + i))
   unfolding place_said after
-  listed_at h = record { go = λ L. record { is = from_row L ∙ ap (λ (x : Found). after first (place_said x)) h } }
+  listed_at h = record { go = λ L. record { is = from_row L ∙ ap (λ (x : std.Option ℕ). after first (place_said x)) h } }
 
-  pub listed_nowhere : q ≡ found.Nowhere → FindsListed body work k base from count skip name found.Nowhere
+  pub listed_nowhere : q ≡ None → FindsListed work k base among name None
   unfolding place_said after
-  listed_nowhere h = record { go = λ L. record { is = from_row L ∙ ap (λ (x : Found). after first (place_said x)) h } }
+  listed_nowhere h = record { go = λ L. record { is = from_row L ∙ ap (λ (x : std.Option ℕ). after first (place_said x)) h } }

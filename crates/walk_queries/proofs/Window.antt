@@ -9,17 +9,12 @@ use mathlib.Core.Option.{Option, none, some}
 use lib.ListN.{length, take, drop, get_or}
 use Rattle.script_spec.specs.Base.{place, place_from}
 use Rattle.script_spec.proofs.Laws.{never}
-use Rattle.walk_queries.proofs.SearchLaws.{after}
+use Rattle.walk_queries.proofs.SearchLaws.{after, after_zero}
 
 after_suc : (a : ℕ) (o : Option ℕ) → place_from false (after a o) ≡ after (suc a) o
 unfolding after place_from
 after_suc a none = refl
 after_suc a (some n) = ap some (omega arith)
-
-after_zero : (o : Option ℕ) → after 0 o ≡ o
-unfolding after
-after_zero none = refl
-after_zero (some n) = ap some (omega arith)
 
 module _ {A : Type 0} (p : A → Bool) (d : A) where
   -- none of the first a elements passes, nor any after the next m

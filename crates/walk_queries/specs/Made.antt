@@ -89,17 +89,10 @@ module _ (file : Bytes) (rows terms : ℕ) where
   pub record ListsType (t next : ℕ) (work : List ℕ) (next' : ℕ) (work' : List ℕ) : Type 0 where
     pub go : (f : TermFile) (work₀ : List ℕ) → KnownRecords file f rows terms work₀ → t < length (types f) → Listing file f rows work₀ t 0 next work → Listing file f rows work₀ (t + 1) 0 next' work'
 
-  pub record ListsTypes (count : ℕ) (work : List ℕ) (next' : ℕ) (work' : List ℕ) : Type 0 where
-    pub go : (f : TermFile) → KnownRecords file f rows terms work → count ≡ length (types f) → Listing file f rows work count 0 next' work'
-
   -- the list of the enum e, after those of the types and the enums before it
   pub record ListsEnum (e next : ℕ) (work : List ℕ) (next' : ℕ) (work' : List ℕ) : Type 0 where
     pub go : (f : TermFile) (work₀ : List ℕ) → KnownRecords file f rows terms work₀ → e < length (enums f) → Listing file f rows work₀ (length (types f)) e next work
         → Listing file f rows work₀ (length (types f)) (e + 1) next' work'
-
-  pub record ListsEnums (count next : ℕ) (work work' : List ℕ) : Type 0 where
-    pub go : (f : TermFile) (work₀ : List ℕ) → KnownRecords file f rows terms work₀ → count ≡ length (enums f) → Listing file f rows work₀ (length (types f)) 0 next work
-        → Relisted file f rows work₀ work'
 
 -- ---- the enums of entity types
 
@@ -112,9 +105,6 @@ pub record EnumsNoted (file : Bytes) (f : TermFile) (sizes : Sizes) (work₀ : L
 -- the enum of the type t, after those of the types before it
 pub record NotesEnum (file : Bytes) (sizes : Sizes) (t : ℕ) (work work' : List ℕ) : Type 0 where
   pub go : (f : TermFile) (work₀ : List ℕ) → t < length (types f) → EnumsNoted file f sizes work₀ t work → EnumsNoted file f sizes work₀ (t + 1) work'
-
-pub record NotesEnums (file : Bytes) (sizes : Sizes) (work work' : List ℕ) : Type 0 where
-  pub go : (f : TermFile) → CheckedIndex file f work sizes → EnumsNoted file f sizes work (length (types f)) work'
 
 -- ---- the whole
 

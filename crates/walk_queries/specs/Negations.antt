@@ -25,8 +25,8 @@ negation_said (negated.Comparison n) = comparison n
 
 -- whether an operator is `Bvnego`
 pub record IsNego (o : Op) (r : Bool) : Type 0 where
-  pub if_so : (body : Bytes) → r ≡ true → op_of body o ≡ Plain Bvnego
-  pub if_not : (body : Bytes) → r ≡ false → op_of body o ≡ Plain Bvnego → ⊥
+  pub if_so : r ≡ true → op_of o ≡ Plain Bvnego
+  pub if_not : r ≡ false → op_of o ≡ Plain Bvnego → ⊥
 
 -- a body of an application that is told by its code is no `Bvnego`
 pub record OtherCode (body : Bytes) (r : Bool) : Type 0 where
@@ -46,10 +46,10 @@ module _ (file : Bytes) (work : List ℕ) (sizes : Sizes) where
   pub record NegationOver (t : ℕ) (r : Negated) : Type 0 where
     pub go : (f : TermFile) → Index file f work sizes → t < length (types f) → negation_said r ≡ negation_with (cons (type_at f t) nil)
 
-  -- with a result of the type with number t, over the children that a body has
-  pub record Negates (t : ℕ) (body : Bytes) (c : Children) (r : Negated) : Type 0 where
-    pub go : (f : TermFile) → Index file f work sizes → t < length (types f) → Below (length (terms f)) (children_in body c)
-        → negation_said r ≡ negation (node (App (type_at f t) (Plain Bvnego)) (forest (map (term_at f) (children_in body c))))
+  -- with a result of the type with number t, over these children
+  pub record Negates (t : ℕ) (c : Children) (r : Negated) : Type 0 where
+    pub go : (f : TermFile) → Index file f work sizes → t < length (types f) → Below (length (terms f)) (children_in c)
+        → negation_said r ≡ negation (node (App (type_at f t) (Plain Bvnego)) (forest (map (term_at f) (children_in c))))
 
   -- the term with number n
   pub record NegationOf (n : ℕ) (r : Negated) : Type 0 where

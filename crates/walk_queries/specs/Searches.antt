@@ -1,15 +1,15 @@
 -- Where an attribute stands in a record type, and a member in an enum.
 -- Assumes nothing.
 use Rattle.std.specs.Prelude.{ℕ, ◌<◌, ◌≡◌, List, length}
+use Rattle.std.specs.Prelude as std
 use Rattle.std.proofs.Math.Option.{Option, none, some}
 use Rattle.script_spec.specs.Base.{Bytes, same, place}
 use Rattle.script_spec.specs.Tree.{Ty, Enums, attributes, enum_of}
 use Rattle.script_spec.specs.File.{TermFile, types, enums, members, type_at}
 use Rattle.index.specs.Meaning.{Index}
 use Rattle.index.specs.declared.Sizes.{Sizes}
-use Rattle.index_search.specs.Enums.{enum_at, members_at}
+use Rattle.index_search.specs.Enums.{enum_at}
 use Rattle.walk_queries.specs.Found.{place_said}
-use Rattle.walk_queries.specs.declared.positions.Found.{Found}
 use Rattle.walk_queries.specs.declared.queries.Attribute.{Attribute}
 use Rattle.walk_queries.specs.declared.queries.Attribute.TheVariants as answer
 use Rattle.walk_queries.specs.declared.queries.Member.{Member}
@@ -49,13 +49,18 @@ member_answer (member.At i) = some (stands i)
 unfoldable pub asked_member : Enums → Ty → Bytes → Option Asked
 asked_member e ty id = elim (enum_of e ty) [ none ↦ none | some names ↦ some (place_or 14 (place (same id) names)) ]
 
+-- these members are those of the enum with this number, if there is one
+unfoldable pub IsEnum : TermFile → Option (List Bytes) → std.Option ℕ → Type 0
+IsEnum f found (std.Some e) = (e < length (enums f)) × (found ≡ some (enum_at f e).1)
+IsEnum f found std.None = found ≡ none
+
 module _ (file : Bytes) (work : List ℕ) (sizes : Sizes) where
   -- the enum that the type with number t is, whatever file was accepted
-  pub record IsEnumType (t r : ℕ) : Type 0 where
-    pub go : (f : TermFile) → Index file f work sizes → t < length (types f) → enum_of (members f) (type_at f t) ≡ members_at f r
+  pub record IsEnumType (t : ℕ) (r : std.Option ℕ) : Type 0 where
+    pub go : (f : TermFile) → Index file f work sizes → t < length (types f) → IsEnum f (enum_of (members f) (type_at f t)) r
 
   -- a member of the enum with number e
-  pub record FindsIn (e : ℕ) (id : Bytes) (r : Found) : Type 0 where
+  pub record FindsIn (e : ℕ) (id : Bytes) (r : std.Option ℕ) : Type 0 where
     pub go : (f : TermFile) → Index file f work sizes → e < length (enums f) → place (same id) (enum_at f e).1 ≡ place_said r
 
   -- a member of the type with number t

@@ -2,12 +2,14 @@
 // it has enough texts, and only while its rows fit before those of the terms, with which they share a column. An entity type, which has no
 // list, gets the number of its enum where another type has its list.
 ghost use Rattle.std.specs.Prelude.{◌≡◌, true, ◌+◌, ◌≤◌};
-ghost use Rattle.index.specs.Cells.{store};
-ghost use Rattle.walk_queries.specs.Made.{RowsOf, Fits, RowsMade, ListAt, ListsType, ListsTypes, ListsEnum, ListsEnums, NotesEnum, NotesEnums, MakesLists};
+ghost use Rattle.index.specs.Cells.{number};
+ghost use Rattle.index.specs.Held.{Stays};
+ghost use Rattle.walk_queries.specs.Made.{RowsOf, Fits, RowsMade, ListAt, ListsType, ListsEnum, NotesEnum, MakesLists};
 
-use crate::positions::Texts;
-use index::Sizes;
-use index_entry::types::TypeEntry;
+use index::{Column, RecordsMut, Sizes};
+use index_entry::lists::{self, Texts};
+use index_entry::symbols;
+use index_entry::types::{self, TypeEntry};
 
 // Fewer texts than this have no list.
 const ENOUGH: u32 = 4;
@@ -16,210 +18,108 @@ const ENOUGH: u32 = 4;
 pub fn rows_of(count: u32) -> u32
     ensures { RowsOf count result }
 {
-    count / 2 + count % 2
+    count.div_ceil(2)
 }
 
 // Whether so many rows fit from the next one on, before those of the terms.
 fn fits(sizes: Sizes, next: u32, rows: u32) -> bool
     ensures { result ≡ true → Fits sizes.rows sizes.terms next rows }
 {
-    let end = index_entry::records::wide(next) + index_entry::records::wide(rows);
-    if 4294967295 <= end {
-        return false;
-    }
-    end + index_entry::records::wide(sizes.terms) <= sizes.rows
+    let end = next as usize + rows as usize;
+    end < u32::MAX as usize && end + sizes.terms as usize <= sizes.rows
 }
 
 // Notes the place of every second text in so many rows, if all the places fit.
-fn fill_rows(
-    body: &[u8],
-    work: &mut [u32],
-    sizes: Sizes,
-    base: usize,
-    rows: usize,
-    from: usize,
-    skip: usize,
-) -> bool
-    requires { base + rows ≤ sizes.rows }
-    ensures { RowsMade body.now sizes.rows base rows from skip work.old work.new result }
+fn fill_rows(records: &mut RecordsMut<'_>, among: Texts<'_>, base: u32, rows: u32) -> bool
+    requires { base + rows ≤ records.old.sizes.rows }
+    ensures stays { Stays records.old records.new }
+    ensures made { RowsMade among.entry.body.now records.old.sizes.rows base rows among.entry.from among.entry.skip records.old.work.now records.new.work.now result }
 {
-    let mut at = from;
-    let mut j = 0;
-    while j < rows {
-        if 4294967295 < at {
+    let mut at = among.from;
+    for j in 0..rows {
+        if (u32::MAX as usize) < at {
             return false;
         }
-        index::set(work, sizes.rows, index::LIST_ROW, base + j, at as u32);
-        let next = index_entry::lists::after_text(body, at, skip);
-        at = index_entry::lists::after_text(body, next, skip);
-        j += 1;
+        records.set_row(Column::ListRow, base as usize + j as usize, at as u32);
+        let next = lists::after_text(among.body, at, among.skip);
+        at = lists::after_text(among.body, next, among.skip);
     }
     true
 }
 
-// Notes that the record with number n has no list.
-fn no_list(work: &mut [u32], sizes: Sizes, column: usize, n: usize, next: u32) -> u32
-    ensures { (work.new ≡ store work.old sizes.rows column n 0) × (result ≡ next) }
+// Makes the list of the record with number n, of these texts. The next free row.
+fn list_at(records: &mut RecordsMut<'_>, column: Column, n: u32, next: u32, among: Texts<'_>) -> u32
+    ensures stays { Stays records.old records.new }
+    ensures made { ListAt among.entry.body.now records.old.sizes.rows records.old.sizes.terms (number column) n among.entry.from among.entry.left among.entry.skip next records.old.work.now result records.new.work.now }
 {
-    index::set(work, sizes.rows, column, n, 0);
-    next
-}
-
-// Makes the list of the record with number n, of texts of its body. The next free row.
-fn list_at(
-    body: &[u8],
-    work: &mut [u32],
-    sizes: Sizes,
-    column: usize,
-    n: usize,
-    next: u32,
-    among: Texts,
-) -> u32
-    ensures { ListAt body.now sizes.rows sizes.terms column n among.from among.count among.skip next work.old result work.new }
-{
-    if among.count < ENOUGH {
-        return no_list(work, sizes, column, n, next);
-    }
-    let rows = rows_of(among.count);
-    if fits(sizes, next, rows) {
-        if fill_rows(
-            body,
-            work,
-            sizes,
-            index_entry::records::wide(next),
-            index_entry::records::wide(rows),
-            among.from,
-            among.skip,
-        ) {
-            index::set(work, sizes.rows, column, n, next + 1);
+    let rows = rows_of(among.left);
+    if ENOUGH <= among.left && fits(records.sizes, next, rows) {
+        if fill_rows(records, among, next, rows) {
+            records.set(column, n, next + 1);
             return next + rows;
         }
-        return no_list(work, sizes, column, n, next);
     }
-    no_list(work, sizes, column, n, next)
+    records.set(column, n, 0);
+    next
 }
 
 // The list of the attributes of the type with number t, if it is a record type.
-fn list_type(file: &[u8], work: &mut [u32], sizes: Sizes, t: u32, next: u32) -> u32
-    ensures { ListsType file.now sizes.rows sizes.terms t next work.old result work.new }
+fn list_type(records: &mut RecordsMut<'_>, t: u32, next: u32) -> u32
+    ensures stays { Stays records.old records.new }
+    ensures made { ListsType records.old.file.now records.old.sizes.rows records.old.sizes.terms t next records.old.work.now result records.new.work.now }
 {
-    let offset = index::get(
-        work,
-        sizes.rows,
-        index::TYPE_OFFSET,
-        index_entry::records::wide(t),
-    );
-    match index_entry::types::type_at(file, offset) {
-        TypeEntry::Record(n) => list_at(
-            index_entry::records::body_at(file, offset),
-            work,
-            sizes,
-            index::TYPE_LIST,
-            index_entry::records::wide(t),
-            next,
-            Texts {
-                from: 4,
-                count: n,
-                skip: 4,
-            },
-        ),
-        _ => no_list(
-            work,
-            sizes,
-            index::TYPE_LIST,
-            index_entry::records::wide(t),
-            next,
-        ),
+    let offset = records.get(Column::TypeOffset, t);
+    match types::type_at(records.file, offset) {
+        TypeEntry::Record(attributes) => {
+            list_at(records, Column::TypeList, t, next, attributes.names())
+        }
+        _ => {
+            records.set(Column::TypeList, t, 0);
+            next
+        }
     }
-}
-
-// The lists of the types.
-fn list_types(file: &[u8], work: &mut [u32], sizes: Sizes) -> u32
-    ensures { ListsTypes file.now sizes.rows sizes.terms sizes.types work.old result work.new }
-{
-    let types = sizes.types;
-    let mut next: u32 = 0;
-    let mut t: u32 = 0;
-    while t < types {
-        next = list_type(file, work, sizes, t, next);
-        t += 1;
-    }
-    next
 }
 
 // The list of the members of the enum with number e.
-fn list_enum(file: &[u8], work: &mut [u32], sizes: Sizes, e: u32, next: u32) -> u32
-    ensures { ListsEnum file.now sizes.rows sizes.terms e next work.old result work.new }
+fn list_enum(records: &mut RecordsMut<'_>, e: u32, next: u32) -> u32
+    ensures stays { Stays records.old records.new }
+    ensures made { ListsEnum records.old.file.now records.old.sizes.rows records.old.sizes.terms e next records.old.work.now result records.new.work.now }
 {
-    let offset = index::get(
-        work,
-        sizes.rows,
-        index::ENUM_OFFSET,
-        index_entry::records::wide(e),
-    );
-    let x = index_entry::symbols::enum_at(file, offset);
-    list_at(
-        index_entry::records::body_at(file, offset),
-        work,
-        sizes,
-        index::ENUM_LIST,
-        index_entry::records::wide(e),
-        next,
-        Texts {
-            from: x.from,
-            count: x.members,
-            skip: 0,
-        },
-    )
-}
-
-// The lists of the enums.
-fn list_enums(file: &[u8], work: &mut [u32], sizes: Sizes, first: u32)
-    ensures { ListsEnums file.now sizes.rows sizes.terms sizes.enums first work.old work.new }
-{
-    let enums = sizes.enums;
-    let mut next = first;
-    let mut e: u32 = 0;
-    while e < enums {
-        next = list_enum(file, work, sizes, e, next);
-        e += 1;
-    }
+    let offset = records.get(Column::EnumOffset, e);
+    let members = symbols::enum_at(records.file, offset);
+    list_at(records, Column::EnumList, e, next, members)
 }
 
 // Notes the enum of the type with number t, if it is an entity type: how many enums there are where it is none.
-fn note_enum(file: &[u8], work: &mut [u32], sizes: Sizes, t: u32)
-    ensures { NotesEnum file.now sizes t work.old work.new }
+fn note_enum(records: &mut RecordsMut<'_>, t: u32)
+    ensures stays { Stays records.old records.new }
+    ensures made { NotesEnum records.old.file.now records.old.sizes t records.old.work.now records.new.work.now }
 {
-    let at = index_entry::records::wide(t);
-    let offset = index::get(work, sizes.rows, index::TYPE_OFFSET, at);
-    match index_entry::types::type_at(file, offset) {
+    let offset = records.get(Column::TypeOffset, t);
+    match types::type_at(records.file, offset) {
         TypeEntry::Entity(name) => {
-            let body = index_entry::records::body_at(file, offset);
-            let text = read_field::part_of(body, name.start, name.len);
-            let e = index_search::enums::find(file, work, sizes, text);
-            index::set(work, sizes.rows, index::TYPE_LIST, at, e);
+            let e = index_search::enums::find(records.view(), name);
+            records.set(Column::TypeList, t, e.unwrap_or(records.sizes.enums));
         }
         _ => {}
     }
 }
 
-// The enums of the entity types, so that no entity asks for its enum by a name.
-fn note_enums(file: &[u8], work: &mut [u32], sizes: Sizes)
-    ensures { NotesEnums file.now sizes work.old work.new }
+// The lists of the types and the enums, and the enums of the entity types, so that no entity asks for its enum by a name; in the index of an
+// accepted file.
+pub fn make_lists(records: &mut RecordsMut<'_>)
+    ensures stays { Stays records.old records.new }
+    ensures made { MakesLists records.old.file.now records.old.sizes records.old.work.now records.new.work.now }
 {
-    let types = sizes.types;
-    let mut t: u32 = 0;
-    while t < types {
-        note_enum(file, work, sizes, t);
-        t += 1;
+    let sizes = records.sizes;
+    let mut next = 0;
+    for t in 0..sizes.types {
+        next = list_type(records, t, next);
     }
-}
-
-// The lists of the types and the enums, and the enums of the entity types, in the index of an accepted file.
-pub fn make_lists(file: &[u8], work: &mut [u32], sizes: Sizes)
-    ensures { MakesLists file.now sizes work.old work.new }
-{
-    let next = list_types(file, work, sizes);
-    list_enums(file, work, sizes, next);
-    note_enums(file, work, sizes);
+    for e in 0..sizes.enums {
+        next = list_enum(records, e, next);
+    }
+    for t in 0..sizes.types {
+        note_enum(records, t);
+    }
 }

@@ -1,67 +1,40 @@
 // Where a text stands in a list of a body: by a scan, or by halves where the index has a list of the places.
-
 ghost use Rattle.std.specs.Prelude.{◌≡◌, ◌<◌, ◌+◌, drop};
 ghost use Rattle.script_spec.specs.Base.{before};
 ghost use Rattle.index.specs.Lists.{first_text};
-ghost use Rattle.walk_queries.specs.Found.{FindsText, FindsListed, Finds, Halves, Few};
+ghost use Rattle.walk_queries.specs.Found.{FindsText, FindsListed, Finds, Halves};
 
-use index::Sizes;
+use crate::lists::rows_of;
+use index::{Column, Records};
+use index_entry::lists::{self, Texts};
 
-// Where a text stands in a list.
-#[derive(Clone, Copy)]
-pub enum Found {
-    At(u32),
-    Nowhere,
-}
-
-// So many texts from a place of a body on, with so many bytes after each.
-#[derive(Clone, Copy)]
-pub struct Texts {
-    pub from: usize,
-    pub count: u32,
-    pub skip: usize,
-}
-
-// Where a text stands among texts of the body, by a scan.
-fn find_text(body: &[u8], among: Texts, name: &[u8]) -> Found
-    ensures { FindsText body.now among.from among.count among.skip name.now result }
+// Where a text stands among texts of a body, by a scan.
+fn find_text(mut among: Texts<'_>, name: &[u8]) -> Option<u32>
+    ensures { FindsText among.entry name.now result }
 {
-    let count = among.count;
-    let mut at = among.from;
-    let mut i: u32 = 0;
-    while i < count {
-        if check::same(name, index_entry::lists::text_at(body, at)) {
-            return Found::At(i);
-        }
-        at = index_entry::lists::after_text(body, at, among.skip);
-        i += 1;
-    }
-    Found::Nowhere
+    let i = among.position(|text| check::same(name, text))?;
+    Some(i as u32)
 }
 
 // Whether a text stands strictly before the one at a place of the body.
 fn stands_before(name: &[u8], body: &[u8], at: usize) -> bool
     ensures { result ≡ before name.now (first_text (drop at body.now)) }
 {
-    check_rules::text::before(name, index_entry::lists::text_at(body, at))
+    check_rules::text::before(name, lists::text_at(body, at))
 }
 
 // The last of so many rows whose text does not stand behind this one, or the first row.
-fn find_row(body: &[u8], work: &[u32], sizes: Sizes, base: u32, rows: u32, name: &[u8]) -> u32
+fn find_row(records: Records<'_>, base: u32, rows: u32, body: &[u8], name: &[u8]) -> u32
     requires { 0 < rows }
-    ensures { Halves body.now work.now sizes.rows base rows name.now result (result + 1) }
+    ensures { Halves body.now records.entry.work.now records.entry.sizes.rows base rows name.now result (result + 1) }
 {
-    let mut low: u32 = 0;
-    let mut high: u32 = rows;
+    let mut low = 0;
+    let mut high = rows;
     while 1 < high - low {
         let middle = low + (high - low) / 2;
-        let at = index::get(
-            work,
-            sizes.rows,
-            index::LIST_ROW,
-            index_entry::records::wide(base) + index_entry::records::wide(middle),
-        );
-        if stands_before(name, body, index_entry::records::wide(at)) {
+        let row = base as usize + middle as usize;
+        let at = records.get_row(Column::ListRow, row);
+        if stands_before(name, body, at as usize) {
             high = middle;
         } else {
             low = middle;
@@ -70,56 +43,31 @@ fn find_row(body: &[u8], work: &[u32], sizes: Sizes, base: u32, rows: u32, name:
     low
 }
 
-// At most two.
-fn few(n: u32) -> u32
-    ensures { Few n result }
-{
-    if n < 2 {
-        return n;
-    }
-    2
-}
-
 // Where a text stands among texts that have a list whose first row is `base`.
-fn find_listed(
-    body: &[u8],
-    work: &[u32],
-    sizes: Sizes,
-    base: u32,
-    among: Texts,
-    name: &[u8],
-) -> Found
-    ensures { FindsListed body.now work.now sizes.rows base among.from among.count among.skip name.now result }
+fn find_listed(records: Records<'_>, base: u32, among: Texts<'_>, name: &[u8]) -> Option<u32>
+    ensures { FindsListed records.entry.work.now records.entry.sizes.rows base among.entry name.now result }
 {
-    let count = among.count;
-    if count < 2 {
-        return find_text(body, among, name);
+    if among.left < 2 {
+        return find_text(among, name);
     }
-    let row = find_row(body, work, sizes, base, crate::lists::rows_of(count), name);
-    let at = index::get(
-        work,
-        sizes.rows,
-        index::LIST_ROW,
-        index_entry::records::wide(base) + index_entry::records::wide(row),
-    );
+    let row = find_row(records, base, rows_of(among.left), among.body, name);
+    let at = records.get_row(Column::ListRow, base as usize + row as usize);
     let first = row * 2;
     let pair = Texts {
-        from: index_entry::records::wide(at),
-        count: few(count - first),
-        skip: among.skip,
+        from: at as usize,
+        left: (among.left - first).min(2),
+        ..among
     };
-    match find_text(body, pair, name) {
-        Found::At(i) => Found::At(first + i),
-        Found::Nowhere => Found::Nowhere,
-    }
+    let i = find_text(pair, name)?;
+    Some(first + i)
 }
 
-// Where a text stands among texts of the body, by the entry that the index has for their list: one more than its first row, or 0.
-pub fn find(body: &[u8], work: &[u32], sizes: Sizes, list: u32, among: Texts, name: &[u8]) -> Found
-    ensures { Finds body.now work.now sizes.rows list among.from among.count among.skip name.now result }
+// Where a text stands among texts of a body, by the entry that the index has for their list: one more than its first row, or 0.
+pub fn find(records: Records<'_>, list: u32, among: Texts<'_>, name: &[u8]) -> Option<u32>
+    ensures { Finds records.entry.work.now records.entry.sizes.rows list among.entry name.now result }
 {
     if list == 0 {
-        return find_text(body, among, name);
+        return find_text(among, name);
     }
-    find_listed(body, work, sizes, list - 1, among, name)
+    find_listed(records, list - 1, among, name)
 }

@@ -2,11 +2,12 @@
 ghost use Rattle.walk_queries.specs.Searches.{FindsAttribute, IsEnumType, FindsIn, FindsMember};
 ghost use Rattle.walk_queries.specs.Negations.{IsNego, IsBool, NegationOver, Negates, OtherCode, IsOther, NegationOf};
 
-use crate::positions::{Found, Texts};
-use index::Sizes;
-use index_entry::terms::{Children, TermEntry};
+use crate::positions;
+use index::{Column, Records};
+use index_entry::records::{body_at, letter_at};
+use index_entry::terms::{self, Children, TermEntry};
 use index_entry::types::TypeEntry;
-use read_field::{Cursor, ReadNumber};
+use index_entry::{numbered, symbols};
 use read_operator::Op;
 
 // What a term is as a `Bvnego`: over an argument of so many bits a comparison, over any other `false`.
@@ -34,210 +35,123 @@ pub enum Member {
 }
 
 // Whether an operator is `Bvnego`.
-pub fn is_nego(op: Op) -> bool
-    ensures { IsNego op result }
+pub fn is_nego(op: Op<'_>) -> bool
+    ensures { IsNego op.entry result }
 {
-    match op {
-        Op::Bvnego => true,
-        _ => false,
-    }
+    matches!(op, Op::Bvnego)
 }
 
 // Whether the type with number t is Bool.
-fn is_bool(file: &[u8], work: &[u32], sizes: Sizes, t: u32) -> bool
-    ensures { IsBool file.now work.now sizes t result }
+fn is_bool(records: Records<'_>, t: u32) -> bool
+    ensures { IsBool records.entry.file.now records.entry.work.now records.entry.sizes t result }
 {
-    match index_entry::numbered::type_at(file, work, sizes, t) {
-        TypeEntry::Bool => true,
-        _ => false,
-    }
+    matches!(numbered::type_at(records, t), TypeEntry::Bool)
 }
 
 // What a `Bvnego` with result Bool is over one argument of the type with number t.
-fn negation_over(file: &[u8], work: &[u32], sizes: Sizes, t: u32) -> Negated
-    ensures { NegationOver file.now work.now sizes t result }
+fn negation_over(records: Records<'_>, t: u32) -> Negated
+    ensures { NegationOver records.entry.file.now records.entry.work.now records.entry.sizes t result }
 {
-    match index_entry::numbered::type_at(file, work, sizes, t) {
+    match numbered::type_at(records, t) {
         TypeEntry::BitVec(n) => Negated::Comparison(n),
         _ => Negated::Falsehood,
     }
 }
 
 // What a `Bvnego` is whose result has the type with number t.
-fn negation_with(
-    file: &[u8],
-    work: &[u32],
-    sizes: Sizes,
-    t: u32,
-    body: &[u8],
-    c: Children,
-) -> Negated
-    ensures { Negates file.now work.now sizes t body.now c result }
+fn negation_with(records: Records<'_>, t: u32, mut c: Children<'_>) -> Negated
+    ensures { Negates records.entry.file.now records.entry.work.now records.entry.sizes t c.entry result }
 {
-    if c.left != 1 {
+    if c.left != 1 || !is_bool(records, t) {
         return Negated::Ordinary;
     }
-    if is_bool(file, work, sizes, t) {
-        let child = index_entry::terms::take_child(body, c);
-        let part = index::get(
-            work,
-            sizes.rows,
-            index::TERM_TYPE,
-            index_entry::records::wide(child.number),
-        );
-        return negation_over(file, work, sizes, part);
+    match c.next() {
+        Some(child) => negation_over(records, records.get(Column::TermType, child)),
+        None => Negated::Ordinary,
     }
-    Negated::Ordinary
 }
 
 // Whether the body of an application has the code of another operator than `Bvnego`.
 pub fn is_other_code(body: &[u8]) -> bool
     ensures { OtherCode body.now result }
 {
-    let c = Cursor { at: 4 };
-    match c.byte(body) {
-        ReadNumber::Bad(_) => false,
-        ReadNumber::Value(code, _) => {
-            if code == read_operator::BVNEGO as u32 {
-                return false;
-            }
-            true
-        }
-    }
+    index_compare::compare::byte_at(body, 4) != read_operator::BVNEGO
 }
 
 // Whether the record at an offset is no `Bvnego`, as far as its mark and its operator's code tell.
 fn is_other(file: &[u8], offset: u32) -> bool
     ensures { IsOther file.now offset result }
 {
-    match index_entry::records::letter_at(file, offset) {
-        b'A' => is_other_code(index_entry::records::body_at(file, offset)),
-        _ => true,
-    }
+    letter_at(file, offset) != b'A' || is_other_code(body_at(file, offset))
 }
 
 // What the term with number n is as a `Bvnego`.
-pub fn negation_of(file: &[u8], work: &[u32], sizes: Sizes, n: u32) -> Negated
-    ensures { NegationOf file.now work.now sizes n result }
+pub fn negation_of(records: Records<'_>, n: u32) -> Negated
+    ensures { NegationOf records.entry.file.now records.entry.work.now records.entry.sizes n result }
 {
-    let offset = index::get(
-        work,
-        sizes.rows,
-        index::TERM_OFFSET,
-        index_entry::records::wide(n),
-    );
-    if is_other(file, offset) {
+    let offset = records.get(Column::TermOffset, n);
+    if is_other(records.file, offset) {
         return Negated::Ordinary;
     }
-    match index_entry::terms::term_at(file, offset) {
-        TermEntry::App(t, op, c) => {
-            if is_nego(op) {
-                return negation_with(
-                    file,
-                    work,
-                    sizes,
-                    t,
-                    index_entry::records::body_at(file, offset),
-                    c,
-                );
-            }
-            Negated::Ordinary
-        }
-        _ => Negated::Ordinary,
+    let TermEntry::App(t, op, c) = terms::term_at(records.file, offset) else {
+        return Negated::Ordinary;
+    };
+    if !is_nego(op) {
+        return Negated::Ordinary;
     }
+    negation_with(records, t, c)
 }
 
 // Where an attribute stands in the type with number t.
-pub fn index_of_attr(file: &[u8], work: &[u32], sizes: Sizes, t: u32, name: &[u8]) -> Attribute
-    ensures { FindsAttribute file.now work.now sizes t name.now result }
+pub fn index_of_attr(records: Records<'_>, t: u32, name: &[u8]) -> Attribute
+    ensures { FindsAttribute records.entry.file.now records.entry.work.now records.entry.sizes t name.now result }
 {
-    let offset = index::get(
-        work,
-        sizes.rows,
-        index::TYPE_OFFSET,
-        index_entry::records::wide(t),
-    );
-    match index_entry::types::type_at(file, offset) {
-        TypeEntry::Record(n) => {
-            let list = index::get(
-                work,
-                sizes.rows,
-                index::TYPE_LIST,
-                index_entry::records::wide(t),
-            );
-            match crate::positions::find(
-                index_entry::records::body_at(file, offset),
-                work,
-                sizes,
-                list,
-                Texts {
-                    from: 4,
-                    count: n,
-                    skip: 4,
-                },
-                name,
-            ) {
-                Found::At(i) => Attribute::At(i),
-                Found::Nowhere => Attribute::Missing,
+    match numbered::type_at(records, t) {
+        TypeEntry::Record(attributes) => {
+            let list = records.get(Column::TypeList, t);
+            match positions::find(records, list, attributes.names(), name) {
+                Some(i) => Attribute::At(i),
+                None => Attribute::Missing,
             }
         }
         _ => Attribute::NotRecord,
     }
 }
 
-// The number of the enum that the type with number t is; how many enums there are where it is none.
-fn enum_of(file: &[u8], work: &[u32], sizes: Sizes, t: u32) -> u32
-    ensures { IsEnumType file.now work.now sizes t result }
+// The number of the enum that the type with number t is, if it is one.
+fn enum_of(records: Records<'_>, t: u32) -> Option<u32>
+    ensures { IsEnumType records.entry.file.now records.entry.work.now records.entry.sizes t result }
 {
-    let at = index_entry::records::wide(t);
-    let offset = index::get(work, sizes.rows, index::TYPE_OFFSET, at);
-    match index_entry::types::type_at(file, offset) {
-        TypeEntry::Entity(_) => index::get(work, sizes.rows, index::TYPE_LIST, at),
-        _ => sizes.enums,
+    match numbered::type_at(records, t) {
+        TypeEntry::Entity(_) => {
+            let e = records.get(Column::TypeList, t);
+            if e < records.sizes.enums {
+                Some(e)
+            } else {
+                None
+            }
+        }
+        _ => None,
     }
 }
 
 // Where a member stands in the enum with number e.
-fn find_in(file: &[u8], work: &[u32], sizes: Sizes, e: u32, id: &[u8]) -> Found
-    ensures { FindsIn file.now work.now sizes e id.now result }
+fn find_in(records: Records<'_>, e: u32, id: &[u8]) -> Option<u32>
+    ensures { FindsIn records.entry.file.now records.entry.work.now records.entry.sizes e id.now result }
 {
-    let offset = index::get(
-        work,
-        sizes.rows,
-        index::ENUM_OFFSET,
-        index_entry::records::wide(e),
-    );
-    let x = index_entry::symbols::enum_at(file, offset);
-    let list = index::get(
-        work,
-        sizes.rows,
-        index::ENUM_LIST,
-        index_entry::records::wide(e),
-    );
-    crate::positions::find(
-        index_entry::records::body_at(file, offset),
-        work,
-        sizes,
-        list,
-        Texts {
-            from: x.from,
-            count: x.members,
-            skip: 0,
-        },
-        id,
-    )
+    let members = symbols::enum_at(records.file, records.get(Column::EnumOffset, e));
+    positions::find(records, records.get(Column::EnumList, e), members, id)
 }
 
 // Where a member stands in the type with number t.
-pub fn find_member(file: &[u8], work: &[u32], sizes: Sizes, t: u32, id: &[u8]) -> Member
-    ensures { FindsMember file.now work.now sizes t id.now result }
+pub fn find_member(records: Records<'_>, t: u32, id: &[u8]) -> Member
+    ensures { FindsMember records.entry.file.now records.entry.work.now records.entry.sizes t id.now result }
 {
-    let e = enum_of(file, work, sizes, t);
-    if sizes.enums <= e {
+    let Some(e) = enum_of(records, t) else {
         return Member::NoEnum;
-    }
-    match find_in(file, work, sizes, e, id) {
-        Found::At(i) => Member::At(i),
-        Found::Nowhere => Member::NotMember,
+    };
+    match find_in(records, e, id) {
+        Some(i) => Member::At(i),
+        None => Member::NotMember,
     }
 }

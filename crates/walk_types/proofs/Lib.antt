@@ -1,7 +1,7 @@
-pub mod PartLaws
-pub mod Datatypes
 pub mod Declaring
 pub mod Entering
 pub mod Walking
-pub mod Settling
 pub mod Encoding
+pub mod Datatypes
+pub mod PartLaws
+pub mod Settling

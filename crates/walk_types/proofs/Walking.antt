@@ -1,104 +1,87 @@
--- The walk over a type and over its parts: what has a name is left; the parts that are left, after those that were encoded, make all.
+-- The walk over a type and its parts: what has a name is left, what is new comes after its parts; parts are encoded one after the other.
 -- Assumes nothing.
 use Prim.Native.Nat.{ℕ, ◌<◌, ◌≤◌}
-use mathlib.Core.Path.{◌≡◌, refl, sym, ap, ◌∙◌, subst}
-use mathlib.Core.Bool.{true, false, not}
+use mathlib.Core.Path.{◌≡◌, refl, ◌∙◌}
+use mathlib.Core.Bool.{true, false}
 use mathlib.Core.List.{List, [], ◌∷◌, map}
 use native.Mathlib.Omega.{arith}
-use lib.Dec.{eqb}
-use lib.ListN.{length}
-use borrow.Author.Tests.{eq-eqb, ne_eqb}
-use Rattle.script_spec.specs.Base.{Bytes, any}
-use Rattle.script_spec.specs.Tree.{eq_ty, forest}
-use Rattle.script_spec.specs.File.{TermFile, types, members, type_at}
-use Rattle.script_spec.specs.Walk.{State, went, encode_type, encode_types}
+use Rattle.std.specs.Prelude as std
+use Rattle.std.specs.Prelude.{Ok}
+use Rattle.script_spec.specs.Tree.{forest}
+use Rattle.script_spec.specs.File.{members, type_at}
+use Rattle.script_spec.specs.Walk.{encode_type, encode_types}
 use Rattle.index.specs.Cells.{cell, type_offset, type_first}
 use Rattle.index.specs.First.{All, Below}
-use Rattle.index.specs.Standing.{body_at}
-use Rattle.index.specs.Meaning.{Index, counted}
-use Rattle.index.specs.declared.Sizes.{Sizes}
-use Rattle.walk_names.specs.Naming.{type_names, name_at, Numbers}
-use Rattle.walk_names.specs.Sticky.{sticky}
-use Rattle.walk_names.proofs.Names.{kept_trans, index_kept, name_at_type}
-use Rattle.walk_names.proofs.Sticky.{sticky_nothing}
-use Rattle.walk_names.proofs.Tables.{table_known}
+use Rattle.index.specs.Meaning.{counted}
+use Rattle.index_entry.specs.Terms.{children_in}
+use Rattle.index_entry.specs.declared.terms.Children.{Children}
 use Rattle.index_entry.proofs.Rows.{type_stands}
-use Rattle.walk_names.specs.Progress.{Holds, Advances}
-use Rattle.walk_names.specs.declared.progress.Progress.{Progress}
-use Rattle.walk_names.proofs.Advancing.{advances_nothing, advances_then}
-use Rattle.walk_names.proofs.Running.{advances_went, advances_as, advances_passed}
-use Rattle.walk_types.specs.Parts.{parts_in, PartsAt}
-use Rattle.walk_types.specs.declared.parts.Parts.{Parts}
-use Rattle.walk_types.specs.Types.{type_ready, type_walk, PartsReady, parts_walk, NewType, declare_walk}
+use Rattle.walk_names.specs.Naming.{type_names, name_at, place_of, place_said}
+use Rattle.walk_names.specs.Progress.{memory, rows, Remains, Holds, Passes}
+use Rattle.walk_names.specs.declared.walk.Walk.{Walk}
+use Rattle.walk_names.proofs.Names.{known_type}
+use Rattle.walk_names.proofs.Advancing.{remains_refl, remains_trans, indexed_remains, went_on, advances_passed, advances_by, advances_then}
+use Rattle.walk_names.proofs.Steps.{then_went}
+use Rattle.walk_types.specs.Types.{type_ready, type_walk, PartsAt, PartsReady, parts_walk, NewType, declare_walk}
 use Rattle.walk_types.proofs.Declaring.{type_left, type_new, type_still_new}
 
 -- ---- a type
 
-module _ {file : Bytes} {f : TermFile} {work : List ℕ} {sizes : Sizes} {S : State} (I : Index file f work sizes) (N : Numbers f work sizes.rows S) (t : ℕ) (l : t < length (types f)) where
-  -- a type is in the table where it has a name
-  pub known_by : any (eq_ty (type_at f t)) S.types ≡ not (eqb (name_at work sizes.rows type_first type_names t) 0)
-  known_by = table_known N.type_table t l ∙ ap (λ (n : ℕ). not (eqb n 0)) (sym (name_at_type I.rows t l))
-
-  known : (name_at work sizes.rows type_first type_names t ≡ 0 → ⊥) → any (eq_ty (type_at f t)) S.types ≡ true
-  known h = known_by ∙ ap not (ne_eqb (name_at work sizes.rows type_first type_names t) 0 h)
-
-  unknown : name_at work sizes.rows type_first type_names t ≡ 0 → any (eq_ty (type_at f t)) S.types ≡ false
-  unknown h = known_by ∙ ap not (eq-eqb (name_at work sizes.rows type_first type_names t) 0 h)
-
-module _ {file : Bytes} {sizes : Sizes} {name : ℕ} {work : List ℕ} {out : Bytes} {p : Progress} (t : ℕ) (z : p.refused ≡ 0) (e : name ≡ name_at work sizes.rows type_first type_names t) where
+module _ (t : ℕ) {v : Walk} (r : std.Option ℕ) (e : place_said r ≡ place_of (name_at (memory v) (rows v) type_first type_names t)) where
   -- a type that has a name is left
-  pub leaves_type : (name ≡ 0 → ⊥) → Advances file sizes (type_ready t) (type_walk t) work out p work out p
+  pub leaves_type : std.is_some r ≡ true → Passes (type_ready t) (type_walk t) v v
   unfolding type_ready type_walk
-  leaves_type h = advances_passed {ready = type_ready t} {walk = type_walk t} z (λ f limit o S I R W. type_left (members f) (type_at f t) S (known I W.numbers t R (λ q. h (e ∙ q))))
+  leaves_type h = advances_passed (λ f limit o S I R W. type_left (members f) (type_at f t) S (known_type I.rows W.numbers t r R e ∙ h))
 
   -- any other comes after its parts
-  pub encodes_type : {offset : ℕ} {c : Parts} {work₁ work₂ : List ℕ} {out₁ out₂ : Bytes} {p₁ p₂ : Progress} → name ≡ 0 → offset ≡ cell work sizes.rows type_offset t → PartsAt file offset c
-      → Advances file sizes (PartsReady t (parts_in (body_at file offset) c)) (parts_walk (parts_in (body_at file offset) c)) work out p work₁ out₁ p₁
-      → Advances file sizes (NewType t) (declare_walk t) work₁ out₁ p₁ work₂ out₂ p₂
-      → Advances file sizes (type_ready t) (type_walk t) work out p work₂ out₂ p₂
+  pub encodes_type : {c : Children} {w x : Walk} → std.is_some r ≡ false → PartsAt v.records.now.file.now (cell (memory v) (rows v) type_offset t) c
+      → Passes (PartsReady t (children_in c)) (parts_walk (children_in c)) v w → Passes (NewType t) (declare_walk t) w x → Passes (type_ready t) (type_walk t) v x
   unfolding type_ready type_walk parts_walk declare_walk counted
-  encodes_type {offset} {c} {work₁} {work₂} {out₁} {out₂} {p₁} {p₂} h place P A D =
-      advances_went {ready = type_ready t} {walk = type_walk t} (kept_trans A.kept D.kept) z (λ f limit o S I R W.
-      type_stands (I.rows.type_row t R).stands (λ m rs reads below tree.
-      let ps : parts_in (body_at file offset) c ≡ rs = P.go m rs (rw place reads) in
-      let tree' = rw (← ps) at tree in
-      let new = unknown I W.numbers t R (sym e ∙ h) in
-      let w = encode_types (members f) (forest (map (type_at f) (parts_in (body_at file offset) c))) in
-      let after = A.go f limit o (went S) I (record { inside = R; below = rw ps below }) W in
-      let last = D.go f limit o (sticky w (went S)) (index_kept A.kept I) (record { inside = R; new = λ S₁ q. type_still_new (members f) m _ (type_at f t) S S₁ tree' new q }) after in
-      subst (Holds f sizes.rows limit o work₂ out₂ p₂) (type_new (members f) m _ (type_at f t) S tree' new) last))
+  encodes_type {c} {w} {x} h P A D = record {
+    remains = remains_trans A.remains D.remains;
+    go = λ f limit o S I R W.
+        type_stands (I.rows.type_row t R).stands (λ m rs reads below tree.
+        let ps : children_in c ≡ rs = P.go m rs reads in
+        let tree' = rw (← ps) at tree in
+        let new = known_type I.rows W.numbers t r R e ∙ h in
+        let ts = forest (map (type_at f) (children_in c)) in
+        went_on {P = Holds f limit o x (Ok tt) (encode_type (members f) (type_at f t) S)} (encode_types (members f) ts S) (A.go f limit o S I (record { inside = R; below = rw ps below }) W) (λ S₁ q W₁.
+        rw (← type_new (members f) m ts (type_at f t) S tree' new, then_went (encode_types (members f) ts) (declare_walk t f) S S₁ q)
+        (D.go f limit o S₁ (indexed_remains A.remains I) (record { inside = R; new = type_still_new (members f) m ts (type_at f t) S S₁ tree' new q }) W₁)));
+  }
 
 -- ---- the parts
 
 -- encoding the parts `rest` from here makes encoding `whole` from the start
-pub record PartsLeft (file : Bytes) (sizes : Sizes) (t : ℕ) (whole : List ℕ) (work₀ : List ℕ) (out₀ : Bytes) (p₀ : Progress) (work : List ℕ) (out : Bytes) (p : Progress) (rest : List ℕ) : Type 0 where
-  pub go : (work' : List ℕ) (out' : Bytes) (p' : Progress) → Advances file sizes (PartsReady t rest) (parts_walk rest) work out p work' out' p'
-      → Advances file sizes (PartsReady t whole) (parts_walk whole) work₀ out₀ p₀ work' out' p'
+pub record PartsLeft (t : ℕ) (whole : List ℕ) (v w : Walk) (rest : List ℕ) : Type 0 where
+  pub remains : Remains v w
+  pub go : (x : Walk) → Passes (PartsReady t rest) (parts_walk rest) w x → Passes (PartsReady t whole) (parts_walk whole) v x
 
-pub parts_start : {file : Bytes} {sizes : Sizes} {t : ℕ} {ps work : List ℕ} {out : Bytes} {p : Progress} → PartsLeft file sizes t ps work out p work out p ps
-parts_start = record { go = λ w o q A. A }
+pub parts_start : {t : ℕ} {ps : List ℕ} {v : Walk} → PartsLeft t ps v v ps
+parts_start = record { remains = remains_refl; go = λ x A. A }
 
-module _ {file : Bytes} {sizes : Sizes} {t : ℕ} {whole work₀ : List ℕ} {out₀ : Bytes} {p₀ : Progress} {work : List ℕ} {out : Bytes} {p : Progress} {rest : List ℕ}
-    (L : PartsLeft file sizes t whole work₀ out₀ p₀ work out p rest) where
+module _ {t : ℕ} {whole rest : List ℕ} {v w : Walk} (L : PartsLeft t whole v w rest) where
   -- one part more
-  pub parts_on : {n : ℕ} {ps work₁ : List ℕ} {out₁ : Bytes} {p₁ : Progress} → rest ≡ n ∷ ps → n < t → Advances file sizes (type_ready n) (type_walk n) work out p work₁ out₁ p₁
-      → PartsLeft file sizes t whole work₀ out₀ p₀ work₁ out₁ p₁ ps
-  unfolding type_ready type_walk parts_walk encode_type encode_types forest Below All
-  parts_on {n} {ps} {work₁} {out₁} {p₁} e l A = record {
-    go = λ w o q B.
-        let first : Advances file sizes (PartsReady t (n ∷ ps)) (type_walk n) work out p work₁ out₁ p₁ =
-        advances_as (λ f x I R. let i = R.inside in (omega arith, refl)) A in
-        let both : Advances file sizes (PartsReady t (n ∷ ps)) (parts_walk (n ∷ ps)) work out p w o q =
-        advances_then (type_walk n) (parts_walk ps) first B (λ f x R. record { inside = R.inside; below = R.below.1 }) in
-        L.go w o q (rw e both);
+  pub parts_on : {n : ℕ} {ps : List ℕ} {x : Walk} → rest ≡ n ∷ ps → n < t → Passes (type_ready n) (type_walk n) w x → PartsLeft t whole v x ps
+  unfolding type_ready type_walk parts_walk encode_types forest Below All
+  parts_on {n} {ps} {x} e l A = record {
+    remains = remains_trans L.remains A.remains;
+    go = λ y B.
+        let first : Passes (PartsReady t (n ∷ ps)) (type_walk n) w x = advances_by (λ f S I R. let i = R.inside in (omega arith, refl)) A in
+        let both : Passes (PartsReady t (n ∷ ps)) (parts_walk (n ∷ ps)) w y = advances_then (type_walk n) (parts_walk ps) first B (λ f S S' I R q. record { inside = R.inside; below = R.below.1 }) in
+        L.go y (rw e both);
   }
 
   -- none is left
-  pub parts_end : rest ≡ [] → Advances file sizes (PartsReady t whole) (parts_walk whole) work₀ out₀ p₀ work out p
-  unfolding parts_walk encode_type encode_types forest
-  parts_end e = L.go work out p (rw e (advances_nothing (PartsReady t []) (parts_walk []) (λ f x R. sticky_nothing x)))
+  pub parts_end : rest ≡ [] → Passes (PartsReady t whole) (parts_walk whole) v w
+  unfolding parts_walk encode_types forest
+  parts_end e =
+      let none : Passes (PartsReady t []) (parts_walk []) w w = advances_passed (λ f limit o S I R W. refl) in
+      L.go w (rw e none)
 
   -- a part that has no lower number does not occur
-  pub parts_never : {n : ℕ} {ps : List ℕ} → rest ≡ n ∷ ps → t ≤ n → Advances file sizes (PartsReady t whole) (parts_walk whole) work₀ out₀ p₀ work out p
+  pub parts_never : {n : ℕ} {ps : List ℕ} → rest ≡ n ∷ ps → t ≤ n → Passes (PartsReady t whole) (parts_walk whole) v w
   unfolding Below All
-  parts_never {n} {ps} e h = L.go work out p (rw e (advances_nothing (PartsReady t (n ∷ ps)) (parts_walk (n ∷ ps)) (λ f x R. absurd (let l = R.below.0 in omega arith))))
+  parts_never {n} {ps} e h =
+      let none : Passes (PartsReady t (n ∷ ps)) (parts_walk (n ∷ ps)) w w = advances_passed (λ f limit o S I R W. absurd (let l = R.below.0 in omega arith)) in
+      L.go w (rw e none)

@@ -1,33 +1,39 @@
 -- The walk over types and functions by their numbers, and what a step of it asks of what came before.
 -- Assumes nothing.
-use Rattle.std.specs.Prelude.{ℕ, ◌<◌, ◌≡◌, Bool, true, false, List, [], ◌∷◌, map, length}
+use Rattle.std.specs.Prelude.{ℕ, ◌<◌, ◌≡◌, Bool, true, false, ◌||◌, eqb, List, [], ◌∷◌, map, length}
+use Rattle.std.proofs.Math.Option.{none, some}
 use Rattle.script_spec.specs.Base.{Bytes, any, is_some}
-use Rattle.script_spec.specs.Tree.{forest, eq_ty, eq_fun, datatype}
+use Rattle.script_spec.specs.Tree.{TypeMark, forest, eq_ty, eq_fun, datatype, datatype_mark}
+use Rattle.script_spec.specs.Fields.{type}
 use Rattle.script_spec.specs.File.{TermFile, types, funs, members, type_at, fun_at}
 use Rattle.script_spec.specs.Command.{comment}
-use Rattle.script_spec.specs.Walk.{State, Step, went, Walk, writing, declare_type, encode_type, encode_types, declare_function, encode_uuf}
+use Rattle.script_spec.specs.Walk.{State, went, Walk, writing, declare_type, encode_type, encode_types, declare_function, encode_uuf}
 use Rattle.index.specs.First.{Below}
-use Rattle.index.specs.Meaning.{Index}
-use Rattle.index.specs.declared.Sizes.{Sizes}
-use Rattle.walk_names.specs.Naming.{Numbers}
+use Rattle.index.specs.Standing.{entry_at}
+use Rattle.index.specs.declared.Records.{Records}
+use Rattle.walk_names.specs.Naming.{IndexOf, NumbersOf}
+use Rattle.index_entry.specs.Terms.{children_in}
+use Rattle.index_entry.specs.declared.terms.Children.{Children}
 use Rattle.write_types.specs.Functions.{id_of}
+use Rattle.walk_types.specs.declared.settled.SettledBy.{SettledBy}
+use Rattle.walk_types.specs.declared.settled.SettledBy.TheVariants as by
 
 -- ---- types
 
 -- the type with number t is one of the file's
-unfoldable pub type_ready : ℕ → TermFile → Step → Type 0
-type_ready t f x = t < length (types f)
+unfoldable pub type_ready : ℕ → TermFile → State → Type 0
+type_ready t f S = t < length (types f)
 
 -- it is encoded
 unfoldable pub type_walk : ℕ → TermFile → Walk
 type_walk t f = encode_type (members f) (type_at f t)
 
--- the walk over a settled type changes nothing, whatever file was accepted and whatever tables the memory has
-pub record Settled (file : Bytes) (work : List ℕ) (sizes : Sizes) (t : ℕ) (r : Bool) : Type 0 where
-  pub go : r ≡ true → (f : TermFile) (S : State) → Index file f work sizes → Numbers f work sizes.rows S → t < length (types f) → type_walk t f S ≡ went S
+-- a record that is a type at an offset of a file has these parts
+pub record PartsAt (file : Bytes) (offset : ℕ) (r : Children) : Type 0 where
+  pub go : (m : TypeMark) (rs : List ℕ) → entry_at file offset ≡ some (type m rs) → children_in r ≡ rs
 
 -- parts with these numbers belong to a type with number t, which is above them
-pub record PartsReady (t : ℕ) (ps : List ℕ) (f : TermFile) (x : Step) : Type 0 where
+pub record PartsReady (t : ℕ) (ps : List ℕ) (f : TermFile) (S : State) : Type 0 where
   pub inside : t < length (types f)
   pub below : Below t ps
 
@@ -35,24 +41,44 @@ pub record PartsReady (t : ℕ) (ps : List ℕ) (f : TermFile) (x : Step) : Type
 unfoldable pub parts_walk : List ℕ → TermFile → Walk
 parts_walk ps f = encode_types (members f) (forest (map (type_at f) ps))
 
--- the type with number t is one of the file's, and no table that was reached has it
-pub record NewType (t : ℕ) (f : TermFile) (x : Step) : Type 0 where
+-- the type with number t is one of the file's, and the table does not have it
+pub record NewType (t : ℕ) (f : TermFile) (S : State) : Type 0 where
   pub inside : t < length (types f)
-  pub new : (S : State) → x ≡ went S → any (eq_ty (type_at f t)) S.types ≡ false
+  pub new : any (eq_ty (type_at f t)) S.types ≡ false
 
 -- it is entered and declared, if it is a datatype
 unfoldable pub declare_walk : ℕ → TermFile → Walk
 declare_walk t f = declare_type (members f) (type_at f t)
 
+-- whether this is the second byte of a datatype's mark: TE, TX or TR
+unfoldable pub declared_letter : ℕ → Bool
+declared_letter l = eqb l 69 || (eqb l 88 || eqb l 82)
+
 -- whether the type with number t is a datatype, whatever file was accepted
-pub record IsDatatype (file : Bytes) (work : List ℕ) (sizes : Sizes) (t : ℕ) (r : Bool) : Type 0 where
-  pub go : (f : TermFile) → Index file f work sizes → t < length (types f) → r ≡ is_some (datatype (type_at f t))
+pub record IsDatatype (records : Records) (t : ℕ) (r : Bool) : Type 0 where
+  pub go : (f : TermFile) → IndexOf f records → t < length (types f) → r ≡ is_some (datatype (type_at f t))
+
+-- ---- settled types
+
+-- what a type's record has where this tells whether the type is settled
+unfoldable pub settled_said : TypeMark → List ℕ → SettledBy → Type 0
+settled_said m rs by.Mark = (rs ≡ []) × (datatype_mark m ≡ none)
+settled_said m rs (by.Part n) = (rs ≡ n ∷ []) × (datatype_mark m ≡ none)
+settled_said m rs by.Name = Unit {0}
+
+-- this tells whether a record that is a type at an offset of a file is settled
+pub record SettlesBy (file : Bytes) (offset : ℕ) (r : SettledBy) : Type 0 where
+  pub go : (m : TypeMark) (rs : List ℕ) → entry_at file offset ≡ some (type m rs) → settled_said m rs r
+
+-- the walk over a settled type changes nothing, whatever file was accepted and whatever tables the memory has
+pub record Settled (records : Records) (t : ℕ) (r : Bool) : Type 0 where
+  pub go : r ≡ true → (f : TermFile) (S : State) → IndexOf f records → NumbersOf f records S → t < length (types f) → type_walk t f S ≡ went S
 
 -- ---- functions
 
 -- the function with number g is one of the file's
-unfoldable pub fun_ready : ℕ → TermFile → Step → Type 0
-fun_ready g f x = g < length (funs f)
+unfoldable pub fun_ready : ℕ → TermFile → State → Type 0
+fun_ready g f S = g < length (funs f)
 
 -- it is encoded
 unfoldable pub fun_walk : ℕ → TermFile → Walk
@@ -62,10 +88,10 @@ fun_walk g f = encode_uuf (members f) (fun_at f g)
 unfoldable pub id_walk : ℕ → TermFile → Walk
 id_walk g f = writing (comment (id_of (fun_at f g)) ∷ [])
 
--- the function with number g is one of the file's, and no table that was reached has it
-pub record NewFun (g : ℕ) (f : TermFile) (x : Step) : Type 0 where
+-- the function with number g is one of the file's, and the table does not have it
+pub record NewFun (g : ℕ) (f : TermFile) (S : State) : Type 0 where
   pub inside : g < length (funs f)
-  pub new : (S : State) → x ≡ went S → any (eq_fun (fun_at f g)) S.funs ≡ false
+  pub new : any (eq_fun (fun_at f g)) S.funs ≡ false
 
 -- it is entered and declared
 unfoldable pub declare_fun_walk : ℕ → TermFile → Walk

@@ -2,11 +2,9 @@
 -- Assumes nothing.
 use mathlib.Core.Path.{◌≡◌, refl, sym, ap, ◌∙◌}
 use mathlib.Core.Bool.{Bool, true, false}
-use mathlib.Core.List.{List, [], ◌∷◌}
+use mathlib.Core.List.{[]}
 use Prim.Native.Nat.{ℕ}
-use lib.ListN.{take, drop}
-use types.Run.{OneOf, miss}
-use denote.Enum.Declared.{tag_of}
+use denote.Bor.{Bor}
 use Rattle.script_spec.specs.Base.{Bytes}
 use Rattle.script_spec.specs.Utf8.{is_utf8}
 use Rattle.script_spec.specs.Tree as tree
@@ -15,32 +13,27 @@ use Rattle.script_spec.specs.File.{TermFile, term_at, named_mark, members}
 use Rattle.script_spec.specs.Text.{literal}
 use Rattle.script_spec.specs.Spelling.{Names, bit_vec, body_over, body, inlined, atom}
 use Rattle.script_spec.specs.Walk.{names}
-use Rattle.write_bytes.specs.Writing.{Appends}
-use Rattle.write_bytes.proofs.Laws.{says}
+use Rattle.write_bytes.specs.declared.writer.Writer.{Writer}
+use Rattle.write_bytes.specs.Writers.{Writes}
 use Rattle.read_utf8.specs.Decoding.{points}
 use Rattle.read_utf8.proofs.Laws.{utf8_points}
-use Rattle.write_bitvec.specs.Value.{of_halves}
-use Rattle.write_bitvec.specs.declared.halves.Halves.{Halves}
-use Rattle.read_field.specs.Answers.{spanned}
-use Rattle.read_field.specs.declared.Span.{Span}
 use Rattle.index.specs.Cells.{cell, term_offset}
 use Rattle.index.specs.First.{MarkInRange}
-use Rattle.index.specs.Standing as standing
 use Rattle.index.specs.Meaning.{counted}
-use Rattle.index.specs.declared.Sizes.{Sizes}
+use Rattle.index.specs.declared.Records.{Records}
 use Rattle.index_entry.specs.Terms.{term_said, TermAt}
 use Rattle.index_entry.specs.declared.terms.TermEntry.{TermEntry}
 use Rattle.index_entry.specs.declared.terms.TermEntry.TheVariants as entry
-use Rattle.index_entry.specs.contracts.terms.TermEntry.{the_type}
 use Rattle.write_atoms.specs.Parts.{truth, term_name_of}
 use Rattle.write_atoms.specs.Records.{TermSound}
+use Rattle.write_atoms.specs.Atoms.{SpellsEntity, SpellsLeaf}
+use Rattle.walk_names.proofs.Spelling.{written, spells_as, knowing}
 use Rattle.write_atoms.proofs.Rows.{EntryIs, term_here, entry_is}
 use Rattle.write_atoms.proofs.Numbered.{name_is}
-use Rattle.write_atoms.specs.Atoms.{SpellsEntity, SpellsLeaf}
 
 -- ---- terms that have names
 
--- a term that is not spelled in full
+-- a term that is not spells_as in full
 pub named_is : (e : Enums) (ν : Names) (t : Tm) → inlined e t ≡ false → ν.term t ≡ atom e ν t
 unfolding atom
 named_is e ν t h = rw (h, atom)
@@ -50,25 +43,29 @@ pub inlined_is : (e : Enums) (ν : Names) (t : Tm) → inlined e t ≡ true → 
 unfolding atom
 inlined_is e ν t h = rw (h, atom)
 
--- the terms that always have one, and applications, by their places among the entries
-abbrev tags : List ℕ
-tags = 0 ∷ 5 ∷ 6 ∷ 7 ∷ 8 ∷ 9 ∷ 10 ∷ 11 ∷ []
+-- what an entry is that is no literal and no entity
+pub record Other (r : TermEntry) : Type 0 where
+  pub not_bool : (b : Bool) → r ≡ entry.BoolLit b → ⊥
+  pub not_bits : (i j : ℕ) → r ≡ entry.BitVecLit i j → ⊥
+  pub not_string : (s : Bor Bytes) → r ≡ entry.StringLit s → ⊥
+  pub not_entity : (t : ℕ) (s : Bor Bytes) → r ≡ entry.Entity t s → ⊥
 
-always_named : (e : Enums) (f : TermFile) (n : ℕ) (s : Bytes) (r : TermEntry) → OneOf tags (tag_of the_type r) → EntryIs f n (term_said s r)
+-- no such term is spelled in full, unless it is an application
+always_named : (e : Enums) (f : TermFile) (n : ℕ) (r : TermEntry) → Other r → EntryIs f n (term_said r)
     → ((ty : Ty) (op : tree.Op Fun) (ts : Forest Mark) → node (tree.App ty op) ts ≡ term_at f n → ⊥) → inlined e (term_at f n) ≡ false
 unfolding term_said named_mark inlined
-always_named e f n s (entry.Var p t) h i other = sym (ap (inlined e) i.tree)
-always_named e f n s (entry.BoolLit b) h i other = absurd (miss tags 1 tt h)
-always_named e f n s (entry.BitVecLit w v) h i other = absurd (miss tags 2 tt h)
-always_named e f n s (entry.StringLit p) h i other = absurd (miss tags 3 tt h)
-always_named e f n s (entry.Entity t p) h i other = absurd (miss tags 4 tt h)
-always_named e f n s (entry.ExtLit v) h i other = sym (ap (inlined e) i.tree)
-always_named e f n s (entry.None t) h i other = sym (ap (inlined e) i.tree)
-always_named e f n s (entry.Some m) h i other = sym (ap (inlined e) i.tree)
-always_named e f n s (entry.Set t c) h i other = sym (ap (inlined e) i.tree)
-always_named e f n s (entry.Record c) h i other = sym (ap (inlined e) i.tree)
-always_named e f n s (entry.App t o c) h i other = absurd (other _ _ _ i.tree)
-always_named e f n s entry.Unreadable h i other = absurd i
+always_named e f n (entry.Var s t) h i other = sym (ap (inlined e) i.tree)
+always_named e f n (entry.BoolLit b) h i other = absurd (h.not_bool b refl)
+always_named e f n (entry.BitVecLit w v) h i other = absurd (h.not_bits w v refl)
+always_named e f n (entry.StringLit s) h i other = absurd (h.not_string s refl)
+always_named e f n (entry.Entity t s) h i other = absurd (h.not_entity t s refl)
+always_named e f n (entry.ExtLit v) h i other = sym (ap (inlined e) i.tree)
+always_named e f n (entry.None t) h i other = sym (ap (inlined e) i.tree)
+always_named e f n (entry.Some m) h i other = sym (ap (inlined e) i.tree)
+always_named e f n (entry.Set t c) h i other = sym (ap (inlined e) i.tree)
+always_named e f n (entry.Record c) h i other = sym (ap (inlined e) i.tree)
+always_named e f n (entry.App t o c) h i other = absurd (other _ _ _ i.tree)
+always_named e f n entry.Unreadable h i other = absurd i
 
 -- ---- a term by its entry
 
@@ -85,39 +82,29 @@ string_is : (e : Enums) (ν : Names) (s : Bytes) → is_utf8 s ≡ true → lite
 unfolding atom inlined body body_over
 string_is e ν s h = ap literal (utf8_points s h)
 
-module _ {file : Bytes} {work : List ℕ} {sizes : Sizes} {n limit at q : ℕ} {x y : Bytes} {r : TermEntry} (T : TermAt file (cell work sizes.rows term_offset n) r) where
+module _ {records : Records} {n : ℕ} {v w : Writer} {r : TermEntry} (T : TermAt records.file.now (cell records.work.now records.sizes.rows term_offset n) r) where
   -- a truth value
-  pub atom_bool : {b : Bool} → r ≡ entry.BoolLit b → Appends limit x at y q (truth b) → SpellsLeaf file work sizes n limit x at y q
+  pub atom_bool : {b : Bool} → r ≡ entry.BoolLit b → Writes v w (truth b) → SpellsLeaf records n v w
   unfolding term_said named_mark forest
-  atom_bool {b} e A = record { go = λ f S I N l other. says (bool_is (members f) (names S) b ∙ ap (atom (members f) (names S)) (entry_is T (ap (term_said _) e) f I l).tree) A }
+  atom_bool {b} e A = spells_as (λ f S I N k. bool_is (members f) (names S) b ∙ ap (atom (members f) (names S)) (entry_is records T (ap term_said e) f I k.inside).tree) (written A)
 
   -- a bit vector
-  pub atom_bits : {w : ℕ} {v : Halves} → r ≡ entry.BitVecLit w v → Appends limit x at y q (bit_vec w (of_halves v.high v.low)) → SpellsLeaf file work sizes n limit x at y q
+  pub atom_bits : {i j : ℕ} → r ≡ entry.BitVecLit i j → Writes v w (bit_vec i j) → SpellsLeaf records n v w
   unfolding term_said named_mark forest
-  atom_bits {w} {v} e A = record { go = λ f S I N l other. says (bits_is (members f) (names S) w _ ∙ ap (atom (members f) (names S)) (entry_is T (ap (term_said _) e) f I l).tree) A }
+  atom_bits {i} {j} e A = spells_as (λ f S I N k. bits_is (members f) (names S) i j ∙ ap (atom (members f) (names S)) (entry_is records T (ap term_said e) f I k.inside).tree) (written A)
 
   -- a text
-  pub atom_string : {p : Span} {s : Bytes} → r ≡ entry.StringLit p → s ≡ standing.body_at file (cell work sizes.rows term_offset n) → Appends limit x at y q (literal (points (spanned s p)))
-      → SpellsLeaf file work sizes n limit x at y q
+  pub atom_string : {s : Bor Bytes} → r ≡ entry.StringLit s → Writes v w (literal (points s.now)) → SpellsLeaf records n v w
   unfolding term_said named_mark forest TermSound
-  atom_string {p} e b A = record {
-    go = λ f S I N l other.
-        let here = entry_is T (ap (term_said _) e) f I l in
-        says (ap (λ (s : Bytes). literal (points (spanned s p))) b ∙ string_is (members f) (names S) _ here.sound ∙ ap (atom (members f) (names S)) here.tree) A;
-  }
+  atom_string {s} e A = spells_as (λ f S I N k. let here = entry_is records T (ap term_said e) f I k.inside in string_is (members f) (names S) s.now here.sound ∙ ap (atom (members f) (names S)) here.tree) (written A)
 
   -- an entity
-  pub atom_entity : {t : ℕ} {p : Span} {s id : Bytes} → r ≡ entry.Entity t p → s ≡ standing.body_at file (cell work sizes.rows term_offset n) → id ≡ take p.len (drop p.start s)
-      → SpellsEntity file work sizes n t id limit x at y q → SpellsLeaf file work sizes n limit x at y q
-  unfolding term_said named_mark forest MarkInRange counted spanned
-  atom_entity {t} {p} e b i E = record {
-    go = λ f S I N l other.
-        let here = entry_is T (ap (term_said _) e) f I l in
-        E.go f S I N l here.in_range nil ((rw (i, b)) ∙ here.tree);
-  }
+  pub atom_entity : {t : ℕ} {id : Bor Bytes} → r ≡ entry.Entity t id → SpellsEntity records n t id.now v w → SpellsLeaf records n v w
+  unfolding term_said named_mark forest MarkInRange counted
+  atom_entity e E =
+      knowing (λ f I k. let here = entry_is records T (ap term_said e) f I k.inside in record { inside = k.inside; type_inside = here.in_range; children = nil; tree = here.tree }) E
 
   -- a term that always has a name
-  pub atom_named : OneOf tags (tag_of the_type r) → Appends limit x at y q (term_name_of work sizes.rows n) → SpellsLeaf file work sizes n limit x at y q
-  atom_named h A = record {
-    go = λ f S I N l other. says (name_is I N l ∙ named_is (members f) (names S) (term_at f n) (always_named (members f) f n _ r h (term_here T f I l) other)) A;
-  }
+  pub atom_named : Other r → Writes v w (term_name_of records n) → SpellsLeaf records n v w
+  atom_named h A =
+      spells_as (λ f S I N k. name_is records I N k.inside ∙ named_is (members f) (names S) (term_at f n) (always_named (members f) f n r h (term_here records T f I k.inside) k.other)) (written A)

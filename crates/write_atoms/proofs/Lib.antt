@@ -1,4 +1,3 @@
-pub mod SymbolLaws
 pub mod ValueLaws
 pub mod Sound
 pub mod Rows

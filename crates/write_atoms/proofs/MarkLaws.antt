@@ -7,7 +7,7 @@ use mathlib.Core.Path.{◌≡◌, refl, sym, ap, ◌∙◌, subst}
 use mathlib.Core.Bool.{Bool, true, false}
 use mathlib.Core.Logic.{inl, inr}
 use mathlib.Core.List.{List, [], ◌∷◌, map}
-use mathlib.Core.Option.{some}
+use mathlib.Core.Option.{none, some}
 use lib.ListN.{length, get_or}
 use types.Run.{OneOf, miss}
 use Rattle.script_spec.specs.Base.{Bytes, bytes}
@@ -18,12 +18,11 @@ use Rattle.script_spec.specs.File.{TermFile, terms, term_at, named_mark, members
 use Rattle.script_spec.specs.Spelling.{inlined}
 use Rattle.script_spec.specs.Walk.{names}
 use Rattle.script_spec.proofs.Laws.{never}
-use Rattle.write_bytes.specs.Writing.{Appends}
-use Rattle.write_bytes.proofs.Laws.{says}
+use Rattle.write_bytes.specs.declared.writer.Writer.{Writer}
+use Rattle.write_bytes.specs.Writers.{Writes}
 use Rattle.index.specs.Cells.{cell, term_offset}
 use Rattle.index.specs.Standing.{mark_at, body_at, entry_at}
-use Rattle.index.specs.Meaning.{Index}
-use Rattle.index.specs.declared.Sizes.{Sizes}
+use Rattle.index.specs.declared.Records.{Records}
 use Rattle.check_rules.specs.Marks.{term_bytes, mark_of}
 use Rattle.check_rules.proofs.Marks.{entry_mark}
 use Rattle.index_entry.proofs.TermRows.{term_stands}
@@ -33,6 +32,8 @@ use Rattle.walk_queries.specs.Negations.{OtherCode}
 use Rattle.walk_queries.proofs.CodeLaws.{record_other}
 use Rattle.walk_queries.proofs.NegationLaws.{of_unlike}
 use Rattle.write_atoms.specs.Atoms.{SpellsCall, SpellsLeaf, SpellsAtom}
+use Rattle.walk_names.specs.Naming.{IndexOf}
+use Rattle.walk_names.proofs.Spelling.{written, spells_as, knowing}
 use Rattle.write_atoms.proofs.AtomLaws.{named_is}
 use Rattle.write_atoms.proofs.QueryLaws.{call_named}
 
@@ -58,14 +59,14 @@ abbrev inline : List ℕ
 inline = 66 ∷ 69 ∷ 78 ∷ 83 ∷ []
 
 -- a letter of no application, literal or entity
-module _ {l : ℕ} (a : l ≡ 65 → ⊥) (b : OneOf inline l → ⊥) where
+module _ {l : ℕ} (a : l ≡ 65 → ⊥) (b : l ≡ 66 → ⊥) (x : l ≡ 69 → ⊥) (n : l ≡ 78 → ⊥) (s : l ≡ 83 → ⊥) where
   named_letter : (e : Enums) (f : TermFile) (m : TermMark ℕ ℕ) (ts : Forest Mark) → l ≡ get_or (term_bytes m) 1 0 → inlined e (node (named_mark f m) ts) ≡ false
   unfolding term_bytes bytes named_mark inlined
   named_letter e f (tree.Var id t) ts h = refl
-  named_letter e f (tree.BoolLit v) ts h = absurd (b (inl h))
-  named_letter e f (tree.BitVecLit w v) ts h = absurd (b (inr (inr (inl h))))
-  named_letter e f (tree.StringLit v) ts h = absurd (b (inr (inr (inr h))))
-  named_letter e f (tree.Entity t id) ts h = absurd (b (inr (inl h)))
+  named_letter e f (tree.BoolLit v) ts h = absurd (b h)
+  named_letter e f (tree.BitVecLit w v) ts h = absurd (n h)
+  named_letter e f (tree.StringLit v) ts h = absurd (s h)
+  named_letter e f (tree.Entity t id) ts h = absurd (x h)
   named_letter e f (tree.ExtLit v) ts h = refl
   named_letter e f (tree.None t) ts h = refl
   named_letter e f tree.Some ts h = refl
@@ -90,38 +91,38 @@ app_marked f (App t o) ts us ty op e = refl
 
 -- ---- the term with a number
 
-module _ {file : Bytes} {work : List ℕ} {sizes : Sizes} {n o l : ℕ} (place : o ≡ cell work sizes.rows term_offset n) (i : l ≡ get_or (mark_at file o) 1 0) where
-  lettered : {P : Type 0} (f : TermFile) → Index file f work sizes → n < length (terms f)
+module _ (records : Records) {n o l : ℕ} (place : o ≡ cell records.work.now records.sizes.rows term_offset n) (i : l ≡ get_or (mark_at records.file.now o) 1 0) where
+  lettered : {P : Type 0} (f : TermFile) → IndexOf f records → n < length (terms f)
       → ((m : TermMark ℕ ℕ) (rs : List ℕ) → l ≡ get_or (term_bytes m) 1 0 → node (named_mark f m) (forest (map (term_at f) rs)) ≡ term_at f n → P) → P
   unfolding entry_at mark_of
   lettered f I inside next =
       term_stands (I.rows.term_row n inside).stands (λ m rs reads marks below tree.
-      let here : entry_at file o ≡ some (fields.term m rs) = rw place reads in
-      next m rs (i ∙ ap (λ (s : Bytes). get_or s 1 0) (entry_mark (mark_at file o) (body_at file o) here)) tree)
+      let here : entry_at records.file.now o ≡ some (fields.term m rs) = rw place reads in
+      next m rs (i ∙ ap (λ (s : Bytes). get_or s 1 0) (entry_mark (mark_at records.file.now o) (body_at records.file.now o) here)) tree)
 
-  module _ {limit at q : ℕ} {x y : Bytes} where
-    pub marked_call : l ≡ 65 → SpellsCall file work sizes n limit x at y q → SpellsAtom file work sizes n limit x at y q
+  module _ {v w : Writer} where
+    pub marked_call : l ≡ 65 → SpellsCall records n v w → SpellsAtom records n v w
     unfolding named_mark
     marked_call e C = record {
+      same = (C (λ t. none)).same;
       go = λ f S I N inside. lettered f I inside (λ mk rs h tree.
           app_letter mk (sym e ∙ h) (λ t op is.
-          C.go f S I N inside _ _ _ (ap (λ (mk : TermMark ℕ ℕ). node (named_mark f mk) (forest (map (term_at f) rs))) (sym is) ∙ tree) (members f)));
+          let is_call = ap (λ (mk : TermMark ℕ ℕ). node (named_mark f mk) (forest (map (term_at f) rs))) (sym is) ∙ tree in
+          (C (members f)).go f S I N (record { inside = inside; result = _; op = _; children = _; tree = is_call })));
     }
 
     -- a term that is no application by its letter
-    pub marked_leaf : OneOf inline l → SpellsLeaf file work sizes n limit x at y q → SpellsAtom file work sizes n limit x at y q
-    marked_leaf k L = record {
-      go = λ f S I N inside. lettered f I inside (λ mk rs h tree.
-          L.go f S I N inside (λ ty op ts e. absurd (miss inline 65 tt (subst (OneOf inline) (h ∙ app_marked f mk _ ts ty op (tree ∙ sym e)) k))));
-    }
+    pub marked_leaf : OneOf inline l → SpellsLeaf records n v w → SpellsAtom records n v w
+    marked_leaf h L =
+        knowing (λ f I inside. lettered f I inside (λ mk rs letter tree.
+        record { inside = inside; other = λ ty op ts e. absurd (miss inline 65 tt (subst (OneOf inline) (letter ∙ app_marked f mk _ ts ty op (tree ∙ sym e)) h)) })) L
 
     -- an application with another code than that of `Bvnego` has a name
-    pub marked_other : {body : Bytes} {b : Bool} → l ≡ 65 → body ≡ body_at file o → OtherCode body b → b ≡ true → Appends limit x at y q (term_name_of work sizes.rows n) → SpellsAtom file work sizes n limit x at y q
-    marked_other e here C h A = marked_call e (call_named (of_unlike place (record_other here C) h) (inl refl) A)
+    pub marked_other : {body : Bytes} {b : Bool} → l ≡ 65 → body ≡ body_at records.file.now o → OtherCode body b → b ≡ true → Writes v w (term_name_of records n) → SpellsAtom records n v w
+    marked_other e here C h A = marked_call e (call_named (of_unlike place (record_other here C) h) (λ e. never cc) A)
 
-    pub marked_named : (l ≡ 65 → ⊥) → (OneOf inline l → ⊥) → Appends limit x at y q (term_name_of work sizes.rows n) → SpellsAtom file work sizes n limit x at y q
-    marked_named a b A = record {
-      go = λ f S I N inside. lettered f I inside (λ mk rs h tree.
-          let no : inlined (members f) (term_at f n) ≡ false = ap (inlined (members f)) (sym tree) ∙ named_letter a b (members f) f mk _ h in
-          says (name_is I N inside ∙ named_is (members f) (names S) (term_at f n) no) A);
-    }
+    pub marked_named : (l ≡ 65 → ⊥) → (l ≡ 66 → ⊥) → (l ≡ 69 → ⊥) → (l ≡ 78 → ⊥) → (l ≡ 83 → ⊥) → Writes v w (term_name_of records n) → SpellsAtom records n v w
+    marked_named a b x y z A =
+        spells_as (λ f S I N inside. lettered f I inside (λ mk rs h tree.
+        let no : inlined (members f) (term_at f n) ≡ false = ap (inlined (members f)) (sym tree) ∙ named_letter a b x y z (members f) f mk _ h in
+        name_is records I N inside ∙ named_is (members f) (names S) (term_at f n) no)) (written A)

@@ -1,69 +1,97 @@
 // Extension values.
 ghost use Rattle.std.specs.Prelude.{◌++◌};
 ghost use Rattle.script_spec.specs.Base.{bytes};
-ghost use Rattle.script_spec.specs.Tree.{V4, V6};
 ghost use Rattle.script_spec.specs.Spelling.{bit_vec, prefix_length, ext_value};
-ghost use Rattle.write_bytes.specs.Writing.{Appends};
-ghost use Rattle.write_bitvec.specs.Value.{of_halves};
+ghost use Rattle.write_bytes.specs.Writers.{Writes};
+ghost use Rattle.read_field.specs.Takes.{prefix_number};
 ghost use Rattle.index_entry.specs.Terms.{value_of};
 
 use index_entry::terms::Value;
-use write_bitvec::halves::Halves;
+use write_bitvec::spelling;
+use write_bytes::writer::Writer;
 
-// Writes a prefix in n bits, or an absent one.
-fn put_prefix(out: &mut [u8], at: usize, limit: usize, n: u32, p: u32) -> usize
-    ensures { Appends limit out.old at out.new result (prefix_length n p) }
+// Writes an absent prefix of n bits.
+fn put_absent(w: &mut Writer<'_>, n: u32)
+    ensures { Writes w.old w.new (prefix_length n 255) }
 {
-    if p == read_field::NO_PREFIX {
-        let a = write_bytes::put_at(out, at, limit, b"(as none (Option ");
-        let b = write_bitvec::spelling::put_bitvec_sort(out, a, limit, n);
-        return write_bytes::put_at(out, b, limit, b"))");
+    w.put(b"(as none (Option ");
+    spelling::put_bitvec_sort(w, n);
+    w.put(b"))")
+}
+
+// Writes a prefix in n bits, or an absent one, for which 255 stands too.
+fn put_prefix(w: &mut Writer<'_>, n: u32, prefix: Option<u32>)
+    ensures { Writes w.old w.new (prefix_length n (prefix_number prefix)) }
+{
+    match prefix {
+        None => put_absent(w, n),
+        Some(p) => {
+            if p == 255 {
+                return put_absent(w, n);
+            }
+            w.put(b"(some ");
+            spelling::put_bitvec(w, n, u128::from(p));
+            w.put_byte(b')')
+        }
     }
-    let a = write_bytes::put_at(out, at, limit, b"(some ");
-    let b = write_bitvec::spelling::put_bitvec(out, a, limit, n, 0, p as u64);
-    write_bytes::put_byte(out, b, limit, b')')
 }
 
-// Writes an address of 32 bits with its prefix.
-fn put_v4(out: &mut [u8], at: usize, limit: usize, address: u64, p: u32) -> usize
-    ensures { Appends limit out.old at out.new result (ext_value (V4 address p)) }
-{
-    let a = write_bytes::put_at(out, at, limit, b"(V4 ");
-    let b = write_bitvec::spelling::put_bitvec(out, a, limit, 32, 0, address);
-    let c = write_bytes::put_byte(out, b, limit, b' ');
-    let d = put_prefix(out, c, limit, 5, p);
-    write_bytes::put_byte(out, d, limit, b')')
+// An address of so many bits, with its prefix in so many.
+#[derive(Clone, Copy)]
+struct Address {
+    width: u32,
+    value: u128,
+    prefix_width: u32,
+    prefix: Option<u32>,
 }
 
-// Writes an address of 128 bits with its prefix.
-fn put_v6(out: &mut [u8], at: usize, limit: usize, address: Halves, p: u32) -> usize
-    ensures { Appends limit out.old at out.new result (ext_value (V6 (of_halves address.high address.low) p)) }
+// Writes an address with its prefix after what stands before them.
+fn put_address(w: &mut Writer<'_>, head: &[u8], address: Address)
+    ensures { Writes w.old w.new (head.now ++ (bit_vec address.width address.value ++ (bytes " " ++ (prefix_length address.prefix_width (prefix_number address.prefix) ++ bytes ")")))) }
 {
-    let a = write_bytes::put_at(out, at, limit, b"(V6 ");
-    let b = write_bitvec::spelling::put_bitvec(out, a, limit, 128, address.high, address.low);
-    let c = write_bytes::put_byte(out, b, limit, b' ');
-    let d = put_prefix(out, c, limit, 7, p);
-    write_bytes::put_byte(out, d, limit, b')')
+    w.put(head);
+    spelling::put_bitvec(w, address.width, address.value);
+    w.put_byte(b' ');
+    put_prefix(w, address.prefix_width, address.prefix);
+    w.put_byte(b')')
 }
 
 // Writes 64 bits after what stands before them.
-fn put_number(out: &mut [u8], at: usize, limit: usize, head: &[u8], n: u64) -> usize
-    ensures { Appends limit out.old at out.new result (head.now ++ (bit_vec 64 n ++ bytes ")")) }
+fn put_number(w: &mut Writer<'_>, head: &[u8], n: u64)
+    ensures { Writes w.old w.new (head.now ++ (bit_vec 64 n ++ bytes ")")) }
 {
-    let a = write_bytes::put_at(out, at, limit, head);
-    let b = write_bitvec::spelling::put_bitvec(out, a, limit, 64, 0, n);
-    write_bytes::put_byte(out, b, limit, b')')
+    w.put(head);
+    spelling::put_bitvec(w, 64, u128::from(n));
+    w.put_byte(b')')
 }
 
 // Writes an extension value.
-pub fn put_ext_value(out: &mut [u8], at: usize, limit: usize, v: Value) -> usize
-    ensures { Appends limit out.old at out.new result (ext_value (value_of v)) }
+pub fn put_ext_value(w: &mut Writer<'_>, value: Value)
+    ensures { Writes w.old w.new (ext_value (value_of value)) }
 {
-    match v {
-        Value::V4(a, p) => put_v4(out, at, limit, a, p),
-        Value::V6(a, p) => put_v6(out, at, limit, a, p),
-        Value::Decimal(n) => put_number(out, at, limit, b"(Decimal ", n),
-        Value::Datetime(n) => put_number(out, at, limit, b"(Datetime ", n),
-        Value::Duration(n) => put_number(out, at, limit, b"(Duration ", n),
+    match value {
+        Value::V4(a, prefix) => put_address(
+            w,
+            b"(V4 ",
+            Address {
+                width: 32,
+                value: u128::from(a),
+                prefix_width: 5,
+                prefix,
+            },
+        ),
+        Value::V6(a, prefix) => put_address(
+            w,
+            b"(V6 ",
+            Address {
+                width: 128,
+                value: a,
+                prefix_width: 7,
+                prefix,
+            },
+        ),
+        Value::Decimal(n) => put_number(w, b"(Decimal ", n),
+        Value::Datetime(n) => put_number(w, b"(Datetime ", n),
+        Value::Duration(n) => put_number(w, b"(Duration ", n),
     }
 }

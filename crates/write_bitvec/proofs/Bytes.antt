@@ -10,7 +10,6 @@ use lib.ListN.{length, get_or, take, drop, length-take, drop_of_length-le}
 use lib.Pow.{pow_pos, pow_mono, pow-add}
 use lib.Seq.{drop-cons, get_or-take}
 use Rattle.script_spec.specs.Fields.{low, high}
-use Rattle.write_bitvec.specs.Value.{of_halves}
 
 -- ---- sizes
 
@@ -21,11 +20,11 @@ bytes_lt v b k h g =
     let p : 2 ^ (8 * (k + 1)) ≡ 2 ^ (8 * k) * 256 = ap (λ (n : ℕ). 2 ^ n) e ∙ pow-add 2 (8 * k) 8 in
     omega arith
 
--- fewer than 16 bytes leave a byte free at the high end
-pub high_lt : (h l k : ℕ) → k < 16 → of_halves h l < 2 ^ (8 * k) → h < 2 ^ 56
-high_lt h l k b g =
+-- fewer than 16 bytes leave room for one more
+pub byte_fits : (v b k : ℕ) → b < 256 → k < 16 → v < 2 ^ (8 * k) → v * 256 + b < 2 ^ 128
+byte_fits v b k h g e =
     let q : 8 * k ≤ 120 = omega arith in
-    let w : of_halves h l < 2 ^ 120 = lt_of_lt_of_le g (pow_mono q) in
+    let w : v < 2 ^ 120 = lt_of_lt_of_le e (pow_mono q) in
     omega arith
 
 -- ---- the first 16 bytes
@@ -47,7 +46,7 @@ pub record Low (s : List ℕ) (v i : ℕ) : Type 0 where
   pub value : v ≡ low (drop i (take 16 s))
   pub small : v < 2 ^ (8 * (16 - i))
 
-pub low_start : (s : List ℕ) (i : ℕ) → i ≡ min 16 (length s) → Low s 0 i
+pub low_start : (s : List ℕ) (i : ℕ) → i ≡ min (length s) 16 → Low s 0 i
 unfolding low
 low_start s i h =
     record {
@@ -57,9 +56,9 @@ low_start s i h =
       small = pow_pos (8 * (16 - i));
     }
 
-pub low_next : (s : List ℕ) (v w i : ℕ) → Low s v i → 0 < i → get_or s (i - 1) 0 < 256 → w ≡ v * 256 + get_or s (i - 1) 0 → Low s w (i - 1)
+pub low_next : (s : List ℕ) (v b i : ℕ) → Low s v i → 0 < i → b ≡ get_or s (i - 1) 0 → b < 256 → Low s (v * 256 + b) (i - 1)
 unfolding low
-low_next s v w i r h b e =
+low_next s v b i r h e k =
     let back : i - 1 + 1 ≡ i = omega arith in
     let less : 16 - i + 1 ≡ 16 - (i - 1) = omega arith in
     let c : drop (i - 1) (take 16 s) ≡ get_or s (i - 1) 0 ∷ drop i (take 16 s) = rw (first_cons s (i - 1) (omega arith) (omega arith), back) in
@@ -67,7 +66,7 @@ low_next s v w i r h b e =
       first = omega arith;
       inside = omega arith;
       value = rw c (omega arith);
-      small = rw (e, ← less) (bytes_lt v (get_or s (i - 1) 0) (16 - i) b r.small);
+      small = rw (← less) (bytes_lt v b (16 - i) k r.small);
     }
 
 pub low_end : (s : List ℕ) (v i : ℕ) → Low s v i → i ≤ 0 → v ≡ low (take 16 s)
@@ -75,22 +74,22 @@ low_end s v i r h = let z : i ≡ 0 = omega arith in rw z at r.value
 
 -- ---- high byte first
 
--- v is the number of the bytes before i
+-- v is the number of the bytes of s before i
 pub record High (s : List ℕ) (v i : ℕ) : Type 0 where
-  pub value : high v (drop i (take 16 s)) ≡ high 0 (take 16 s)
+  pub value : high v (drop i s) ≡ high 0 s
   pub small : v < 2 ^ (8 * i)
 
 pub high_start : (s : List ℕ) → High s 0 0
 high_start s = record { value = refl; small = pow_pos 0 }
 
-pub high_next : (s : List ℕ) (v w i n : ℕ) → High s v i → n ≡ min 16 (length s) → i < n → get_or s i 0 < 256 → w ≡ v * 256 + get_or s i 0 → High s w (i + 1)
+pub high_next : (s : List ℕ) (v b i : ℕ) → High s v i → i < length s → b ≡ get_or s i 0 → b < 256 → High s (v * 256 + b) (i + 1)
 unfolding high
-high_next s v w i n r m h b e =
+high_next s v b i r h e l =
     record {
-      value = rw e (rw (first_cons s i (omega arith) (omega arith)) at r.value);
-      small = rw e (bytes_lt v (get_or s i 0) i b r.small);
+      value = rw (e, add-one) (rw (drop-cons s i 0 h) at r.value);
+      small = bytes_lt v b i l r.small;
     }
 
-pub high_end : (s : List ℕ) (v i n : ℕ) → High s v i → n ≡ min 16 (length s) → n ≤ i → v ≡ high 0 (take 16 s)
+pub high_end : (s : List ℕ) (v i : ℕ) → High s v i → length s ≤ i → v ≡ high 0 s
 unfolding high
-high_end s v i n r m h = rw (drop_of_length-le (take 16 s) {i = i} (first_length s i (omega arith))) at r.value
+high_end s v i r h = rw (drop_of_length-le s {i = i} h) at r.value

@@ -1,7 +1,7 @@
 -- The spellings of bit vectors and their sorts, as their pieces are written one after another. Assumes nothing.
 use mathlib.Core.Path.{◌≡◌, refl}
 use mathlib.Core.List.{[], ◌∷◌, ◌++◌, append_assoc}
-use Prim.Native.Nat.{ℕ, ◌-◌, ◌%◌, ◌^◌}
+use Prim.Native.Nat.{ℕ}
 use Rattle.script_spec.specs.Base.{bytes, joined}
 use Rattle.script_spec.specs.Text.{decimal}
 use Rattle.script_spec.specs.Command.{headed, spaced}
@@ -14,6 +14,3 @@ bit_vec_pieces n v = simp append_assoc
 pub bit_vec_sort_pieces : (n : ℕ) → bytes "(_ BitVec " ++ (decimal n ++ (41 ∷ [])) ≡ bit_vec_sort n
 unfolding bytes bit_vec_sort headed spaced joined
 bit_vec_sort_pieces n = refl
-
-pub bit_vec_power : (n k v : ℕ) → k ≡ n - 1 → v ≡ 2 ^ k % 2 ^ 128 → bit_vec n v ≡ bit_vec n (2 ^ (n - 1) % 2 ^ 128)
-bit_vec_power n k v e f = rw (f, e)

@@ -1,15 +1,16 @@
 -- What the constructors of bit vectors answer, with document 01's number for a refusal.
 -- Assumes nothing.
-use Rattle.std.specs.Prelude.{ℕ, ◌-◌, ◌^◌, Bool, true, false, ◌&&◌, ltb, ℤ}
+use Rattle.std.specs.Prelude.{ℕ, ◌-◌, ◌^◌, Bool, true, false, ◌&&◌, ltb, ℤ, Result, Ok, Err}
 use Rattle.script_spec.specs.Base.{Answer, accepted, refused, between}
-use Rattle.write_bitvec.specs.Value.{of_halves, twos_complement}
-use Rattle.write_bitvec.specs.declared.Made.{Made}
-use Rattle.write_bitvec.specs.declared.Made.TheVariants.{Vector, Refused}
+use Rattle.refusal.specs.declared.Refusal.{Refusal}
+use Rattle.refusal.specs.Numbers.{number}
+use Rattle.write_bitvec.specs.Value.{twos_complement}
+use Rattle.write_bitvec.specs.declared.BitVec.{BitVec}
 
--- what a constructor's answer says: a width and a value, or refusal 7
-unfoldable pub said : Made → Answer (ℕ × ℕ)
-said (Vector b) = accepted (b.width, of_halves b.high b.low)
-said Refused = refused 7 0
+-- what a constructor's answer says: a width and a value, or a refusal's number
+unfoldable pub said : Result BitVec Refusal → Answer (ℕ × ℕ)
+said (Ok b) = accepted (b.width, b.value)
+said (Err r) = refused (number r) 0
 
 -- n bits with value v if a test passes, else refusal 7
 unfoldable pub vector_if : Bool → ℕ → ℕ → Answer (ℕ × ℕ)

@@ -1,88 +1,86 @@
-// Bit vectors of 1 to 128 bits (bitvec.rs), over numbers in two halves of 64 bits.
+// Bit vectors of 1 to 128 bits (bitvec.rs).
 #![tactic(auto)]
 
-pub mod decimal;
-pub mod halves;
 pub mod reading;
 pub mod spelling;
 
-ghost use Rattle.std.specs.Prelude.{◌≡◌};
-ghost use Rattle.write_bitvec.specs.Value.{of_halves, twos_complement};
+ghost use Rattle.std.specs.Prelude.{◌≡◌, ◌%◌, ◌^◌, ltb};
+ghost use Rattle.write_bitvec.specs.Value.{twos_complement};
 ghost use Rattle.write_bitvec.specs.Vector.{said, new_vector, of_int, int_min};
 
-use halves::Halves;
+use refusal::Refusal;
 
-// A bit vector by its width and the halves of its value.
+// A bit vector by its width and its value.
 #[derive(Clone, Copy)]
 pub struct BitVec {
     pub width: u32,
-    pub high: u64,
-    pub low: u64,
+    pub value: u128,
 }
 
-// What a constructor answers; a width or a value outside its range is refused.
-#[derive(Clone, Copy)]
-pub enum Made {
-    Vector(BitVec),
-    Refused,
-}
-
-// The bit vector of a value that fits its width.
-pub fn new(width: u32, high: u64, low: u64) -> Made
-    ensures { said result ≡ new_vector width (of_halves high low) }
+// 2^k, or 0 where that is not below 2^128.
+fn power(k: u32) -> u128
+    ensures { result ≡ 2 ^ k % 2 ^ 128 }
 {
-    if !read_field::is_width(width) {
-        return Made::Refused;
-    }
-    if !halves::fits(width, high, low) {
-        return Made::Refused;
-    }
-    Made::Vector(BitVec { width, high, low })
+    if k < 128 { 1 << k } else { 0 }
 }
 
-// A signed number in 128 bits. Of a negative one, -1 - v is never too large.
-fn signed(v: i64) -> Halves
-    ensures { of_halves result.high result.low ≡ twos_complement 128 v }
+// Whether a value fits into `width` bits.
+pub fn fits(width: u32, value: u128) -> bool
+    ensures { result ≡ ltb value (2 ^ width) }
 {
-    if v < 0 {
-        return Halves {
-            high: 0xffff_ffff_ffff_ffff,
-            low: 0xffff_ffff_ffff_ffff - (-1 - v) as u64,
-        };
+    if width < 128 {
+        return value < power(width);
     }
-    Halves {
-        high: 0,
-        low: v as u64,
-    }
+    true
 }
 
-// The signed number in `width` bits; it wraps where it does not fit.
-pub fn of_int(width: u32, v: i64) -> Made
-    ensures { said result ≡ of_int width v }
+// A value's last `width` bits.
+fn wrap(width: u32, value: u128) -> u128
+    ensures { result ≡ value % 2 ^ width }
 {
-    if !read_field::is_width(width) {
-        return Made::Refused;
+    if width < 128 {
+        return value % power(width);
     }
-    let all = signed(v);
-    let last = halves::wrap(width, all.high, all.low);
-    Made::Vector(BitVec {
-        width,
-        high: last.high,
-        low: last.low,
-    })
+    value
 }
 
-// The least signed number of `width` bits.
-pub fn int_min(width: u32) -> Made
-    ensures { said result ≡ int_min width }
+// A signed number in 128 bits.
+fn signed(v: i64) -> u128
+    ensures { result ≡ twos_complement 128 v }
 {
-    if !read_field::is_width(width) {
-        return Made::Refused;
+    i128::from(v).cast_unsigned()
+}
+
+impl BitVec {
+    // The bit vector of a value that fits its width.
+    pub fn new(width: u32, value: u128) -> Result<BitVec, Refusal>
+        ensures { said result ≡ new_vector width value }
+    {
+        if !read_field::is_width(width) || !fits(width, value) {
+            return Err(Refusal::OutOfRange);
+        }
+        Ok(BitVec { width, value })
     }
-    let v = halves::power(width - 1);
-    Made::Vector(BitVec {
-        width,
-        high: v.high,
-        low: v.low,
-    })
+
+    // The signed number in `width` bits; it wraps where it does not fit.
+    pub fn of_int(width: u32, v: i64) -> Result<BitVec, Refusal>
+        ensures { said result ≡ of_int width v }
+    {
+        if !read_field::is_width(width) {
+            return Err(Refusal::OutOfRange);
+        }
+        let value = wrap(width, signed(v));
+        Ok(BitVec { width, value })
+    }
+
+    // The least signed number of `width` bits.
+    pub fn int_min(width: u32) -> Result<BitVec, Refusal>
+        ensures { said result ≡ int_min width }
+    {
+        if !read_field::is_width(width) {
+            return Err(Refusal::OutOfRange);
+        }
+        let value = power(width - 1);
+        Ok(BitVec { width, value })
+    }
 }

@@ -1,36 +1,13 @@
--- Buffers zeroed: a loop that has zeroed its first entries, and zeros in the part from a place on.
+-- Buffers zeroed from a place on.
 -- Assumes nothing.
-use mathlib.Core.Path.{◌≡◌, refl, ap, ◌∙◌}
-use mathlib.Core.List.{List, [], ◌∷◌, ◌++◌, append-nil}
-use Prim.Native.Nat.{ℕ, zero, suc, ◌+◌, ◌-◌, ◌≤◌, ◌<◌, min}
+use mathlib.Core.Path.{◌≡◌, refl, ap}
+use mathlib.Core.List.{[], ◌∷◌, ◌++◌, append-nil}
+use Prim.Native.Nat.{ℕ, zero, suc, ◌-◌, ◌≤◌, min}
 use native.Mathlib.Omega.{arith}
-use borrow.Author.Fill.{fill_more}
-use lib.ListN.{length, take, drop, set, replicate, length-drop, length-set, drop_of_length-le}
+use lib.ListN.{length, take, drop, replicate, length-drop, drop_of_length-le}
 use lib.Seq.{take-nil, take_all}
 use Rattle.script_spec.specs.Base.{Bytes}
 use Rattle.write_bytes.specs.Writing.{cleared}
-
--- a loop that has zeroed its first n entries of d, and made e of it
-pub record Zeroed (n : ℕ) (d e : List ℕ) : Type 0 where
-  pub within : n ≤ length d
-  pub holds : e ≡ replicate n 0 ++ drop n d
-  pub size : length e ≡ length d
-
-pub zeroed_none : (d : List ℕ) → Zeroed 0 d d
-zeroed_none d = record { within = omega arith; holds = refl; size = refl }
-
-pub zeroed_suc : {n : ℕ} {d e : List ℕ} → n < length e → Zeroed n d e → Zeroed (n + 1) d (set e n 0)
-zeroed_suc {n} {d} {e} h z = record {
-  within = omega arith;
-  holds = rw z.holds (fill_more n 0 d (omega arith));
-  size = simp length-set z.size;
-}
-
-pub zeroed_all : {n : ℕ} {d e : List ℕ} → length e ≤ n → Zeroed n d e → e ≡ replicate (length d) 0
-zeroed_all {n} {d} {e} h z =
-    let k : length d ≤ n = omega arith in
-    let same : n ≡ length d = omega arith in
-    z.holds ∙ (rw (drop_of_length-le d k, append-nil) (ap (λ (m : ℕ). replicate m 0) same))
 
 -- a cut at the end or past it
 take_min : (x : Bytes) (n p : ℕ) → p ≡ min n (length x) → take p x ≡ take n x

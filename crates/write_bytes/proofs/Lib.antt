@@ -1,4 +1,5 @@
 pub mod Laws
+pub mod Rest
 pub mod Loop
 mod Put
 mod Clearing

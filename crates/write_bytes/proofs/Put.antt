@@ -1,64 +1,45 @@
--- One write into a buffer: a copy of bytes into the part that the limit leaves, and a byte that is stored.
+-- One write into a buffer: a text copied into the part that the limit leaves, and a byte that is stored.
 -- Assumes nothing.
 use mathlib.Core.Path.{◌≡◌, refl, sym, ap, ◌∙◌}
 use mathlib.Core.List.{[], ◌∷◌, ◌++◌}
 use Prim.Native.Nat.{ℕ, zero, suc, ◌+◌, ◌-◌, ◌≤◌, ◌<◌, min}
 use native.Mathlib.Nat.{not-suc-le-zero}
 use native.Mathlib.Omega.{arith}
-use lib.ListN.{length, take, drop, get_or, set, length-append, take-append-drop}
+use lib.ListN.{length, take, drop, set, length-append, length-take, length-drop, length-set}
 use Rattle.script_spec.specs.Base.{Bytes}
-use Rattle.write_bytes.specs.Writing.{laid, ceiling, moved, Appends}
+use Rattle.write_bytes.specs.declared.writer.Writer.{Writer}
+use Rattle.write_bytes.specs.Writing.{laid, longest, ceiling}
+use Rattle.write_bytes.specs.Writers.{Writes}
 use Rattle.write_bytes.proofs.Laws.{length_laid, laid_nil, laid_full}
 
 -- ---- bytes laid over a part
 
--- a turn of a loop that copies
-pub laid_suc : (i : ℕ) (o s : Bytes) → i < length o → i < length s → set (laid i o s) i (get_or s i 0) ≡ laid (suc i) o s
+-- the bytes of s that fit, and what the buffer held after them
+laid_cut : (n k : ℕ) (o s : Bytes) → k ≡ min (length s) (min (length o) n) → take k s ++ drop k o ≡ laid n o s
 unfolding laid
-laid_suc i [] s h k = absurd (not-suc-le-zero h)
-laid_suc i (x ∷ o) [] h k = absurd (not-suc-le-zero k)
-laid_suc zero (x ∷ o) (b ∷ s) h k = refl
-laid_suc (suc i) (x ∷ o) (b ∷ s) h k = ap (λ (l : Bytes). b ∷ l) (laid_suc i o s (omega arith) (omega arith))
-
--- a copy that stops where the buffer or the bytes end is whole
-pub laid_whole : (n m : ℕ) (o s : Bytes) → min (length o) (length s) ≤ n → min (length o) (length s) ≤ m → laid n o s ≡ laid m o s
-unfolding laid
-laid_whole zero zero o s h k = refl
-laid_whole zero (suc m) [] s h k = refl
-laid_whole zero (suc m) (x ∷ o) [] h k = refl
-laid_whole zero (suc m) (x ∷ o) (b ∷ s) h k = absurd (omega arith)
-laid_whole (suc n) zero [] s h k = refl
-laid_whole (suc n) zero (x ∷ o) [] h k = refl
-laid_whole (suc n) zero (x ∷ o) (b ∷ s) h k = absurd (omega arith)
-laid_whole (suc n) (suc m) [] s h k = refl
-laid_whole (suc n) (suc m) (x ∷ o) [] h k = refl
-laid_whole (suc n) (suc m) (x ∷ o) (b ∷ s) h k = ap (λ (l : Bytes). b ∷ l) (laid_whole n m o s (omega arith) (omega arith))
-
--- a write into the part that the limit leaves
-laid_part : (n q : ℕ) (o s : Bytes) → q ≡ min (length o) n → laid (length (take q o)) (take q o) s ++ drop q o ≡ laid n o s
-unfolding laid
-laid_part zero zero o s h = refl
-laid_part zero (suc q) o s h = absurd (omega arith)
-laid_part (suc n) zero [] s h = refl
-laid_part (suc n) zero (x ∷ o) s h = absurd (omega arith)
-laid_part (suc n) (suc q) [] s h = absurd (omega arith)
-laid_part (suc n) (suc q) (x ∷ o) [] h = ap (λ (l : Bytes). x ∷ l) (take-append-drop q o)
-laid_part (suc n) (suc q) (x ∷ o) (b ∷ s) h = ap (λ (l : Bytes). b ∷ l) (laid_part n q o s (omega arith))
+laid_cut zero zero o s h = refl
+laid_cut zero (suc k) o s h = absurd (omega arith)
+laid_cut (suc n) zero [] s h = refl
+laid_cut (suc n) (suc k) [] s h = absurd (omega arith)
+laid_cut (suc n) zero (x ∷ o) [] h = refl
+laid_cut (suc n) (suc k) (x ∷ o) [] h = absurd (omega arith)
+laid_cut (suc n) zero (x ∷ o) (b ∷ s) h = absurd (omega arith)
+laid_cut (suc n) (suc k) (x ∷ o) (b ∷ s) h = ap (λ (l : Bytes). b ∷ l) (laid_cut n k o s (omega arith))
 
 -- a write into the part from p on continues what was written before p
-laid_rest : (n p q : ℕ) (o a s : Bytes) → p ≡ min (length a) (min (length o) n) → p + q ≡ min (length o) n
-    → take p (laid n o a) ++ (laid (length (take q (drop p (laid n o a)))) (take q (drop p (laid n o a))) s ++ drop q (drop p (laid n o a))) ≡ laid n o (a ++ s)
+laid_rest : (n p k : ℕ) (o a s : Bytes) → p ≡ min (length a) (min (length o) n) → k ≡ min (length s) (min (length o) n - p)
+    → take p (laid n o a) ++ (take k s ++ drop k (drop p (laid n o a))) ≡ laid n o (a ++ s)
 unfolding laid
-laid_rest n zero q o [] s h k = rw (laid_nil n o) (laid_part n q o s (omega arith))
-laid_rest n (suc p) q o [] s h k = absurd (omega arith)
-laid_rest zero zero zero o (b ∷ a) s h k = refl
-laid_rest zero zero (suc q) o (b ∷ a) s h k = absurd (omega arith)
-laid_rest zero (suc p) q o (b ∷ a) s h k = absurd (omega arith)
-laid_rest (suc n) zero zero [] (b ∷ a) s h k = refl
-laid_rest (suc n) zero (suc q) [] (b ∷ a) s h k = absurd (omega arith)
-laid_rest (suc n) (suc p) q [] (b ∷ a) s h k = absurd (omega arith)
-laid_rest (suc n) zero q (x ∷ o) (b ∷ a) s h k = absurd (omega arith)
-laid_rest (suc n) (suc p) q (x ∷ o) (b ∷ a) s h k = ap (λ (l : Bytes). b ∷ l) (laid_rest n p q o a s (omega arith) (omega arith))
+laid_rest n zero k o [] s h e = rw (laid_nil n o) (laid_cut n k o s (omega arith))
+laid_rest n (suc p) k o [] s h e = absurd (omega arith)
+laid_rest zero zero zero o (b ∷ a) s h e = refl
+laid_rest zero zero (suc k) o (b ∷ a) s h e = absurd (omega arith)
+laid_rest zero (suc p) k o (b ∷ a) s h e = absurd (omega arith)
+laid_rest (suc n) zero zero [] (b ∷ a) s h e = refl
+laid_rest (suc n) zero (suc k) [] (b ∷ a) s h e = absurd (omega arith)
+laid_rest (suc n) (suc p) k [] (b ∷ a) s h e = absurd (omega arith)
+laid_rest (suc n) zero k (x ∷ o) (b ∷ a) s h e = absurd (omega arith)
+laid_rest (suc n) (suc p) k (x ∷ o) (b ∷ a) s h e = ap (λ (l : Bytes). b ∷ l) (laid_rest n p k o a s (omega arith) (omega arith))
 
 -- a byte after what is written
 laid_byte : (n : ℕ) (o a : Bytes) (b : ℕ) → length a < n → length a < length o → set (laid n o a) (length a) b ≡ laid n o (a ++ (b ∷ []))
@@ -70,57 +51,62 @@ laid_byte (suc n) (x ∷ o) (c ∷ a) b h k = ap (λ (l : Bytes). c ∷ l) (laid
 
 -- ---- one write
 
--- the part that a write goes into starts where the bytes before it end, or is empty
-part_start : (la lo m at p q : ℕ) → min at (m + 1) ≡ min la (m + 1) → q ≡ min lo m → p ≡ min at q → p ≡ min la (min lo m)
-part_start la lo m at p q h k l = omega arith
+-- the part that a write goes into starts where the bytes before it end, or at its end e
+part_start : (la lo m c at p e : ℕ) → c ≡ min m longest → lo ≤ longest → min at (c + 1) ≡ min la (c + 1) → e ≡ min lo m → p ≡ min at e → p ≡ min la (min lo c)
+part_start la lo m c at p e hc h g k l = omega arith
 
-part_size : (at p q : ℕ) → p ≡ min at q → p + (q - p) ≡ q
-part_size at p q h = omega arith
+part_size : (ls lo m c p k e : ℕ) → c ≡ min m longest → lo ≤ longest → e ≡ min lo m → k ≡ min ls (e - p) → k ≡ min ls (min lo c - p)
+part_size ls lo m c p k e hc h g l = omega arith
 
 -- the place after a write: past the limit, or within it
-place_moved : (la ls m at r : ℕ) → min at (m + 1) ≡ min la (m + 1) → r ≡ min (at + ls) (m + 1) → min r (m + 1) ≡ min (la + ls) (m + 1)
-place_moved la ls m at r h k = omega arith
+place_moved : (la ls c at r : ℕ) → min at (c + 1) ≡ min la (c + 1) → min r (c + 1) ≡ min (at + ls) (c + 1) → min r (c + 1) ≡ min (la + ls) (c + 1)
+place_moved la ls c at r h k = omega arith
 
--- a copy of s into the part of x from p to the limit
-pub put_appends : {limit at r p q m : ℕ} {x ys s : Bytes} → m ≡ ceiling limit → q ≡ min (length x) m → p ≡ min at q
-    → ys ≡ laid (length (take (q - p) (drop p x))) (take (q - p) (drop p x)) s → r ≡ moved at (length s) m
-    → Appends limit x at (take p x ++ (ys ++ drop (q - p) (drop p x))) r s
-put_appends {limit} {at} {r} {p} {q} {m} {x} {ys} {s} hm hq hp hy hr = record {
+-- as much of s as there is room for is copied to p
+pub put_writes : {v : Writer} {p q k e r : ℕ} {ys s : Bytes} → length v.out.now ≤ longest → e ≡ min (length v.out.now) v.limit → p ≡ min v.at e
+    → k ≡ min (length s) (e - p) → q ≡ k → ys ≡ take k s → min r (ceiling v.limit + 1) ≡ min (v.at + length s) (ceiling v.limit + 1)
+    → Writes v (record v { out = record v.out { now = take p v.out.now ++ (ys ++ drop q (drop p v.out.now)) }; at = r }) s
+put_writes {v} {p} {q} {k} {e} {r} {ys} {s} small he hp hk hq hy hr = record {
+  same = refl;
+  limit_is = refl;
+  size = rw (hq, hy) (simp (length-append, length-take, length-drop) (omega arith));
   go = λ o a w.
-      let e : x ≡ laid m o a = rw hm w.holds in
-      let l : length x ≡ length o = ap length e ∙ length_laid m o a in
-      let hat : min at (m + 1) ≡ min (length a) (m + 1) = rw hm w.place in
+      let l : length v.out.now ≡ length o = ap length w.holds ∙ length_laid (ceiling v.limit) o a in
+      let start : p ≡ min (length a) (min (length o) (ceiling v.limit)) = part_start (length a) (length o) v.limit (ceiling v.limit) v.at p e refl (omega arith) w.place (omega arith) hp in
+      let size : k ≡ min (length s) (min (length o) (ceiling v.limit) - p) = part_size (length s) (length o) v.limit (ceiling v.limit) p k e refl (omega arith) (omega arith) hk in
       record {
-        holds = rw (← hm) (rw (hy, e) (laid_rest m p (q - p) o a s (part_start (length a) (length o) m at p q hat (rw l at hq) hp) (part_size at p q hp ∙ (rw l at hq))));
-        place = rw (← hm) (simp length-append (place_moved (length a) (length s) m at r hat hr));
+        holds = rw (hq, hy, w.holds) (laid_rest (ceiling v.limit) p k o a s start size);
+        place = simp length-append (place_moved (length a) (length s) (ceiling v.limit) v.at r w.place hr);
       };
 }
 
--- a byte stored at its place, which is below the end q
-pub byte_appends : {limit at r q m b : ℕ} {x : Bytes} → m ≡ ceiling limit → q ≡ min (length x) m → at < q → r ≡ at + 1
-    → Appends limit x at (set x at b) r (b ∷ [])
-byte_appends {limit} {at} {r} {q} {m} {b} {x} hm hq h hr = record {
+-- a byte stored at its place, which is below the end
+pub byte_writes : {v : Writer} {e b : ℕ} → length v.out.now ≤ longest → e ≡ min (length v.out.now) v.limit → v.at < e
+    → Writes v (record v { out = record v.out { now = set v.out.now v.at b }; at = v.at + 1 }) (b ∷ [])
+byte_writes {v} {e} {b} small he h = record {
+  same = refl;
+  limit_is = refl;
+  size = length-set _ _ _;
   go = λ o a w.
-      let e : x ≡ laid m o a = rw hm w.holds in
-      let l : length x ≡ length o = ap length e ∙ length_laid m o a in
-      let hat : min at (m + 1) ≡ min (length a) (m + 1) = rw hm w.place in
-      let place : at ≡ length a = omega arith in
+      let l : length v.out.now ≡ length o = ap length w.holds ∙ length_laid (ceiling v.limit) o a in
+      let place : v.at ≡ length a = omega (arith, w.place) in
       record {
-        holds = rw (← hm) (rw (e, place) (laid_byte m o a b (omega arith) (omega arith)));
-        place = rw (← hm) (simp length-append (omega arith));
+        holds = rw (w.holds, place) (laid_byte (ceiling v.limit) o a b (omega arith) (omega arith));
+        place = simp length-append (omega arith);
       };
 }
 
--- a write whose place is at the end q or past it
-pub past_appends : {limit at r q m : ℕ} {x s : Bytes} → m ≡ ceiling limit → q ≡ min (length x) m → q ≤ at → r ≡ moved at (length s) m
-    → Appends limit x at x r s
-past_appends {limit} {at} {r} {q} {m} {x} {s} hm hq h hr = record {
+-- a write whose place is at the end or past it
+pub past_writes : {v : Writer} {e r : ℕ} {s : Bytes} → length v.out.now ≤ longest → e ≡ min (length v.out.now) v.limit → e ≤ v.at
+    → r ≡ min (v.at + length s) (ceiling v.limit + 1) → Writes v (record v { at = r }) s
+past_writes {v} {e} {r} {s} small he h hr = record {
+  same = refl;
+  limit_is = refl;
+  size = refl;
   go = λ o a w.
-      let e : x ≡ laid m o a = rw hm w.holds in
-      let l : length x ≡ length o = ap length e ∙ length_laid m o a in
-      let hat : min at (m + 1) ≡ min (length a) (m + 1) = rw hm w.place in
+      let l : length v.out.now ≡ length o = ap length w.holds ∙ length_laid (ceiling v.limit) o a in
       record {
-        holds = rw (← hm) (e ∙ laid_full m o a s (omega arith));
-        place = rw (← hm) (simp length-append (place_moved (length a) (length s) m at r hat hr));
+        holds = w.holds ∙ laid_full (ceiling v.limit) o a s (omega (arith, w.place));
+        place = simp length-append (place_moved (length a) (length s) (ceiling v.limit) v.at r w.place (omega arith));
       };
 }

@@ -1,10 +1,10 @@
 -- What a run of writes leaves in a buffer and in its place, and what a call that writes answers.
 -- Assumes nothing.
-use Rattle.std.specs.Prelude.{◌≡◌, [], ◌∷◌, ◌++◌, true, false, ℕ, zero, suc, ◌+◌, ◌-◌, ◌≤◌, min, leb, length, take, replicate}
+use Rattle.std.specs.Prelude.{◌≡◌, [], ◌∷◌, ◌++◌, true, false, ℕ, zero, suc, ◌+◌, ◌-◌, min, leb, length, take, replicate, Result, Ok, Err}
 use Rattle.script_spec.specs.Base.{Bytes, Answer, accepted, refused}
 use Rattle.script_spec.specs.Command.{left}
-use Rattle.write_bytes.specs.declared.Written.{Written}
-use Rattle.write_bytes.specs.declared.Written.TheVariants.{Length, NoRoom}
+use Rattle.refusal.specs.declared.Refusal.{Refusal}
+use Rattle.refusal.specs.Numbers.{number}
 
 -- a buffer with bytes laid over it from its start: at most `limit` of them, and cut where the buffer ends
 unfoldable pub laid : ℕ → Bytes → Bytes → Bytes
@@ -30,18 +30,14 @@ pub record Wrote (limit : ℕ) (o out : Bytes) (at : ℕ) (a : Bytes) : Type 0 w
   pub holds : out ≡ laid (ceiling limit) o a
   pub place : min at (ceiling limit + 1) ≡ min (length a) (ceiling limit + 1)
 
--- what a write of s does to a buffer x with the place `at`, whatever was written before it
-pub record Appends (limit : ℕ) (x : Bytes) (at : ℕ) (y : Bytes) (r : ℕ) (s : Bytes) : Type 0 where
-  pub go : (o a : Bytes) → Wrote limit o x at a → Wrote limit o y r (a ++ s)
-
 -- a buffer with zeros from a place on
 unfoldable pub cleared : Bytes → ℕ → Bytes
 cleared x from = take from x ++ replicate (length x - from) 0
 
 -- document 01's answer for each case
-unfoldable pub answer : Written → Answer ℕ
-answer (Length n) = accepted n
-answer NoRoom = refused 20 0
+unfoldable pub answer : Result ℕ Refusal → Answer ℕ
+answer (Ok n) = accepted n
+answer (Err r) = refused (number r) 0
 
 -- an answer by the length of what is written
 unfoldable pub length_of : Answer Bytes → Answer ℕ
@@ -56,8 +52,3 @@ pub record Leaves (x y : Bytes) (a : Answer ℕ) (w : Answer Bytes) : Type 0 whe
 -- the answer at the end of a run of writes whose limit is the buffer's length
 unfoldable pub ending : Bytes → ℕ → Answer Bytes
 ending x at = elim (leb at (length x)) [ true ↦ accepted (take at x) | false ↦ refused 20 0 ]
-
--- a run of writes is ended with the answer a; no slice is longer than the longest
-pub record Finishes (x : Bytes) (at : ℕ) (y : Bytes) (a : Answer ℕ) : Type 0 where
-  pub leaves : Leaves x y a (ending x at)
-  pub small : length x ≤ longest

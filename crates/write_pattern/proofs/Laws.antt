@@ -1,6 +1,6 @@
 -- Laws of patterns: the element at a cursor, and how a pattern is spelled by its elements.
 -- Assumes nothing.
-use mathlib.Core.Path.{◌≡◌, sym, ap, ◌∙◌}
+use mathlib.Core.Path.{◌≡◌, refl, sym, ap, subst, ◌∙◌}
 use mathlib.Core.List.{List, [], ◌∷◌, ◌++◌, map, append-nil, append_assoc}
 use mathlib.Core.Bool.{true, false}
 use Prim.Native.Nat.{ℕ, suc, ◌-◌, ◌/◌, ◌≤◌, ◌<◌}
@@ -9,6 +9,7 @@ use native.Mathlib.Numerals.{add-one}
 use native.Mathlib.Omega.{arith}
 use borrow.Author.Tests.{eq-eqb, ne_eqb}
 use lib.Dec.{leb→le}
+use denote.Ref.{Bor}
 use lib.ListN.{length, take, drop, length-drop}
 use Rattle.script_spec.specs.Base.{Bytes, bytes, joined, collect}
 use Rattle.script_spec.specs.Tree.{wildcard}
@@ -19,9 +20,14 @@ use Rattle.script_spec.specs.Spelling.{pattern_element, element_by, pattern}
 use Rattle.script_spec.specs.Walk.{low_enough}
 use Rattle.script_spec.proofs.Readers.{u32_inverse, u32_short}
 use Rattle.read_utf8.specs.Decoding.{is_low}
-use Rattle.read_field.specs.Reads.{value, refusal, as_read, Reads}
-use Rattle.read_field.specs.Words.{words}
-use Rattle.write_pattern.specs.Elements.{elements, spaced_element, several}
+use Rattle.std.specs.Prelude.{Result, Ok, Err}
+use Rattle.refusal.specs.declared.Refusal.{Refusal}
+use Rattle.refusal.specs.Numbers.{number}
+use Rattle.read_field.specs.declared.Cursor.{Cursor}
+use Rattle.read_field.specs.Reads.{as_read}
+use Rattle.read_field.specs.Takes.{TakesTo, RefusesAt, Takes}
+use Rattle.read_field.specs.Words.{words, elements}
+use Rattle.write_pattern.specs.Elements.{spaced_element, several}
 
 -- ---- elements
 
@@ -53,23 +59,43 @@ elements_none s h = words_none (length s / 4) s (quarter_none (length s) h)
 
 -- ---- a cursor
 
--- an element at a place, and the place after it
-pub record ElementAt (s : Bytes) (at c to : ℕ) : Type 0 where
-  pub value : elements (drop at s) ≡ c ∷ elements (drop to s)
-  pub moves : length s - to < length s - at
+-- an element at a cursor c, and the cursor d after it
+pub record ElementAt (c d : Cursor) (a : ℕ) : Type 0 where
+  pub value : elements (drop c.at c.body.now) ≡ a ∷ elements (drop d.at d.body.now)
+  pub moves : length d.body.now - d.at < length c.body.now - c.at
 
-pub element_at : {s : Bytes} {at c to : ℕ} → Reads u32 s at (value c to) → ElementAt s at c to
+pub element_at : {c d : Cursor} (r : Result (ℕ × Cursor) Refusal) {a : ℕ} → Takes u32 c r → r ≡ Ok (a, d) → ElementAt c d a
 unfolding as_read
-element_at {s} {at} {c} {to} r =
-    let w = u32_inverse (drop at s) r.is in
-    let fits : 4 ≤ length (drop at s) = leb→le 4 (length (drop at s)) (rw w.fits tt) in
-    let l : length s - to ≡ length s - at - 4 = sym (length-drop to s) ∙ ap length (sym w.left) ∙ length-drop 4 (drop at s) ∙ ap (λ (n : ℕ). n - 4) (length-drop at s) in
-    let m : 4 ≤ length s - at = rw (length-drop at s) at fits in
-    record { value = elements_more (drop at s) c fits (sym w.is) ∙ ap (λ (t : Bytes). c ∷ elements t) w.left; moves = omega arith }
+element_at {c} {d} r {a} t h =
+    let s = c.body.now in
+    let took : TakesTo u32 c d a = subst (λ (x : Result (ℕ × Cursor) Refusal). Takes u32 c x) h t in
+    let w = u32_inverse (drop c.at s) took.reads.is in
+    let fits : 4 ≤ length (drop c.at s) = leb→le 4 (length (drop c.at s)) (rw w.fits tt) in
+    let l : length s - d.at ≡ length s - c.at - 4 = sym (length-drop d.at s) ∙ ap length (sym w.left) ∙ length-drop 4 (drop c.at s) ∙ ap (λ (n : ℕ). n - 4) (length-drop c.at s) in
+    let m : 4 ≤ length s - c.at = rw (length-drop c.at s) at fits in
+    let same : d.body.now ≡ s = ap (λ (b : Bor Bytes). b.now) took.body in
+    record {
+      value = elements_more (drop c.at s) a fits (sym w.is) ∙ ap (λ (x : Bytes). a ∷ elements x) w.left ∙ (rw same);
+      moves = rw same (omega arith);
+    }
 
-pub element_none : {s : Bytes} {at m : ℕ} → Reads u32 s at (refusal m) → elements (drop at s) ≡ []
+pub element_none : (c : Cursor) (r : Result (ℕ × Cursor) Refusal) {e : Refusal} → Takes u32 c r → r ≡ Err e → elements (drop c.at c.body.now) ≡ []
 unfolding as_read
-element_none {s} {at} {m} r = elements_none (drop at s) (u32_short (drop at s) m r.is)
+element_none c r {e} t h =
+    let refused : RefusesAt u32 c e = subst (λ (x : Result (ℕ × Cursor) Refusal). Takes u32 c x) h t in
+    elements_none (drop c.at c.body.now) (u32_short (drop c.at c.body.now) (number e) refused.reads.is)
+
+-- a cursor at the start of a pattern
+pub whole : {c : Cursor} {p : Bor Bytes} → c.body ≡ p → c.at ≡ 0 → elements p.now ≡ elements (drop c.at c.body.now)
+whole e h = rw (e, h)
+
+-- whether an element is left at a cursor
+pub none_left : (c : Cursor) {n : ℕ} → n ≡ length c.body.now - c.at → n < 4 → elements (drop c.at c.body.now) ≡ []
+none_left c e h = elements_none (drop c.at c.body.now) (simp length-drop (omega arith))
+
+pub some_left : (c : Cursor) {n : ℕ} → n ≡ length c.body.now - c.at → 4 ≤ n
+    → elements (drop c.at c.body.now) ≡ low (take 4 (drop c.at c.body.now)) ∷ elements (drop 4 (drop c.at c.body.now))
+some_left c e h = elements_more (drop c.at c.body.now) _ (simp length-drop (omega arith)) refl
 
 -- ---- spelling
 

@@ -1,13 +1,8 @@
--- The elements of a pattern in its bytes.
+-- The elements of a pattern as they are spelled.
 -- Assumes nothing.
-use Rattle.std.specs.Prelude.{List, ◌∷◌, ◌++◌, ℕ, ◌/◌, length}
+use Rattle.std.specs.Prelude.{List, ◌∷◌, ◌++◌, ℕ}
 use Rattle.script_spec.specs.Base.{Bytes, bytes, collect}
 use Rattle.script_spec.specs.Spelling.{pattern_element}
-use Rattle.read_field.specs.Words.{words}
-
--- the elements of a pattern; fewer than four bytes at the end are none
-unfoldable pub elements : Bytes → List ℕ
-elements s = words (length s / 4) s
 
 -- an element with a space before it
 unfoldable pub spaced_element : ℕ → Bytes

@@ -1,108 +1,72 @@
 -- Applications, piece by piece: an operator before its arguments, a pattern after them, and what becomes of a `Bvnego`.
 -- Assumes nothing.
-use mathlib.Core.Path.{◌≡◌, refl, sym, ap, ◌∙◌}
+use mathlib.Core.Path.{◌≡◌, sym, ap, ◌∙◌}
 use mathlib.Core.List.{List, [], ◌∷◌, ◌++◌}
 use Prim.Native.Nat.{ℕ, ◌-◌, ◌^◌, ◌%◌, ◌<◌}
 use native.Mathlib.Omega.{arith}
 use lib.ListN.{length}
-use package.types.Run.{OneOf, miss}
-use denote.Enum.Declared.{tag_of}
+use denote.Bor.{Bor}
 use Rattle.script_spec.specs.Base.{Bytes, bytes}
 use Rattle.script_spec.specs.Tree.{Ty, Fun, Op, Enums, Mark, Forest, TypeMark, node, App, types_of, Negation, ordinary, comparison, negation}
 use Rattle.script_spec.specs.File.{TermFile, terms, term_at, named_op, named_mark, members}
 use Rattle.script_spec.specs.Command.{headed}
 use Rattle.script_spec.specs.Spelling as spelling
 use Rattle.script_spec.specs.Spelling.{Names, bit_vec, pattern, application, negated, body}
-use Rattle.script_spec.specs.Walk.{State, names}
-use Rattle.write_bytes.specs.Writing.{Appends}
-use Rattle.write_bytes.proofs.Laws.{◌then◌, says}
+use Rattle.script_spec.specs.Walk.{names}
+use Rattle.write_bytes.specs.declared.writer.Writer.{Writer}
+use Rattle.write_bytes.specs.Writers.{Writes}
 use Rattle.write_bitvec.proofs.Powers.{power_whole}
-use Rattle.write_pattern.specs.Elements.{elements}
-use Rattle.index.specs.First.{MarkInRange}
-use Rattle.index.specs.Meaning.{Index}
-use Rattle.index.specs.declared.Sizes.{Sizes}
-use Rattle.index.proofs.Later.{below_more}
-use Rattle.walk_names.specs.Naming.{Numbers}
-use Rattle.read_operator.specs.Operators.{pattern_bytes, op_of}
+use Rattle.read_field.specs.Words.{elements}
+use Rattle.read_operator.specs.Operators.{op_of}
 use Rattle.read_operator.specs.declared.Op as operator
 use Rattle.read_operator.specs.declared.Op.TheVariants as op
-use Rattle.read_operator.specs.declared.Pattern.{Pattern}
-use Rattle.read_operator.specs.contracts.Op.{the_type}
+use Rattle.index.specs.First.{MarkInRange}
+use Rattle.index.specs.declared.Records.{Records}
+use Rattle.index.proofs.Later.{below_more}
 use Rattle.index_entry.specs.Terms.{children_in}
+use Rattle.index_entry.specs.declared.terms.Application.{Application}
 use Rattle.index_entry.specs.declared.terms.Children.{Children}
 use Rattle.write_atoms.specs.Records.{TermIs}
+use Rattle.walk_names.specs.Spells.{Spells}
+use Rattle.walk_names.proofs.Spelling.{written, spells_as, knowing, ◌next◌}
 use Rattle.write_terms.specs.Arguments.{atoms, SpellsArguments, SpellsClosed}
 use Rattle.write_terms.specs.Applications.{types_at, head_of, SpellsOperatorHead, SpellsApplied, SpellsOperator, SpellsComparison, SpellsLike}
+use Rattle.write_terms.specs.Lines.{own_body, Known}
+use Rattle.write_terms.specs.Definitions.{OrdinaryIs, ComparisonIs}
+use Rattle.write_terms.specs.declared.applications.Comparison.{Comparison}
 use Rattle.write_terms.proofs.ArgumentLaws.{headed_closed, headed_last}
+use Rattle.write_terms.proofs.HeadLaws.{op_cases}
+use Rattle.write_terms.proofs.BodyLaws.{over_children}
 use Rattle.write_terms.proofs.WidthLaws.{width_small}
 
--- the operators before their arguments, by their places
-abbrev others : List ℕ
-others = 0 ∷ 1 ∷ 2 ∷ 3 ∷ 4 ∷ 5 ∷ 6 ∷ 7 ∷ 8 ∷ 9 ∷ 10 ∷ 11 ∷ 12 ∷ 13 ∷ 14 ∷ 15 ∷ 16 ∷ 17 ∷ 18 ∷ 19 ∷ 20 ∷ 21 ∷ 22 ∷ 23 ∷ 24 ∷ 25 ∷ 26 ∷ 27 ∷ 28 ∷ 29 ∷ 31 ∷ 32 ∷ []
-
-applied_is : (ν : Names) (f : TermFile) (body : Bytes) (o : operator.Op) (tys : Forest TypeMark) (args : List Bytes) → OneOf others (tag_of the_type o)
-    → headed (head_of ν (named_op f (op_of body o)) tys) args ≡ application ν (named_op f (op_of body o)) tys args
+-- an operator other than a pattern's match stands before its arguments
+applied_is : (ν : Names) (f : TermFile) (o : operator.Op) (tys : Forest TypeMark) (args : List Bytes) → ((p : Bor Bytes) → o ≡ op.StringLike p → ⊥)
+    → headed (head_of ν (named_op f (op_of o)) tys) args ≡ application ν (named_op f (op_of o)) tys args
 unfolding op_of named_op head_of application
-applied_is ν f body op.And tys args h = refl
-applied_is ν f body op.Bvadd tys args h = refl
-applied_is ν f body op.Bvlshr tys args h = refl
-applied_is ν f body op.Bvmul tys args h = refl
-applied_is ν f body op.Bvneg tys args h = refl
-applied_is ν f body op.Bvnego tys args h = refl
-applied_is ν f body op.Bvsaddo tys args h = refl
-applied_is ν f body op.Bvsdiv tys args h = refl
-applied_is ν f body op.Bvshl tys args h = refl
-applied_is ν f body op.Bvsle tys args h = refl
-applied_is ν f body op.Bvslt tys args h = refl
-applied_is ν f body op.Bvsmod tys args h = refl
-applied_is ν f body op.Bvsmulo tys args h = refl
-applied_is ν f body op.Bvsrem tys args h = refl
-applied_is ν f body op.Bvssubo tys args h = refl
-applied_is ν f body op.Bvsub tys args h = refl
-applied_is ν f body op.Bvudiv tys args h = refl
-applied_is ν f body op.Bvule tys args h = refl
-applied_is ν f body op.Bvult tys args h = refl
-applied_is ν f body op.Bvurem tys args h = refl
-applied_is ν f body op.Eq tys args h = refl
-applied_is ν f body (op.Ext x) tys args h = refl
-applied_is ν f body op.Ite tys args h = refl
-applied_is ν f body op.Not tys args h = refl
-applied_is ν f body op.OptionGet tys args h = refl
-applied_is ν f body op.Or tys args h = refl
-applied_is ν f body (op.RecordGet p) tys args h = refl
-applied_is ν f body op.SetInter tys args h = refl
-applied_is ν f body op.SetMember tys args h = refl
-applied_is ν f body op.SetSubset tys args h = refl
-applied_is ν f body (op.StringLike p) tys args h = absurd (miss others 30 tt h)
-applied_is ν f body (op.Uuf n) tys args h = refl
-applied_is ν f body (op.ZeroExtend n) tys args h = refl
+applied_is ν f o tys args h = op_cases o (λ x e. rw e) (λ x e. rw e) (λ a e. rw e) (λ p e. absurd (h p e)) (λ g e. rw e) (λ n e. rw e)
 
-module _ {file : Bytes} {work : List ℕ} {sizes : Sizes} {s : Bytes} {c : Children} {limit at : ℕ} {x : Bytes} where
-  pub spells_applied : {o : operator.Op} {p q r : ℕ} {y z w : Bytes} → Appends limit x at y p (bytes "(") → SpellsOperatorHead file work sizes s o c limit y p z q → SpellsClosed file work sizes s c limit z q w r
-      → SpellsApplied file work sizes s o c limit x at w r
-  spells_applied A H C = record { go = λ f S I N n i b. says (headed_closed _ _) (A then H.go f S I N n i b then C.go f S I N b) }
+module _ {records : Records} {v : Writer} where
+  pub spells_applied : {call : Application} {x y w : Writer} → Writes v x (bytes "(") → SpellsOperatorHead records call x y → SpellsClosed records call.arguments y w → SpellsApplied records call v w
+  spells_applied A H C = spells_as (λ f S I N k. headed_closed _ _) (written A next H next knowing (λ f I k. k.below) C)
 
-  module _ {p₁ p₂ p₃ p₄ r : ℕ} {x₁ x₂ x₃ x₄ y : Bytes} where
-    pub spells_comparison : (w : ℕ) → Appends limit x at x₁ p₁ (bytes "(=") → SpellsArguments file work sizes s c limit x₁ p₁ x₂ p₂ → Appends limit x₂ p₂ x₃ p₃ (bytes " ")
-        → Appends limit x₃ p₃ x₄ p₄ (bit_vec w (2 ^ (w - 1) % 2 ^ 128)) → Appends limit x₄ p₄ y r (bytes ")") → SpellsComparison file work sizes s c limit x at y r w
+  module _ {v₁ v₂ v₃ v₄ w : Writer} where
+    pub spells_comparison : (c : Comparison) → Writes v v₁ (bytes "(=") → SpellsArguments records c.arguments v₁ v₂ → Writes v₂ v₃ (bytes " ") → Writes v₃ v₄ (bit_vec c.width (2 ^ (c.width - 1) % 2 ^ 128))
+        → Writes v₄ w (bytes ")") → SpellsComparison records c v w
     unfolding bytes
-    spells_comparison w A P B C D = record { go = λ f S I N b. says (headed_last (bytes "=") (bit_vec w (2 ^ (w - 1) % 2 ^ 128)) _) (A then P.go f S I N b then B then C then D) }
+    spells_comparison c A P B C D = spells_as (λ f S I N k. headed_last (bytes "=") _ _) (written A next P next written B next written C next written D)
 
-    pub spells_like : (p : Pattern) {t : Bytes} → t ≡ pattern_bytes s p → Appends limit x at x₁ p₁ (bytes "(str.in_re") → SpellsArguments file work sizes s c limit x₁ p₁ x₂ p₂
-        → Appends limit x₂ p₂ x₃ p₃ (bytes " ") → Appends limit x₃ p₃ x₄ p₄ (pattern (elements t)) → Appends limit x₄ p₄ y r (bytes ")") → SpellsLike file work sizes s c limit x at y r p
+    pub spells_like : (c : Children) (p : Bytes) → Writes v v₁ (bytes "(str.in_re") → SpellsArguments records c v₁ v₂ → Writes v₂ v₃ (bytes " ") → Writes v₃ v₄ (pattern (elements p))
+        → Writes v₄ w (bytes ")") → SpellsLike records c p v w
     unfolding bytes
-    spells_like p e A P B C D = record {
-      go = λ f S I N b.
-          says (headed_last (bytes "str.in_re") (pattern (elements (pattern_bytes s p))) _) (A then P.go f S I N b then B then says (ap (λ (u : Bytes). pattern (elements u)) e) C then D);
-    }
+    spells_like c p A P B C D = spells_as (λ f S I N k. headed_last (bytes "str.in_re") _ _) (written A next P next written B next written C next written D)
 
-  module _ {o : operator.Op} {r : ℕ} {y : Bytes} where
-    pub operator_like : {p : Pattern} → o ≡ op.StringLike p → SpellsLike file work sizes s c limit x at y r p → SpellsOperator file work sizes s o c limit x at y r
+  module _ {call : Application} {w : Writer} where
+    pub operator_like : {p : Bor Bytes} → call.op ≡ op.StringLike p → SpellsLike records call.arguments p.now v w → SpellsOperator records call v w
     unfolding op_of named_op application
-    operator_like e P = record { go = λ f S I N n i b. says (rw e) (P.go f S I N b) }
+    operator_like e P = spells_as (λ f S I N k. rw e) (knowing (λ f I k. k.below) P)
 
-    pub operator_applied : OneOf others (tag_of the_type o) → SpellsApplied file work sizes s o c limit x at y r → SpellsOperator file work sizes s o c limit x at y r
-    operator_applied h P = record { go = λ f S I N n i b. says (applied_is (names S) f s o _ _ h) (P.go f S I N n i b) }
+    pub operator_applied : ((p : Bor Bytes) → call.op ≡ op.StringLike p → ⊥) → SpellsApplied records call v w → SpellsOperator records call v w
+    operator_applied h P = spells_as (λ f S I N k. applied_is (names S) f call.op _ _ h) P
 
 -- ---- what becomes of a `Bvnego`
 
@@ -117,22 +81,21 @@ app_here : {f : TermFile} {n t : ℕ} {o : Op ℕ} {rs : List ℕ} → TermIs f 
 unfolding named_mark types_at
 app_here T e ν args z h = app_is e ν _ _ _ args z (h ∙ ap negation (sym T.tree)) ∙ ap (λ t. body e ν t args) T.tree
 
-module _ {file : Bytes} {work : List ℕ} {sizes : Sizes} {n t : ℕ} {s : Bytes} {c : Children} {limit at q : ℕ} {x y : Bytes} where
-  -- the term with number n, an application, in full: by its operator
-  pub spells_ordinary : {o : operator.Op} → SpellsOperator file work sizes s o c limit x at y q → (f : TermFile) (S : State) → Index file f work sizes → Numbers f work sizes.rows S
-      → n < length (terms f) → TermIs f n (App t (op_of s o)) (children_in s c) → negation (term_at f n) ≡ ordinary
-      → Appends limit x at y q (body (members f) (names S) (term_at f n) (atoms f S (children_in s c)))
+module _ {records : Records} {v w : Writer} where
+  -- an application in full: by its operator
+  pub spells_ordinary : {call : Application} → SpellsOperator records call v w → Spells records (Known call.number (OrdinaryIs call)) (λ f S. own_body f S call.number) v w
   unfolding negated MarkInRange
-  spells_ordinary P f S I N l T is =
-      says (app_here T (members f) (names S) _ ordinary (sym is)) (P.go f S I N n T.in_range.1 (below_more n (length (terms f)) (omega arith) _ T.below))
+  spells_ordinary {call} P =
+      spells_as (λ f S I N k. app_here k.known.is (members f) (names S) _ ordinary (sym k.known.becomes) ∙ over_children k.known.is S)
+      (knowing (λ f I k. record { number = call.number; op_in_range = k.known.is.in_range.1; below = below_more call.number (length (terms f)) (omega (arith, k.inside)) _ k.known.is.below }) P)
 
   -- or as a comparison
-  pub spells_compared : {w : ℕ} {o : Op ℕ} → SpellsComparison file work sizes s c limit x at y q w → (f : TermFile) (S : State) → Index file f work sizes → Numbers f work sizes.rows S
-      → n < length (terms f) → TermIs f n (App t o) (children_in s c) → negation (term_at f n) ≡ comparison w
-      → Appends limit x at y q (body (members f) (names S) (term_at f n) (atoms f S (children_in s c)))
+  pub spells_compared : {n : ℕ} (c : Comparison) → SpellsComparison records c v w → Spells records (Known n (ComparisonIs n c.width (children_in c.arguments))) (λ f S. own_body f S n) v w
   unfolding negated
-  spells_compared {w} P f S I N l T is =
-      let below = below_more n (length (terms f)) (omega arith) _ T.below in
-      let small : w - 1 < 128 = omega (arith, width_small I.rows below T is) in
-      says (ap (λ (v : ℕ). headed (bytes "=") (atoms f S (children_in s c) ++ (bit_vec w v ∷ []))) (power_whole (w - 1) small) ∙ app_here T (members f) (names S) _ (comparison w) (sym is))
-      (P.go f S I N below)
+  spells_compared {n} c P =
+      spells_as (λ f S I N k.
+      let below = below_more n (length (terms f)) (omega (arith, k.inside)) _ k.known.is.below in
+      let small : c.width - 1 < 128 = omega (arith, width_small I.rows below k.known.is k.known.becomes) in
+      ap (λ (v : ℕ). headed (bytes "=") (atoms f S (children_in c.arguments) ++ (bit_vec c.width v ∷ []))) (power_whole (c.width - 1) small)
+      ∙ app_here k.known.is (members f) (names S) _ (comparison c.width) (sym k.known.becomes) ∙ over_children k.known.is S)
+      (knowing (λ f I k. below_more n (length (terms f)) (omega (arith, k.inside)) _ k.known.is.below) P)

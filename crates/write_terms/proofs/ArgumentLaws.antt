@@ -1,60 +1,52 @@
--- The children of a term, one after the other: what is left, after what was written, makes the whole.
+-- The children of a term, one after the other: what writes those that are left writes all, after those that were written.
 -- Assumes nothing.
 use mathlib.Core.Path.{◌≡◌, refl, sym, ap, ◌∙◌}
 use mathlib.Core.Bool.{Bool, true}
 use mathlib.Core.List.{List, [], ◌∷◌, ◌++◌, append_assoc, append-nil}
-use Prim.Native.Nat.{ℕ, ◌<◌, ◌≤◌}
-use native.Mathlib.Omega.{arith}
+use Prim.Native.Nat.{ℕ}
 use lib.Dec.{ltb}
 use lib.ListN.{length}
 use Rattle.script_spec.specs.Base.{Bytes, bytes, joined, collect}
-use Rattle.script_spec.specs.File.{TermFile, terms}
+use Rattle.script_spec.specs.File.{TermFile}
 use Rattle.script_spec.specs.Command.{headed, spaced}
 use Rattle.script_spec.specs.Walk.{State}
-use Rattle.write_bytes.specs.Writing.{ceiling, Appends}
-use Rattle.write_bytes.proofs.Laws.{◌then◌, says, stops_past}
+use Rattle.write_bytes.specs.declared.writer.Writer.{Writer}
+use Rattle.write_bytes.specs.Writing.{ceiling}
+use Rattle.write_bytes.specs.Writers.{Writes}
 use Rattle.index.specs.First.{All, Below}
-use Rattle.index.specs.Meaning.{Index}
-use Rattle.index.specs.declared.Sizes.{Sizes}
-use Rattle.walk_names.specs.Naming.{Numbers}
-use Rattle.write_types.proofs.Runs.{Continues, continues_start, continues_on, continues_end}
+use Rattle.index.specs.declared.Records.{Records}
 use Rattle.index_entry.specs.Terms.{children_in}
-use Rattle.index_entry.specs.Children.{TakesChild}
 use Rattle.index_entry.specs.declared.terms.Children.{Children}
-use Rattle.index_entry.specs.declared.terms.Child.{Child}
 use Rattle.index_entry.proofs.ChildLaws.{no_children, length_children}
+use Rattle.walk_names.specs.Spells.{Spells}
 use Rattle.write_atoms.specs.Atoms.{SpellsAtom}
-use Rattle.write_terms.specs.Arguments.{atoms, spaced_before, closed_list, SpellsArguments, SpellsClosed}
+use Rattle.walk_names.proofs.Spelling.{written, spells_as, unwritten, stopped, knowing, ◌next◌}
+use Rattle.write_terms.specs.Arguments.{atoms, spaced_before, closed_list, HasTerms, SpellsArguments, SpellsClosed}
 
--- the children that are left
-pub record ArgumentsLeft (file : Bytes) (work : List ℕ) (sizes : Sizes) (body : Bytes) (c : Children) (limit : ℕ) (o : Bytes) (from : ℕ) (x : Bytes) (at : ℕ) (rest : Children) : Type 0 where
-  pub go : (f : TermFile) (S : State) → Index file f work sizes → Numbers f work sizes.rows S → Below (length (terms f)) (children_in body c)
-      → Continues limit o from (spaced_before (atoms f S (children_in body c))) x at (spaced_before (atoms f S (children_in body rest))) × Below (length (terms f)) (children_in body rest)
+-- the terms with these numbers are written, each after a space
+abbrev pub SpellsList : Records → List ℕ → Writer → Writer → Type 0
+SpellsList records ns = Spells records (HasTerms ns) (λ f S. spaced_before (atoms f S ns))
 
-module _ {file : Bytes} {work : List ℕ} {sizes : Sizes} {body : Bytes} {c : Children} {limit from : ℕ} {o : Bytes} where
-  pub arguments_start : ArgumentsLeft file work sizes body c limit o from o from c
-  arguments_start = record { go = λ f S I N b. (continues_start, b) }
+-- what writes the terms that are left, from here on, writes all
+pub record Left (records : Records) (ns : List ℕ) (u : Writer) (ms : List ℕ) (v : Writer) : Type 0 where
+  pub go : (w : Writer) → SpellsList records ms v w → SpellsList records ns u w
 
-  pub arguments_on : {at p q : ℕ} {x y z : Bytes} {rest : Children} {child : Child} → ArgumentsLeft file work sizes body c limit o from x at rest → 0 < rest.left
-      → TakesChild body rest child → Appends limit x at y p (bytes " ") → SpellsAtom file work sizes child.number limit y p z q
-      → ArgumentsLeft file work sizes body c limit o from z q child.rest
+module _ {records : Records} {ns : List ℕ} {u : Writer} where
+  pub left_start : Left records ns u ns u
+  left_start = record { go = λ w P. P }
+
+  pub left_on : {v x y : Writer} {n : ℕ} {ms : List ℕ} → Left records ns u (n ∷ ms) v → Writes v x (bytes " ") → SpellsAtom records n x y → Left records ns u ms y
   unfolding Below All spaced_before atoms collect
-  arguments_on L l T A P = record {
-    go = λ f S I N b.
-        let left = rw (T.splits l) at (L.go f S I N b) in
-        (continues_on refl left.0 (A then P.go f S I N left.1.0), left.1.1);
+  left_on L A P = record {
+    go = λ w Q. L.go w (spells_as (λ f S I N b. sym (append_assoc (bytes " ") _ _)) (written A next knowing (λ f I b. b.0) P next knowing (λ f I b. b.1) Q));
   }
 
-  pub arguments_past : {at : ℕ} {p : Bool} {x : Bytes} {rest : Children} → ArgumentsLeft file work sizes body c limit o from x at rest → p ≡ ltb (ceiling limit) at → p ≡ true
-      → SpellsArguments file work sizes body c limit o from x at
-  arguments_past L e h = record { go = λ f S I N b. (L.go f S I N b).0.go _ _ (stops_past e h) }
+  pub left_past : {v : Writer} {p : Bool} {ms : List ℕ} → Left records ns u ms v → p ≡ ltb (ceiling v.limit) v.at → p ≡ true → SpellsList records ns u v
+  left_past L e h = L.go _ (stopped e h)
 
-  pub arguments_end : {at : ℕ} {x : Bytes} {rest : Children} → ArgumentsLeft file work sizes body c limit o from x at rest → rest.left ≤ 0
-      → SpellsArguments file work sizes body c limit o from x at
+  pub left_end : {v : Writer} → Left records ns u [] v → SpellsList records ns u v
   unfolding spaced_before atoms collect
-  arguments_end {rest = rest} L l = record {
-    go = λ f S I N b. let none : children_in body rest ≡ [] = no_children body rest (omega arith) in continues_end (rw none) (L.go f S I N b).0;
-  }
+  left_end L = L.go _ (unwritten (λ f S I N b. refl))
 
 -- ---- the end
 
@@ -92,11 +84,10 @@ pub headed_last : (head y : Bytes) (xs : List Bytes) → bytes "(" ++ (head ++ (
 unfolding headed bytes
 headed_last head y xs = ap (λ (s : Bytes). 40 ∷ (head ++ s)) (led_last y xs)
 
-module _ {file : Bytes} {work : List ℕ} {sizes : Sizes} {body : Bytes} {c : Children} {limit at : ℕ} {x : Bytes} where
-  pub closed_none : {r : ℕ} {y : Bytes} → c.left ≡ 0 → Appends limit x at y r (bytes " )") → SpellsClosed file work sizes body c limit x at y r
+module _ {records : Records} (c : Children) {v : Writer} where
+  pub closed_none : {w : Writer} → c.left ≡ 0 → Writes v w (bytes " )") → SpellsClosed records c v w
   unfolding atoms closed_list spaced joined bytes
-  closed_none e A = record { go = λ f S I N b. let none : children_in body c ≡ [] = no_children body c e in says (rw none) A }
+  closed_none e A = let none : children_in c ≡ [] = no_children c e in spells_as (λ f S I N b. rw none) (written A)
 
-  pub closed_some : {p r : ℕ} {y z : Bytes} → (c.left ≡ 0 → ⊥) → SpellsArguments file work sizes body c limit x at y p → Appends limit y p z r (bytes ")")
-      → SpellsClosed file work sizes body c limit x at z r
-  closed_some h P A = record { go = λ f S I N b. says (atoms_some f S (children_in body c) (λ e. h (sym (length_children body c) ∙ e))) (P.go f S I N b then A) }
+  pub closed_some : {x w : Writer} → (c.left ≡ 0 → ⊥) → SpellsArguments records c v x → Writes x w (bytes ")") → SpellsClosed records c v w
+  closed_some h P A = spells_as (λ f S I N b. atoms_some f S (children_in c) (λ e. h (sym (length_children c) ∙ e))) (P next written A)

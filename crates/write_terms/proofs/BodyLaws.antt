@@ -1,18 +1,16 @@
--- The body of a term from its entry: by cases on the entry, over its children as they are spelled where they are used.
+-- The body of a term from its entry: by cases on the entry, over its children as they are spells_as where they are used.
 -- Assumes nothing.
 use mathlib.Core.Path.{◌≡◌, refl, sym, ap, ◌∙◌, subst}
-use mathlib.Core.Bool.{Bool, true, false}
+use mathlib.Core.Bool.{true, false}
 use mathlib.Core.List.{List, [], ◌∷◌, ◌++◌, map}
 use mathlib.Core.Option.{none}
-use Prim.Native.Nat.{ℕ, ◌<◌}
+use Prim.Native.Nat.{ℕ}
 use native.Mathlib.Omega.{arith}
-use lib.Dec.{ltb}
-use lib.ListN.{length, take, drop}
-use package.types.Run.{OneOf, miss}
-use denote.Enum.Declared.{tag_of}
+use lib.ListN.{length}
+use denote.Bor.{Bor}
 use Rattle.script_spec.specs.Base.{Bytes, bytes, is_some, joined}
 use Rattle.script_spec.specs.Utf8.{is_utf8}
-use Rattle.script_spec.specs.Tree.{Ty, Tm, TermMark, Enums, Forest, Mark, node, nil, forest, children, Entity, Some, Set, Record, enum_of, type_of, type_from}
+use Rattle.script_spec.specs.Tree.{Ty, Tm, TermMark, Enums, Forest, Mark, node, nil, forest, children, Entity, Set, Record, enum_of, type_of, type_from}
 use Rattle.script_spec.specs.File.{TermFile, terms, type_at, term_at, named_mark, members}
 use Rattle.script_spec.specs.Text.{literal}
 use Rattle.script_spec.specs.Command.{headed, spaced}
@@ -20,39 +18,36 @@ use Rattle.script_spec.specs.Spelling as spelling
 use Rattle.script_spec.specs.Spelling.{Names, sort, as_sort, entity_by, ext_value, set_value, record_value, body, inlined, atom}
 use Rattle.script_spec.specs.Walk.{State, names}
 use Rattle.script_spec.proofs.Laws.{never}
-use Rattle.write_bytes.specs.Writing.{ceiling, Appends}
-use Rattle.write_bytes.proofs.Laws.{◌then◌, says, stops_past}
+use Rattle.write_bytes.specs.declared.writer.Writer.{Writer}
+use Rattle.write_bytes.specs.Writers.{Writes}
 use Rattle.read_utf8.specs.Decoding.{points}
 use Rattle.read_utf8.proofs.Laws.{utf8_points}
-use Rattle.read_field.specs.Answers.{spanned}
-use Rattle.read_field.specs.declared.Span.{Span}
 use Rattle.index.specs.Cells.{cell, term_offset}
 use Rattle.index.specs.First.{All, Below, MarkInRange}
-use Rattle.index.specs.Standing as standing
-use Rattle.index.specs.Meaning.{Index, counted}
-use Rattle.index.specs.declared.Sizes.{Sizes}
-use Rattle.walk_names.specs.Naming.{Numbers}
+use Rattle.index.specs.Meaning.{counted}
+use Rattle.index.specs.declared.Records.{Records}
 use Rattle.index.proofs.Later.{below_more}
 use Rattle.index.proofs.Rules.{trees_forest}
-use Rattle.write_types.specs.Sorts.{SpellsSort}
 use Rattle.index_entry.specs.Terms.{value_of, children_in, term_said, TermAt}
-use Rattle.index_entry.specs.declared.terms.Children.{Children}
+use Rattle.index_entry.specs.declared.terms.Compound.{Compound}
 use Rattle.index_entry.specs.declared.terms.Value.{Value}
 use Rattle.index_entry.specs.declared.terms.TermEntry.{TermEntry}
 use Rattle.index_entry.specs.declared.terms.TermEntry.TheVariants as entry
-use Rattle.index_entry.specs.contracts.terms.TermEntry.{the_type}
 use Rattle.walk_queries.specs.Searches.{FindsMember}
 use Rattle.walk_queries.proofs.AnswerLaws.{MemberSaid, member_said}
 use Rattle.walk_queries.specs.declared.queries.Member.{Member}
 use Rattle.walk_queries.specs.declared.queries.Member.TheVariants as member
-use Rattle.walk_queries.specs.contracts.queries.Member as query
+use Rattle.write_types.specs.Sorts.{SpellsSort}
 use Rattle.write_atoms.specs.Records.{TermSound, TermIs}
-use Rattle.write_atoms.proofs.Rows.{EntryIs, term_here, entry_is}
+use Rattle.walk_names.specs.Spells.{Spells}
 use Rattle.write_atoms.specs.Atoms.{SpellsAtom}
+use Rattle.walk_names.proofs.Spelling.{written, spells_as, knowing, ◌next◌}
+use Rattle.write_atoms.proofs.Rows.{EntryIs, term_here, entry_is}
 use Rattle.write_atoms.proofs.AtomLaws.{inlined_is}
 use Rattle.write_terms.specs.Arguments.{atoms}
 use Rattle.write_terms.specs.Values.{sort_at, SpellsConstant, SpellsSome, SpellsSet, SpellsRecord}
-use Rattle.write_terms.specs.Lines.{is_compound, own_body, SpellsConstructed, SpellsEntityBody, SpellsBody}
+use Rattle.write_terms.specs.Lines.{is_compound, own_body, Known, TextIs, SpellsConstructed, SpellsEntityBody, SpellsBody}
+use Rattle.write_terms.specs.Definitions.{PlainIs, SomeIs, SetIs, RecordIs}
 
 -- ---- entities
 
@@ -60,9 +55,9 @@ constructed_pieces : (ty s : Bytes) → bytes "(" ++ (ty ++ (bytes " " ++ (s ++ 
 unfolding headed spaced joined bytes
 constructed_pieces ty s = refl
 
-pub spells_constructed : {file : Bytes} {work : List ℕ} {sizes : Sizes} {t limit at p₁ p₂ p₃ p₄ r : ℕ} {id x x₁ x₂ x₃ x₄ y : Bytes} → Appends limit x at x₁ p₁ (bytes "(") → SpellsSort file work sizes t limit x₁ p₁ x₂ p₂
-    → Appends limit x₂ p₂ x₃ p₃ (bytes " ") → Appends limit x₃ p₃ x₄ p₄ (literal (points id)) → Appends limit x₄ p₄ y r (bytes ")") → SpellsConstructed file work sizes t id limit x at y r
-spells_constructed A P B C D = record { go = λ f S I N l. says (constructed_pieces _ _) (A then P.go f S I N l then B then C then D) }
+pub spells_constructed : {records : Records} {t : ℕ} (id : Bytes) {v v₁ v₂ v₃ v₄ w : Writer} → Writes v v₁ (bytes "(") → SpellsSort records t v₁ v₂ → Writes v₂ v₃ (bytes " ")
+    → Writes v₃ v₄ (literal (points id)) → Writes v₄ w (bytes ")") → SpellsConstructed records t id v w
+spells_constructed id A P B C D = spells_as (λ f S I N l. constructed_pieces _ _) (written A next P next written B next written C next written D)
 
 -- an entity of no enum
 constructed_is : (e : Enums) (ν : Names) (T : Ty) (id : Bytes) (ts : Forest Mark) (args : List Bytes) → enum_of e T ≡ none → is_utf8 id ≡ true
@@ -75,34 +70,26 @@ member_body : (e : Enums) (ν : Names) (T : Ty) (id : Bytes) (ts : Forest Mark) 
 unfolding inlined body spelling.body_over
 member_body e ν T id ts args h = sym (inlined_is e ν (node (Entity T id) ts) h)
 
--- the answers for an enum, by their places among the answers
-abbrev enums : List ℕ
-enums = 1 ∷ 2 ∷ []
-
-in_enum : (r : Member) (e : Enums) (ty : Ty) (id : Bytes) → OneOf enums (tag_of query.the_type r) → MemberSaid r e ty id → is_some (enum_of e ty) ≡ true
+in_enum : (r : Member) (e : Enums) (ty : Ty) (id : Bytes) → (r ≡ member.NoEnum → ⊥) → MemberSaid r e ty id → is_some (enum_of e ty) ≡ true
 unfolding MemberSaid is_some
-in_enum member.NoEnum e ty id h s = absurd (miss enums 0 tt h)
+in_enum member.NoEnum e ty id h s = absurd (h refl)
 in_enum member.NotMember e ty id h s = ap is_some s.are
 in_enum (member.At i) e ty id h s = ap is_some s.are
 
-module _ {file : Bytes} {work : List ℕ} {sizes : Sizes} {n t limit at q : ℕ} {id x y : Bytes} {r : Member} (M : FindsMember file work sizes t id r) where
-  pub entity_constructed : r ≡ member.NoEnum → SpellsConstructed file work sizes t id limit x at y q → SpellsEntityBody file work sizes n t id limit x at y q
+module _ {records : Records} {n t : ℕ} {id : Bytes} {v w : Writer} {r : Member} (M : FindsMember records.file.now records.work.now records.sizes t id r) where
+  pub entity_constructed : r ≡ member.NoEnum → SpellsConstructed records t id v w → SpellsEntityBody records n t id v w
   unfolding MemberSaid
-  entity_constructed e P = record {
-    go = λ f S I N l b ts tree u args.
-        let no_enum : enum_of (members f) (type_at f t) ≡ none = member_said member.NoEnum _ _ id (rw e at (M.go f I b)) in
-        says (constructed_is (members f) (names S) _ id ts args no_enum u ∙ ap (λ (t : Tm). body (members f) (names S) t args) tree) (P.go f S I N b);
-  }
+  entity_constructed e P args =
+      spells_as (λ f S I N (k : TextIs n t id f).
+      let no_enum : enum_of (members f) (type_at f t) ≡ none = member_said member.NoEnum _ _ id (rw e at (M.go f I k.is.type_inside)) in
+      constructed_is (members f) (names S) _ id k.is.children args no_enum k.sound ∙ ap (λ (t : Tm). body (members f) (names S) t args) k.is.tree) (knowing (λ f I k. k.is.type_inside) P)
 
-  pub entity_atom : OneOf enums (tag_of query.the_type r) → SpellsAtom file work sizes n limit x at y q → SpellsEntityBody file work sizes n t id limit x at y q
-  entity_atom h A = record {
-    go = λ f S I N l b ts tree u args.
-        says (ap (atom (members f) (names S)) (sym tree) ∙ member_body (members f) (names S) _ id ts args (in_enum r _ _ id h (member_said r _ _ id (M.go f I b))) ∙ ap (λ (t : Tm). body (members f) (names S) t args) tree) (A.go f S I N l);
-  }
-
--- past the limit
-pub entity_past : {file : Bytes} {work : List ℕ} {sizes : Sizes} {n t limit at : ℕ} {p : Bool} {id x : Bytes} → p ≡ ltb (ceiling limit) at → p ≡ true → SpellsEntityBody file work sizes n t id limit x at x at
-entity_past e h = record { go = λ f S I N l b ts tree u args. stops_past e h }
+  pub entity_atom : (r ≡ member.NoEnum → ⊥) → SpellsAtom records n v w → SpellsEntityBody records n t id v w
+  entity_atom h A args =
+      spells_as (λ f S I N (k : TextIs n t id f).
+      let said = member_said r _ _ id (M.go f I k.is.type_inside) in
+      ap (atom (members f) (names S)) (sym k.is.tree) ∙ member_body (members f) (names S) _ id k.is.children args (in_enum r _ _ id h said) ∙ ap (λ (t : Tm). body (members f) (names S) t args) k.is.tree)
+      (knowing (λ f I k. k.is.inside) A)
 
 -- ---- a term by its entry
 
@@ -112,14 +99,13 @@ unfolding atoms children
 args_are {f} {rs = rs} T S = ap (map (atom (members f) (names S))) (sym (trees_forest (map (term_at f) rs)) ∙ ap children T.tree)
 
 -- what is written over them is the body
-pub body_over_lem : {f : TermFile} {n : ℕ} {m : TermMark ℕ ℕ} {rs : List ℕ} {limit at q : ℕ} {x y : Bytes} → TermIs f n m rs → (S : State)
-    → Appends limit x at y q (body (members f) (names S) (term_at f n) (atoms f S rs)) → Appends limit x at y q (own_body f S n)
-body_over_lem {f} T S A = says (ap (body (members f) (names S) (term_at f _)) (args_are T S)) A
+pub over_children : {f : TermFile} {n : ℕ} {m : TermMark ℕ ℕ} {rs : List ℕ} → TermIs f n m rs → (S : State) → body (members f) (names S) (term_at f n) (atoms f S rs) ≡ own_body f S n
+over_children {f} T S = ap (body (members f) (names S) (term_at f _)) (args_are T S)
 
 -- what is written for a mark over its children
 body_is : {f : TermFile} {n : ℕ} {m : TermMark ℕ ℕ} {rs : List ℕ} → TermIs f n m rs → (S : State)
-    → body (members f) (names S) (node (named_mark f m) (forest (map (term_at f) rs))) (atoms f S rs) ≡ body (members f) (names S) (term_at f n) (map (atom (members f) (names S)) (children (term_at f n)))
-body_is {f} {rs = rs} T S = ap (λ (t : Tm). body (members f) (names S) t (atoms f S rs)) T.tree ∙ ap (body (members f) (names S) (term_at f _)) (args_are T S)
+    → body (members f) (names S) (node (named_mark f m) (forest (map (term_at f) rs))) (atoms f S rs) ≡ own_body f S n
+body_is {f} {rs = rs} T S = ap (λ (t : Tm). body (members f) (names S) t (atoms f S rs)) T.tree ∙ over_children T S
 
 -- its sort
 sort_is : {f : TermFile} {n : ℕ} {m : TermMark ℕ ℕ} {rs : List ℕ} → TermIs f n m rs → (S : State) → sort_at f S n ≡ sort (names S) (type_of (node (named_mark f m) (forest (map (term_at f) rs))))
@@ -128,68 +114,74 @@ sort_is T S = ap (λ (t : Tm). sort (names S) (type_of t)) (sym T.tree)
 
 -- a set and a record of that sort
 set_is : {f : TermFile} {n t : ℕ} {rs : List ℕ} → TermIs f n (Set t) rs → (S : State)
-    → set_value (sort_at f S n) (atoms f S rs) ≡ body (members f) (names S) (term_at f n) (map (atom (members f) (names S)) (children (term_at f n)))
+    → set_value (sort_at f S n) (atoms f S rs) ≡ own_body f S n
 unfolding named_mark body spelling.body_over
 set_is {f} {rs = rs} T S = ap (λ (ty : Bytes). set_value ty (atoms f S rs)) (sort_is T S) ∙ body_is T S
 
 record_is : {f : TermFile} {n : ℕ} {ns : List Bytes} {rs : List ℕ} → TermIs f n (Record ns) rs → (S : State)
-    → record_value (sort_at f S n) (atoms f S rs) ≡ body (members f) (names S) (term_at f n) (map (atom (members f) (names S)) (children (term_at f n)))
+    → record_value (sort_at f S n) (atoms f S rs) ≡ own_body f S n
 unfolding named_mark body spelling.body_over
 record_is {f} {rs = rs} T S = ap (λ (ty : Bytes). record_value ty (atoms f S rs)) (sort_is T S) ∙ body_is T S
 
-pub body_some : {file : Bytes} {work : List ℕ} {sizes : Sizes} {n i limit at q : ℕ} {x y : Bytes} → SpellsSome file work sizes i limit x at y q → (f : TermFile) (S : State)
-    → Index file f work sizes → Numbers f work sizes.rows S → n < length (terms f) → TermIs f n Some (i ∷ []) → Appends limit x at y q (own_body f S n)
-unfolding named_mark body spelling.body_over atoms Below All
-body_some P f S I N l is = says (body_is is S) (P.go f S I N (omega (arith, is.below.0)))
+module _ {records : Records} {v w : Writer} where
+  pub body_plain : {n : ℕ} → SpellsBody records n v w → Spells records (Known n (PlainIs n)) (λ f S. own_body f S n) v w
+  body_plain P = knowing (λ f I k. record { inside = k.inside; known = k.known.plain }) P
 
-module _ {file : Bytes} {work : List ℕ} {sizes : Sizes} {n limit at q : ℕ} {s x y : Bytes} {c : Children} where
-  pub body_set : SpellsSet file work sizes n s c limit x at y q → {t : ℕ} (f : TermFile) (S : State) → Index file f work sizes → Numbers f work sizes.rows S → n < length (terms f)
-      → TermIs f n (Set t) (children_in s c) → Appends limit x at y q (own_body f S n)
-  body_set P f S I N l is = says (set_is is S) (P.go f S I N l (below_more n (length (terms f)) (omega arith) _ is.below))
+  pub body_some : {n m : ℕ} → SpellsSome records m v w → Spells records (Known n (SomeIs n m)) (λ f S. own_body f S n) v w
+  unfolding named_mark body spelling.body_over atoms Below All
+  body_some P = spells_as (λ f S I N k. body_is k.known.is S) (knowing (λ f I k. omega (arith, k.inside, k.known.is.below.0)) P)
 
-  pub body_record : SpellsRecord file work sizes n s c limit x at y q → {ns : List Bytes} (f : TermFile) (S : State) → Index file f work sizes → Numbers f work sizes.rows S → n < length (terms f)
-      → TermIs f n (Record ns) (children_in s c) → Appends limit x at y q (own_body f S n)
-  body_record P f S I N l is = says (record_is is S) (P.go f S I N l (below_more n (length (terms f)) (omega arith) _ is.below))
+  module _ {c : Compound} where
+    pub body_set : SpellsSet records c v w → Spells records (Known c.number (SetIs c.number (children_in c.children))) (λ f S. own_body f S c.number) v w
+    body_set P =
+        spells_as (λ f S I N k. set_is k.known.is S)
+        (knowing (λ f I k. record { inside = k.inside; below = below_more c.number (length (terms f)) (omega (arith, k.inside)) _ k.known.is.below }) P)
 
--- the terms that are written the same way everywhere, and those that are compound, by their places among the entries
-abbrev same : List ℕ
-same = 0 ∷ 1 ∷ 2 ∷ 3 ∷ 7 ∷ 8 ∷ 9 ∷ 10 ∷ 11 ∷ []
+    pub body_record : SpellsRecord records c v w → Spells records (Known c.number (RecordIs c.number (children_in c.children))) (λ f S. own_body f S c.number) v w
+    body_record P =
+        spells_as (λ f S I N k. record_is k.known.is S)
+        (knowing (λ f I k. record { inside = k.inside; below = below_more c.number (length (terms f)) (omega (arith, k.inside)) _ k.known.is.below }) P)
 
-same_body : (e : Enums) (ν : Names) (f : TermFile) (n : ℕ) (s : Bytes) (args : List Bytes) (r : TermEntry) → OneOf same (tag_of the_type r) → EntryIs f n (term_said s r)
+-- the terms that are written the same way everywhere, and those that are compound
+pub record Same (r : TermEntry) : Type 0 where
+  pub not_entity : (t : ℕ) (id : Bor Bytes) → r ≡ entry.Entity t id → ⊥
+  pub not_value : (x : Value) → r ≡ entry.ExtLit x → ⊥
+  pub not_none : (t : ℕ) → r ≡ entry.None t → ⊥
+
+same_body : (e : Enums) (ν : Names) (f : TermFile) (n : ℕ) (args : List Bytes) (r : TermEntry) → Same r → EntryIs f n (term_said r)
     → is_compound (term_at f n) ≡ false → atom e ν (term_at f n) ≡ body e ν (term_at f n) args
 unfolding term_said named_mark forest atom inlined body spelling.body_over is_compound
-same_body e ν f n s args (entry.Var p t) h i plain = subst (λ (t : Tm). atom e ν t ≡ body e ν t args) i.tree refl
-same_body e ν f n s args (entry.BoolLit b) h i plain = subst (λ (t : Tm). atom e ν t ≡ body e ν t args) i.tree refl
-same_body e ν f n s args (entry.BitVecLit w v) h i plain = subst (λ (t : Tm). atom e ν t ≡ body e ν t args) i.tree refl
-same_body e ν f n s args (entry.StringLit p) h i plain = subst (λ (t : Tm). atom e ν t ≡ body e ν t args) i.tree refl
-same_body e ν f n s args (entry.Entity t p) h i plain = absurd (miss same 4 tt h)
-same_body e ν f n s args (entry.ExtLit v) h i plain = absurd (miss same 5 tt h)
-same_body e ν f n s args (entry.None t) h i plain = absurd (miss same 6 tt h)
-same_body e ν f n s args (entry.Some m) h i plain = let g : true ≡ false = ap is_compound i.tree ∙ plain in never cc
-same_body e ν f n s args (entry.Set t c) h i plain = let g : true ≡ false = ap is_compound i.tree ∙ plain in never cc
-same_body e ν f n s args (entry.Record c) h i plain = let g : true ≡ false = ap is_compound i.tree ∙ plain in never cc
-same_body e ν f n s args (entry.App t o c) h i plain = let g : true ≡ false = ap is_compound i.tree ∙ plain in never cc
-same_body e ν f n s args entry.Unreadable h i plain = absurd i
+same_body e ν f n args (entry.Var p t) h i plain = subst (λ (t : Tm). atom e ν t ≡ body e ν t args) i.tree refl
+same_body e ν f n args (entry.BoolLit b) h i plain = subst (λ (t : Tm). atom e ν t ≡ body e ν t args) i.tree refl
+same_body e ν f n args (entry.BitVecLit w v) h i plain = subst (λ (t : Tm). atom e ν t ≡ body e ν t args) i.tree refl
+same_body e ν f n args (entry.StringLit p) h i plain = subst (λ (t : Tm). atom e ν t ≡ body e ν t args) i.tree refl
+same_body e ν f n args (entry.Entity t p) h i plain = absurd (h.not_entity t p refl)
+same_body e ν f n args (entry.ExtLit v) h i plain = absurd (h.not_value v refl)
+same_body e ν f n args (entry.None t) h i plain = absurd (h.not_none t refl)
+same_body e ν f n args (entry.Some m) h i plain = let g : true ≡ false = ap is_compound i.tree ∙ plain in never cc
+same_body e ν f n args (entry.Set t c) h i plain = let g : true ≡ false = ap is_compound i.tree ∙ plain in never cc
+same_body e ν f n args (entry.Record c) h i plain = let g : true ≡ false = ap is_compound i.tree ∙ plain in never cc
+same_body e ν f n args (entry.App t o c) h i plain = let g : true ≡ false = ap is_compound i.tree ∙ plain in never cc
+same_body e ν f n args entry.Unreadable h i plain = absurd i
 
-module _ {file : Bytes} {work : List ℕ} {sizes : Sizes} {n limit at q : ℕ} {x y : Bytes} {r : TermEntry} (T : TermAt file (cell work sizes.rows term_offset n) r) where
-  pub body_atom : OneOf same (tag_of the_type r) → SpellsAtom file work sizes n limit x at y q → SpellsBody file work sizes n limit x at y q
-  body_atom h A = record { go = λ f S I N l plain. says (same_body (members f) (names S) f n _ _ r h (term_here T f I l) plain) (A.go f S I N l) }
+module _ {records : Records} {n : ℕ} {v w : Writer} {r : TermEntry} (T : TermAt records.file.now (cell records.work.now records.sizes.rows term_offset n) r) where
+  pub body_atom : Same r → SpellsAtom records n v w → SpellsBody records n v w
+  body_atom h A = spells_as (λ f S I N k. same_body (members f) (names S) f n _ r h (term_here records T f I k.inside) k.known) (knowing (λ f I k. k.inside) A)
 
-  pub body_value : {v : Value} → r ≡ entry.ExtLit v → Appends limit x at y q (ext_value (value_of v)) → SpellsBody file work sizes n limit x at y q
+  pub body_value : {x : Value} → r ≡ entry.ExtLit x → Writes v w (ext_value (value_of x)) → SpellsBody records n v w
   unfolding term_said named_mark body spelling.body_over
-  body_value e A = record { go = λ f S I N l plain. says (body_is (entry_is T (ap (term_said _) e) f I l) S) A }
+  body_value e A = spells_as (λ f S I N k. body_is (entry_is records T (ap term_said e) f I k.inside) S) (written A)
 
-  pub body_none : {t : ℕ} → r ≡ entry.None t → SpellsConstant file work sizes n (bytes "none") limit x at y q → SpellsBody file work sizes n limit x at y q
+  pub body_none : {t : ℕ} → r ≡ entry.None t → SpellsConstant records n (bytes "none") v w → SpellsBody records n v w
   unfolding term_said named_mark body spelling.body_over
-  body_none e P = record {
-    go = λ f S I N l plain. let is = entry_is T (ap (term_said _) e) f I l in says (ap (as_sort (bytes "none")) (sort_is is S) ∙ body_is is S) (P.go f S I N l);
-  }
+  body_none e P =
+      spells_as (λ f S I N k. let is = entry_is records T (ap term_said e) f I k.inside in ap (as_sort (bytes "none")) (sort_is is S) ∙ body_is is S) (knowing (λ f I k. k.inside) P)
 
-  pub body_entity : {t : ℕ} {p : Span} {s id : Bytes} → r ≡ entry.Entity t p → s ≡ standing.body_at file (cell work sizes.rows term_offset n) → id ≡ take p.len (drop p.start s)
-      → SpellsEntityBody file work sizes n t id limit x at y q → SpellsBody file work sizes n limit x at y q
-  unfolding term_said named_mark forest MarkInRange counted spanned TermSound
-  body_entity {p = p} e b i P = record {
-    go = λ f S I N l plain.
-        let is = entry_is T (ap (term_said _) e) f I l in
-        P.go f S I N l is.in_range nil ((rw (i, b)) ∙ is.tree) ((rw (i, b)) ∙ is.sound) _;
+  pub body_entity : {t : ℕ} {id : Bor Bytes} → r ≡ entry.Entity t id → SpellsEntityBody records n t id.now v w → SpellsBody records n v w
+  unfolding term_said named_mark forest MarkInRange counted TermSound
+  body_entity e P = record {
+    same = (P []).same;
+    go = λ f S I N k.
+        let is = entry_is records T (ap term_said e) f I k.inside in
+        (P _).go f S I N (record { is = record { inside = k.inside; type_inside = is.in_range; children = nil; tree = is.tree }; sound = is.sound });
   }

@@ -1,27 +1,23 @@
 -- A definition as a line: its head, the term in full, and its end.
 -- Assumes nothing.
-use Prim.Native.Nat.{ℕ, ◌<◌}
-use mathlib.Core.Path.{◌≡◌}
-use mathlib.Core.List.{List}
-use lib.ListN.{length}
-use Rattle.script_spec.specs.Base.{Bytes, bytes}
-use Rattle.script_spec.specs.File.{TermFile, terms}
-use Rattle.script_spec.specs.Walk.{State}
-use Rattle.write_bytes.specs.Writing.{Appends}
-use Rattle.write_bytes.proofs.Laws.{◌then◌, says, from_start, line_past, line_some}
-use Rattle.index.specs.Meaning.{Index}
-use Rattle.index.specs.declared.Sizes.{Sizes}
-use Rattle.walk_names.specs.Naming.{Numbers}
-use Rattle.write_terms.specs.Lines.{own_body, SpellsHead}
-use Rattle.write_terms.specs.Definitions.{SpellsDefinition}
+use denote.MutBor.{MutBor}
+use Prim.Native.Nat.{ℕ}
+use mathlib.Core.Path.{sym, subst}
+use Rattle.script_spec.specs.File.{TermFile}
+use Rattle.write_bytes.specs.declared.writer.Writer.{Writer}
+use Rattle.write_bytes.proofs.Laws.{nothing_past}
+use Rattle.index.specs.declared.Records.{Records}
+use Rattle.walk_names.proofs.Advancing.{continues_refl}
+use Rattle.walk_names.specs.Spells.{Spells}
+use Rattle.walk_names.proofs.Spelling.{written, spells_as, knowing, ◌next◌}
+use Rattle.write_terms.specs.Lines.{own_body, Known}
+use Rattle.write_terms.specs.Definitions.{SpellsDefinition, Defines, past, whole}
 use Rattle.write_terms.proofs.LineLaws.{definition_pieces}
 
-module _ {file : Bytes} {work : List ℕ} {sizes : Sizes} {n room : ℕ} {known : TermFile → Type 0} where
-  -- nothing of it counts
-  pub definition_past : {x : Bytes} → room ≡ 0 → SpellsDefinition file work sizes n room x x 1 known
-  definition_past e = record { go = λ f S I N l is. rw e (line_past (line_some _)) }
-
-  pub definition_line : {p q r : ℕ} {x y z w : Bytes} → SpellsHead file work sizes n room x 0 y p
-      → ((f : TermFile) (S : State) → Index file f work sizes → Numbers f work sizes.rows S → n < length (terms f) → known f → Appends room y p z q (own_body f S n))
-      → Appends room z q w r (bytes ")\n") → SpellsDefinition file work sizes n room x w r known
-  definition_line H B D = record { go = λ f S I N l is. from_start (says (definition_pieces _ _ _) (H.go f S I N l then B f S I N l is then D)) }
+-- what is written by a writer of the body, which writes the term in full
+pub defined : {T : Type 0} {records : Records} {n : ℕ} {of : T} {Body : Records → MutBor Writer → T → Unit {0} → MutBor Writer → Type 0} {is : TermFile → Type 0} {v w : Writer}
+    → ((x y : MutBor Writer) → Body records x of tt y → Spells records (Known n is) (λ f S. own_body f S n) x.now y.now) → Defines records n of Body v w → SpellsDefinition records n is v w
+defined {records = records} {n} {is = is} {v} spells (past h e) =
+    subst (λ (w : Writer). SpellsDefinition records n is v w) (sym e) (record { same = continues_refl; go = λ f S I N k. nothing_past h })
+defined spells (whole x y head body end) =
+    spells_as (λ f S I N k. definition_pieces _ _ _) (knowing (λ f I k. k.inside) head next spells x y body next written end)

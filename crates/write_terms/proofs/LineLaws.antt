@@ -1,52 +1,45 @@
 -- The lines of terms, piece by piece.
 -- Assumes nothing.
-use mathlib.Core.Path.{◌≡◌, sym, ap, ◌∙◌}
+use mathlib.Core.Path.{◌≡◌, refl, sym, ap, ◌∙◌}
 use mathlib.Core.Bool.{true}
-use mathlib.Core.List.{List, [], ◌∷◌, ◌++◌, append_assoc, append-nil}
-use Prim.Native.Nat.{ℕ, ◌-◌, ◌<◌, min}
-use native.Mathlib.Omega.{arith}
-use lib.ListN.{length, take, drop, length-append}
-use package.types.Run.{OneOf, miss}
-use denote.Enum.Declared.{tag_of}
+use mathlib.Core.List.{[], ◌∷◌, ◌++◌, append_assoc, append-nil}
+use Prim.Native.Nat.{ℕ}
+use lib.ListN.{take}
+use denote.Bor.{Bor}
 use Rattle.script_spec.specs.Base.{Bytes, bytes, joined, collect}
 use Rattle.script_spec.specs.Utf8.{is_utf8}
 use Rattle.script_spec.specs.Tree.{Ty, Forest, Mark, node, forest, Var}
 use Rattle.script_spec.specs.File.{TermFile, term_at, named_mark}
 use Rattle.script_spec.specs.Text.{debug}
-use Rattle.script_spec.specs.Command.{Command, headed, listed, spaced, spelled, line, script, comment, declare_const, define_fun}
+use Rattle.script_spec.specs.Command.{Command, headed, listed, spaced, spelled as told, line, script, comment, declare_const, define_fun}
 use Rattle.script_spec.proofs.Laws.{never}
 use Rattle.smtlib_script.proofs.Lines.{line_comment, line_assert}
-use Rattle.write_bytes.specs.Writing.{ceiling, moved, Appends}
-use Rattle.write_bytes.proofs.Laws.{◌then◌, says, from_start, line_says, line_past, line_some}
-use Rattle.read_utf8.specs.Decoding.{points}
-use Rattle.write_text.specs.Written.{quoted}
-use Rattle.write_text.proofs.Runs.{quoted_debug}
-use Rattle.read_field.specs.Answers.{spanned}
-use Rattle.read_field.specs.declared.Span.{Span}
+use Rattle.write_bytes.specs.declared.writer.Writer.{Writer}
+use Rattle.write_bytes.specs.Writers.{Writes}
+use Rattle.read_utf8.proofs.Laws.{utf8_points}
 use Rattle.index.specs.Cells.{cell, term_offset}
-use Rattle.index.specs.Standing as standing
-use Rattle.index.specs.declared.Sizes.{Sizes}
+use Rattle.index.specs.declared.Records.{Records}
 use Rattle.index_entry.specs.Terms.{term_said, TermAt}
 use Rattle.index_entry.specs.declared.terms.TermEntry.{TermEntry}
 use Rattle.index_entry.specs.declared.terms.TermEntry.TheVariants as entry
-use Rattle.index_entry.specs.contracts.terms.TermEntry.{the_type}
-use Rattle.write_types.proofs.LineLaws.{second_line}
 use Rattle.write_atoms.specs.Parts.{term_name_of}
 use Rattle.write_atoms.specs.Records.{TermSound}
+use Rattle.write_atoms.specs.Atoms.{SpellsAtom}
+use Rattle.walk_names.proofs.Spelling.{written, spells_as, knowing, ◌next◌}
 use Rattle.write_atoms.proofs.Rows.{EntryIs, term_here, entry_is}
 use Rattle.write_atoms.proofs.Numbered.{name_is}
-use Rattle.write_atoms.specs.Atoms.{SpellsAtom}
+use Rattle.walk_names.proofs.Advancing.{continues_refl}
 use Rattle.write_terms.specs.Values.{sort_at, SpellsTermSort}
-use Rattle.write_terms.specs.Lines.{definition_head, SpellsHead, SpellsAssertion, SpellsId, SpellsConst, SpellsNamed, SpellsVariable}
+use Rattle.write_terms.specs.Lines.{definition_head, printed, id_line, SpellsHead, SpellsAssertion, SpellsConst, SpellsVariable}
 use Rattle.write_terms.proofs.DebugLaws.{debug_line}
 
 -- the head of a definition, its body and its end
 pub definition_pieces : (n t b : Bytes) → definition_head n t ++ (b ++ bytes ")\n") ≡ line (define_fun n [] t b)
-unfolding definition_head line spelled headed listed spaced joined bytes
+unfolding definition_head line told headed listed spaced joined bytes
 definition_pieces n t b = simp append_assoc
 
 const_pieces : (n t : Bytes) → bytes "(declare-const " ++ (n ++ (bytes " " ++ (t ++ bytes ")\n"))) ≡ line (declare_const n t)
-unfolding line spelled headed spaced joined bytes
+unfolding line told headed spaced joined bytes
 const_pieces n t = simp append_assoc
 
 -- a script of two commands
@@ -54,84 +47,58 @@ two_lines : (c d : Command) → line c ++ line d ≡ script (c ∷ d ∷ [])
 unfolding script collect
 two_lines c d = ap (λ (r : Bytes). line c ++ r) (sym (append-nil (line d)))
 
--- a script of a comment and a command is not empty
-declared_some : (c : Command) (cs : List Command) → 0 < length (script (c ∷ cs))
-unfolding script collect
-declared_some c cs = omega (arith, line_some c, length-append (line c) (script cs))
+-- an id, which is UTF-8
+printed_is : (id : Bytes) → is_utf8 id ≡ true → printed id ≡ debug id
+unfolding printed debug
+printed_is id u = rw (utf8_points id u)
 
-module _ {id : Bytes} {room : ℕ} {x : Bytes} where
-  -- with no room nothing is written
-  pub id_past : room ≡ 0 → SpellsId id room x x 1
-  id_past e = record { go = λ u. rw e (line_past (line_some _)) }
+-- the id of a variable in a comment
+id_is : (id : Bytes) → is_utf8 id ≡ true → id_line id ≡ line (comment (debug id))
+unfolding id_line
+id_is id u = ap (λ (s : Bytes). bytes "; " ++ (s ++ bytes "\n")) (ap (take 200) (printed_is id u) ∙ debug_line id) ∙ line_comment (debug id)
 
-  pub spells_id : {p q r : ℕ} {y z w : Bytes} → Appends room x 0 y p (bytes "; ") → Appends room y p z q (take 200 (quoted true (points id))) → Appends room z q w r (bytes "\n") → SpellsId id room x w r
-  spells_id A Q B = record { go = λ u. from_start (says (line_comment (debug id)) (A then says (ap (take 200) (quoted_debug id u) ∙ debug_line id) Q then B)) }
-
-module _ {file : Bytes} {work : List ℕ} {sizes : Sizes} {n limit : ℕ} {x : Bytes} where
-  pub spells_head : {at p₁ p₂ p₃ p₄ r : ℕ} {x₁ x₂ x₃ x₄ y : Bytes} → Appends limit x at x₁ p₁ (bytes "(define-fun ") → Appends limit x₁ p₁ x₂ p₂ (term_name_of work sizes.rows n)
-      → Appends limit x₂ p₂ x₃ p₃ (bytes " () ") → SpellsTermSort file work sizes n limit x₃ p₃ x₄ p₄ → Appends limit x₄ p₄ y r (bytes " ") → SpellsHead file work sizes n limit x at y r
+module _ {records : Records} {n : ℕ} {v : Writer} where
+  pub spells_head : {v₁ v₂ v₃ v₄ w : Writer} → Writes v v₁ (bytes "(define-fun ") → Writes v₁ v₂ (term_name_of records n) → Writes v₂ v₃ (bytes " () ") → SpellsTermSort records n v₃ v₄
+      → Writes v₄ w (bytes " ") → SpellsHead records n v w
   unfolding sort_at definition_head
-  spells_head A M B P C = record { go = λ f S I N l. A then says (name_is I N l) M then B then P.go f S I N l then C }
+  spells_head A M B P C = written A next spells_as (λ f S I N l. name_is records I N l) (written M) next written B next P next written C
 
-  -- with no room nothing is written
-  pub assertion_past : limit ≡ 0 → SpellsAssertion file work sizes n limit x x 1
-  assertion_past e = record { go = λ f S I N l. rw e (line_past (line_some _)) }
+  pub spells_assertion : {x y w : Writer} → Writes v x (bytes "(assert ") → SpellsAtom records n x y → Writes y w (bytes ")\n") → SpellsAssertion records n v w
+  spells_assertion A P B = spells_as (λ f S I N l. line_assert _) (written A next P next written B)
 
-  pub spells_assertion : {p q r : ℕ} {y z w : Bytes} → Appends limit x 0 y p (bytes "(assert ") → SpellsAtom file work sizes n limit y p z q → Appends limit z q w r (bytes ")\n")
-      → SpellsAssertion file work sizes n limit x w r
-  spells_assertion A P B = record { go = λ f S I N l. from_start (says (line_assert _) (A then P.go f S I N l then B)) }
-
-  -- with no room nothing is written
-  pub const_past : limit ≡ 0 → SpellsConst file work sizes n limit x x 1
-  const_past e = record { go = λ f S I N l. rw e (line_past (line_some _)) }
-
-  pub spells_const : {p₁ p₂ p₃ p₄ r : ℕ} {x₁ x₂ x₃ x₄ y : Bytes} → Appends limit x 0 x₁ p₁ (bytes "(declare-const ") → Appends limit x₁ p₁ x₂ p₂ (term_name_of work sizes.rows n)
-      → Appends limit x₂ p₂ x₃ p₃ (bytes " ") → SpellsTermSort file work sizes n limit x₃ p₃ x₄ p₄ → Appends limit x₄ p₄ y r (bytes ")\n") → SpellsConst file work sizes n limit x y r
+  pub spells_const : {v₁ v₂ v₃ v₄ w : Writer} → Writes v v₁ (bytes "(declare-const ") → Writes v₁ v₂ (term_name_of records n) → Writes v₂ v₃ (bytes " ") → SpellsTermSort records n v₃ v₄
+      → Writes v₄ w (bytes ")\n") → SpellsConst records n v w
   unfolding sort_at
-  spells_const A M B P C = record { go = λ f S I N l. from_start (says (const_pieces _ _) (A then says (name_is I N l) M then B then P.go f S I N l then C)) }
+  spells_const A M B P C = spells_as (λ f S I N l. const_pieces _ _) (written A next spells_as (λ f S I N l. name_is records I N l) (written M) next written B next P next written C)
 
-  -- a comment, and the declaration in the rest after it
-  pub spells_named : {id : Bytes} {at from left m r : ℕ} {y ys : Bytes} → SpellsId id limit x y at → from ≡ min at (length y) → left ≡ ceiling limit - at
-      → SpellsConst file work sizes n left (take (length y - from) (drop from y)) ys m → r ≡ moved at m (ceiling limit)
-      → SpellsNamed file work sizes n id limit x (take from y ++ (ys ++ drop (length y - from) (drop from y))) r
-  spells_named {id} Q hf hl C hr = record { go = λ f S I N l u. line_says (two_lines (comment (debug id)) _) (second_line (Q.go u) hf hl (C.go f S I N l) hr) }
-
-  -- ---- the terms that are variables
-
-  pub variable_past : limit ≡ 0 → SpellsVariable file work sizes n limit x x 1
-  variable_past e = record { go = λ f S I N l id ty ts v. rw e (line_past (declared_some _ _)) }
-
-  pub variable_named : {p : Span} {t q : ℕ} {s id y : Bytes} {r : TermEntry} → TermAt file (cell work sizes.rows term_offset n) r → r ≡ entry.Var p t → s ≡ standing.body_at file (cell work sizes.rows term_offset n)
-      → id ≡ take p.len (drop p.start s) → SpellsNamed file work sizes n id limit x y q → SpellsVariable file work sizes n limit x y q
-  unfolding term_said named_mark forest TermSound spanned
-  variable_named {p} {id = id} T e b i P = record {
-    go = λ f S I N l id' ty ts v.
-        let is = entry_is T (ap (term_said _) e) f I l in
-        let tree = is.tree ∙ v in
-        let here : id ≡ spanned (standing.body_at file (cell work sizes.rows term_offset n)) p = i ∙ ap (λ (u : Bytes). take p.len (drop p.start u)) b in
-        let there : spanned (standing.body_at file (cell work sizes.rows term_offset n)) p ≡ id' = cc in
-        rw (← there, ← here) (P.go f S I N l (ap is_utf8 here ∙ is.sound));
-  }
-
--- the others, by their places among the entries
-abbrev others : List ℕ
-others = 1 ∷ 2 ∷ 3 ∷ 4 ∷ 5 ∷ 6 ∷ 7 ∷ 8 ∷ 9 ∷ 10 ∷ 11 ∷ []
-
-no_variable : (f : TermFile) (n : ℕ) (s id : Bytes) (ty : Ty) (ts : Forest Mark) (r : TermEntry) → OneOf others (tag_of the_type r) → EntryIs f n (term_said s r) → term_at f n ≡ node (Var id ty) ts → ◌≡◌ {A = ℕ} 0 1
+-- a term that is no variable
+no_variable : (f : TermFile) (n : ℕ) (id : Bytes) (ty : Ty) (ts : Forest Mark) (r : TermEntry) → ((s : Bor Bytes) (t : ℕ) → r ≡ entry.Var s t → ⊥) → EntryIs f n (term_said r) → term_at f n ≡ node (Var id ty) ts → ◌≡◌ {A = ℕ} 0 1
 unfolding term_said named_mark
-no_variable f n s id ty ts (entry.Var p t) h i e = absurd (miss others 0 tt h)
-no_variable f n s id ty ts (entry.BoolLit b) h i e = let z = i.tree ∙ e in cc
-no_variable f n s id ty ts (entry.BitVecLit w v) h i e = let z = i.tree ∙ e in cc
-no_variable f n s id ty ts (entry.StringLit p) h i e = let z = i.tree ∙ e in cc
-no_variable f n s id ty ts (entry.Entity t p) h i e = let z = i.tree ∙ e in cc
-no_variable f n s id ty ts (entry.ExtLit v) h i e = let z = i.tree ∙ e in cc
-no_variable f n s id ty ts (entry.None t) h i e = let z = i.tree ∙ e in cc
-no_variable f n s id ty ts (entry.Some m) h i e = let z = i.tree ∙ e in cc
-no_variable f n s id ty ts (entry.Set t c) h i e = let z = i.tree ∙ e in cc
-no_variable f n s id ty ts (entry.Record c) h i e = let z = i.tree ∙ e in cc
-no_variable f n s id ty ts (entry.App t o c) h i e = let z = i.tree ∙ e in cc
-no_variable f n s id ty ts entry.Unreadable h i e = absurd i
+no_variable f n id ty ts (entry.Var p t) h i e = absurd (h p t refl)
+no_variable f n id ty ts (entry.BoolLit b) h i e = let z = i.tree ∙ e in cc
+no_variable f n id ty ts (entry.BitVecLit w v) h i e = let z = i.tree ∙ e in cc
+no_variable f n id ty ts (entry.StringLit p) h i e = let z = i.tree ∙ e in cc
+no_variable f n id ty ts (entry.Entity t p) h i e = let z = i.tree ∙ e in cc
+no_variable f n id ty ts (entry.ExtLit v) h i e = let z = i.tree ∙ e in cc
+no_variable f n id ty ts (entry.None t) h i e = let z = i.tree ∙ e in cc
+no_variable f n id ty ts (entry.Some m) h i e = let z = i.tree ∙ e in cc
+no_variable f n id ty ts (entry.Set t c) h i e = let z = i.tree ∙ e in cc
+no_variable f n id ty ts (entry.Record c) h i e = let z = i.tree ∙ e in cc
+no_variable f n id ty ts (entry.App t o c) h i e = let z = i.tree ∙ e in cc
+no_variable f n id ty ts entry.Unreadable h i e = absurd i
 
-pub variable_never : {file : Bytes} {work : List ℕ} {sizes : Sizes} {n room : ℕ} {x : Bytes} {r : TermEntry} → TermAt file (cell work sizes.rows term_offset n) r → OneOf others (tag_of the_type r)
-    → SpellsVariable file work sizes n room x x 0
-variable_never {n = n} {r = r} T h = record { go = λ f S I N l id ty ts v. never (no_variable f n _ id ty ts r h (term_here T f I l) v) }
+module _ {records : Records} {n : ℕ} {v : Writer} {r : TermEntry} (T : TermAt records.file.now (cell records.work.now records.sizes.rows term_offset n) r) where
+  -- a variable, whose id is that of its entry
+  pub variable_named : {id : Bor Bytes} {t : ℕ} {x w : Writer} → r ≡ entry.Var id t → Writes v x (id_line id.now) → SpellsConst records n x w → SpellsVariable records n v w
+  unfolding term_said named_mark forest TermSound
+  variable_named {id} e A P s =
+      spells_as (λ f S I N k. two_lines (comment (debug s)) _)
+      (spells_as (λ f S I N k.
+      let is = entry_is records T (ap term_said e) f I k.inside in
+      let tree = is.tree ∙ k.tree in
+      let same : id.now ≡ s = cc in
+      id_is id.now is.sound ∙ ap (λ (i : Bytes). line (comment (debug i))) same) (written A) next knowing (λ f I k. k.inside) P)
+
+  -- any other term
+  pub variable_never : ((s : Bor Bytes) (t : ℕ) → r ≡ entry.Var s t → ⊥) → SpellsVariable records n v v
+  variable_never h s = record { same = continues_refl; go = λ f S I N k. never (no_variable f n s k.type k.children r h (term_here records T f I k.inside) k.tree) }

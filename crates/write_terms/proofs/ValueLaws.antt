@@ -9,37 +9,34 @@ use Rattle.script_spec.specs.File.{TermFile}
 use Rattle.script_spec.specs.Command.{headed, spaced}
 use Rattle.script_spec.specs.Spelling.{sort, as_sort, set_value, record_value}
 use Rattle.script_spec.specs.Walk.{State, names}
-use Rattle.write_bytes.specs.Writing.{Appends}
-use Rattle.write_bytes.proofs.Laws.{◌then◌, says}
+use Rattle.write_bytes.specs.declared.writer.Writer.{Writer}
+use Rattle.write_bytes.specs.Writers.{Writes}
 use Rattle.index.specs.Cells.{cell, term_type}
-use Rattle.index.specs.declared.Sizes.{Sizes}
-use Rattle.write_types.specs.Sorts.{SpellsSort}
+use Rattle.index.specs.declared.Records.{Records}
 use Rattle.index_entry.specs.Terms.{children_in}
-use Rattle.index_entry.specs.declared.terms.Children.{Children}
+use Rattle.index_entry.specs.declared.terms.Compound.{Compound}
 use Rattle.index_entry.proofs.ChildLaws.{no_children, length_children}
+use Rattle.write_types.specs.Sorts.{SpellsSort}
 use Rattle.write_atoms.specs.Atoms.{SpellsAtom}
+use Rattle.walk_names.proofs.Spelling.{written, spells_as, knowing, ◌next◌}
 use Rattle.write_terms.specs.Arguments.{atoms, spaced_before, SpellsArguments}
 use Rattle.write_terms.specs.Values.{sort_at, SpellsTermSort, SpellsConstant, SpellsSome, SpellsSet, SpellsRecord}
 use Rattle.write_terms.proofs.ArgumentLaws.{headed_closed, headed_last, atoms_some}
 
 -- ---- the sort of a term
 
-pub term_sort : {file : Bytes} {work : List ℕ} {sizes : Sizes} {n t limit at r : ℕ} {x y : Bytes} → t ≡ cell work sizes.rows term_type n → SpellsSort file work sizes t limit x at y r
-    → SpellsTermSort file work sizes n limit x at y r
+pub term_sort : {records : Records} {n t : ℕ} {v w : Writer} → t ≡ cell records.work.now records.sizes.rows term_type n → SpellsSort records t v w → SpellsTermSort records n v w
 unfolding sort_at
-term_sort {n = n} e P = record {
-  go = λ f S I N l.
-      let row = I.rows.term_row n l in
-      says (ap (sort (names S)) ((rw e) ∙ row.type_is)) (P.go f S I N (rw e row.type_below));
-}
+term_sort {n = n} e P =
+    spells_as (λ f S I N l. ap (sort (names S)) ((rw e) ∙ (I.rows.term_row n l).type_is)) (knowing (λ f I l. rw e (I.rows.term_row n l).type_below) P)
 
 as_pieces : (constant ty : Bytes) → bytes "(as " ++ (constant ++ (bytes " " ++ (ty ++ bytes ")"))) ≡ as_sort constant ty
 unfolding as_sort headed spaced joined bytes
 as_pieces constant ty = simp append_assoc
 
-pub spells_constant : {file : Bytes} {work : List ℕ} {sizes : Sizes} {n limit at p₁ p₂ p₃ p₄ r : ℕ} {constant x x₁ x₂ x₃ x₄ y : Bytes} → Appends limit x at x₁ p₁ (bytes "(as ") → Appends limit x₁ p₁ x₂ p₂ constant
-    → Appends limit x₂ p₂ x₃ p₃ (bytes " ") → SpellsTermSort file work sizes n limit x₃ p₃ x₄ p₄ → Appends limit x₄ p₄ y r (bytes ")") → SpellsConstant file work sizes n constant limit x at y r
-spells_constant A B C P D = record { go = λ f S I N l. says (as_pieces _ _) (A then B then C then P.go f S I N l then D) }
+pub spells_constant : {records : Records} {n : ℕ} {constant : Bytes} {v v₁ v₂ v₃ v₄ w : Writer} → Writes v v₁ (bytes "(as ") → Writes v₁ v₂ constant → Writes v₂ v₃ (bytes " ")
+    → SpellsTermSort records n v₃ v₄ → Writes v₄ w (bytes ")") → SpellsConstant records n constant v w
+spells_constant A B C P D = spells_as (λ f S I N l. as_pieces _ _) (written A next written B next written C next P next written D)
 
 -- ---- options
 
@@ -47,9 +44,8 @@ some_pieces : (s : Bytes) → bytes "(some " ++ (s ++ bytes ")") ≡ headed (byt
 unfolding headed spaced joined bytes
 some_pieces s = refl
 
-pub spells_some : {file : Bytes} {work : List ℕ} {sizes : Sizes} {m limit at p q r : ℕ} {x y z w : Bytes} → Appends limit x at y p (bytes "(some ") → SpellsAtom file work sizes m limit y p z q
-    → Appends limit z q w r (bytes ")") → SpellsSome file work sizes m limit x at w r
-spells_some A P B = record { go = λ f S I N l. says (some_pieces _) (A then P.go f S I N l then B) }
+pub spells_some : {records : Records} {m : ℕ} {v x y w : Writer} → Writes v x (bytes "(some ") → SpellsAtom records m x y → Writes y w (bytes ")") → SpellsSome records m v w
+spells_some A P B = spells_as (λ f S I N l. some_pieces _) (written A next P next written B)
 
 -- ---- sets and records
 
@@ -67,23 +63,23 @@ record_full f S ty (n ∷ ns) h = refl
 record_some : (f : TermFile) (S : State) (ty : Bytes) (ns : List ℕ) → (length ns ≡ 0 → ⊥) → bytes "(" ++ (ty ++ (spaced_before (atoms f S ns) ++ bytes ")")) ≡ record_value ty (atoms f S ns)
 record_some f S ty ns h = ap (λ (s : Bytes). bytes "(" ++ (ty ++ s)) (atoms_some f S ns h) ∙ headed_closed ty (atoms f S ns) ∙ record_full f S ty ns h
 
-module _ {file : Bytes} {work : List ℕ} {sizes : Sizes} {n : ℕ} {body : Bytes} {c : Children} {limit at : ℕ} {x : Bytes} where
-  pub set_none : {r : ℕ} {y : Bytes} → c.left ≡ 0 → SpellsConstant file work sizes n (bytes "set.empty") limit x at y r → SpellsSet file work sizes n body c limit x at y r
+module _ {records : Records} {c : Compound} {v : Writer} where
+  pub set_none : {w : Writer} → c.children.left ≡ 0 → SpellsConstant records c.number (bytes "set.empty") v w → SpellsSet records c v w
   unfolding atoms set_value
-  set_none e P = record { go = λ f S I N l b. let none : children_in body c ≡ [] = no_children body c e in says (rw none) (P.go f S I N l) }
+  set_none e P = let none : children_in c.children ≡ [] = no_children c.children e in spells_as (λ f S I N k. rw none) (knowing (λ f I k. k.inside) P)
 
-  pub spells_set : {p₁ p₂ p₃ p₄ r : ℕ} {x₁ x₂ x₃ x₄ y : Bytes} → (c.left ≡ 0 → ⊥) → Appends limit x at x₁ p₁ (bytes "(set.insert") → SpellsArguments file work sizes body c limit x₁ p₁ x₂ p₂
-      → Appends limit x₂ p₂ x₃ p₃ (bytes " ") → SpellsConstant file work sizes n (bytes "set.empty") limit x₃ p₃ x₄ p₄ → Appends limit x₄ p₄ y r (bytes ")") → SpellsSet file work sizes n body c limit x at y r
-  spells_set h A P B C D = record {
-    go = λ f S I N l b. says (set_some f S (sort_at f S n) (children_in body c) (λ e. h (sym (length_children body c) ∙ e))) (A then P.go f S I N b then B then C.go f S I N l then D);
-  }
+  pub spells_set : {v₁ v₂ v₃ v₄ w : Writer} → (c.children.left ≡ 0 → ⊥) → Writes v v₁ (bytes "(set.insert") → SpellsArguments records c.children v₁ v₂ → Writes v₂ v₃ (bytes " ")
+      → SpellsConstant records c.number (bytes "set.empty") v₃ v₄ → Writes v₄ w (bytes ")") → SpellsSet records c v w
+  spells_set h A P B C D =
+      spells_as (λ f S I N k. set_some f S (sort_at f S c.number) (children_in c.children) (λ e. h (sym (length_children c.children) ∙ e)))
+      (written A next knowing (λ f I k. k.below) P next written B next knowing (λ f I k. k.inside) C next written D)
 
-  pub record_none : {r : ℕ} {y : Bytes} → c.left ≡ 0 → SpellsTermSort file work sizes n limit x at y r → SpellsRecord file work sizes n body c limit x at y r
+  pub record_none : {w : Writer} → c.children.left ≡ 0 → SpellsTermSort records c.number v w → SpellsRecord records c v w
   unfolding atoms record_value
-  record_none e P = record { go = λ f S I N l b. let none : children_in body c ≡ [] = no_children body c e in says (rw none) (P.go f S I N l) }
+  record_none e P = let none : children_in c.children ≡ [] = no_children c.children e in spells_as (λ f S I N k. rw none) (knowing (λ f I k. k.inside) P)
 
-  pub spells_record : {p₁ p₂ p₃ r : ℕ} {x₁ x₂ x₃ y : Bytes} → (c.left ≡ 0 → ⊥) → Appends limit x at x₁ p₁ (bytes "(") → SpellsTermSort file work sizes n limit x₁ p₁ x₂ p₂
-      → SpellsArguments file work sizes body c limit x₂ p₂ x₃ p₃ → Appends limit x₃ p₃ y r (bytes ")") → SpellsRecord file work sizes n body c limit x at y r
-  spells_record h A C P B = record {
-    go = λ f S I N l b. says (record_some f S (sort_at f S n) (children_in body c) (λ e. h (sym (length_children body c) ∙ e))) (A then C.go f S I N l then P.go f S I N b then B);
-  }
+  pub spells_record : {v₁ v₂ v₃ w : Writer} → (c.children.left ≡ 0 → ⊥) → Writes v v₁ (bytes "(") → SpellsTermSort records c.number v₁ v₂ → SpellsArguments records c.children v₂ v₃
+      → Writes v₃ w (bytes ")") → SpellsRecord records c v w
+  spells_record h A C P B =
+      spells_as (λ f S I N k. record_some f S (sort_at f S c.number) (children_in c.children) (λ e. h (sym (length_children c.children) ∙ e)))
+      (written A next knowing (λ f I k. k.inside) C next knowing (λ f I k. k.below) P next written B)

@@ -7,19 +7,19 @@ use Rattle.script_spec.specs.File.{TermFile, types, funs, terms, term_at, named_
 use Rattle.script_spec.specs.Text.{decimal}
 use Rattle.script_spec.specs.Command.{headed}
 use Rattle.script_spec.specs.Spelling.{Names, plain_name, ext_op_name, bit_vec, pattern, selector, application}
-use Rattle.script_spec.specs.Walk.{State, names}
-use Rattle.write_bytes.specs.Writing.{Appends}
-use Rattle.write_pattern.specs.Elements.{elements}
+use Rattle.script_spec.specs.Walk.{names}
+use Rattle.write_bytes.specs.declared.writer.Writer.{Writer}
+use Rattle.read_field.specs.Words.{elements}
+use Rattle.read_operator.specs.Operators.{op_of}
 use Rattle.index.specs.First.{OpInRange, Below}
-use Rattle.index.specs.Meaning.{Index, counted}
-use Rattle.index.specs.declared.Sizes.{Sizes}
-use Rattle.walk_names.specs.Naming.{Numbers}
-use Rattle.read_operator.specs.Operators.{pattern_bytes, op_of}
-use Rattle.read_operator.specs.declared.Op as operator
-use Rattle.read_operator.specs.declared.Pattern.{Pattern}
+use Rattle.index.specs.Meaning.{counted}
+use Rattle.index.specs.declared.Records.{Records}
 use Rattle.index_entry.specs.Terms.{children_in}
+use Rattle.index_entry.specs.declared.terms.Application.{Application}
 use Rattle.index_entry.specs.declared.terms.Children.{Children}
-use Rattle.write_terms.specs.Arguments.{atoms, SpellsOver}
+use Rattle.walk_names.specs.Spells.{Spells}
+use Rattle.write_terms.specs.Arguments.{atoms, HasTerms, SpellsOver}
+use Rattle.write_terms.specs.declared.applications.Comparison.{Comparison}
 
 -- the types of the terms with these numbers
 unfoldable pub types_at : TermFile → List ℕ → Forest TypeMark
@@ -34,34 +34,34 @@ head_of ν (StringLike p) tys = []
 head_of ν (Uuf g) tys = ν.func g
 head_of ν (ZeroExtend n) tys = headed (bytes "_") (bytes "zero_extend" ∷ decimal n ∷ [])
 
--- the selector of an attribute is written, whatever file was accepted and whatever names were given
-pub record SpellsSelector (file : Bytes) (work : List ℕ) (sizes : Sizes) (body : Bytes) (c : Children) (name : Bytes) (limit : ℕ) (x : Bytes) (at : ℕ) (y : Bytes) (r : ℕ) : Type 0 where
-  pub go : (f : TermFile) (S : State) → Index file f work sizes → Numbers f work sizes.rows S → Below (length (terms f)) (children_in body c)
-      → Appends limit x at y r (selector (names S) name (types_at f (children_in body c)))
+-- the selector of an attribute is written
+abbrev pub SpellsSelector : Records → Children → Bytes → Writer → Writer → Type 0
+SpellsSelector records c name = Spells records (HasTerms (children_in c)) (λ f S. selector (names S) name (types_at f (children_in c)))
 
--- the head of an application is written
-pub record SpellsOperatorHead (file : Bytes) (work : List ℕ) (sizes : Sizes) (body : Bytes) (o : operator.Op) (c : Children) (limit : ℕ) (x : Bytes) (at : ℕ) (y : Bytes) (r : ℕ) : Type 0 where
-  pub go : (f : TermFile) (S : State) → Index file f work sizes → Numbers f work sizes.rows S → (n : ℕ) → OpInRange (counted (length (types f)) (length (funs f)) n) (op_of body o)
-      → Below (length (terms f)) (children_in body c) → Appends limit x at y r (head_of (names S) (named_op f (op_of body o)) (types_at f (children_in body c)))
+-- the file has what an application refers to
+pub record HasCall (call : Application) (f : TermFile) : Type 0 where
+  pub number : ℕ
+  pub op_in_range : OpInRange (counted (length (types f)) (length (funs f)) number) (op_of call.op)
+  pub below : Below (length (terms f)) (children_in call.arguments)
 
-module _ (file : Bytes) (work : List ℕ) (sizes : Sizes) (body : Bytes) where
-  module _ (o : operator.Op) (c : Children) (limit : ℕ) (x : Bytes) (at : ℕ) (y : Bytes) (r : ℕ) where
-    -- the head before the arguments is written
-    pub record SpellsApplied : Type 0 where
-      pub go : (f : TermFile) (S : State) → Index file f work sizes → Numbers f work sizes.rows S → (n : ℕ) → OpInRange (counted (length (types f)) (length (funs f)) n) (op_of body o)
-          → Below (length (terms f)) (children_in body c) → Appends limit x at y r (headed (head_of (names S) (named_op f (op_of body o)) (types_at f (children_in body c))) (atoms f S (children_in body c)))
+-- the head is written
+abbrev pub SpellsOperatorHead : Records → Application → Writer → Writer → Type 0
+SpellsOperatorHead records call = Spells records (HasCall call) (λ f S. head_of (names S) (named_op f (op_of call.op)) (types_at f (children_in call.arguments)))
 
-    -- an application of an operator is written
-    pub record SpellsOperator : Type 0 where
-      pub go : (f : TermFile) (S : State) → Index file f work sizes → Numbers f work sizes.rows S → (n : ℕ) → OpInRange (counted (length (types f)) (length (funs f)) n) (op_of body o)
-          → Below (length (terms f)) (children_in body c)
-          → Appends limit x at y r (application (names S) (named_op f (op_of body o)) (types_at f (children_in body c)) (atoms f S (children_in body c)))
+-- the head before the arguments is written
+abbrev pub SpellsApplied : Records → Application → Writer → Writer → Type 0
+SpellsApplied records call =
+    Spells records (HasCall call) (λ f S. headed (head_of (names S) (named_op f (op_of call.op)) (types_at f (children_in call.arguments))) (atoms f S (children_in call.arguments)))
 
-  module _ (c : Children) (limit : ℕ) (x : Bytes) (at : ℕ) (y : Bytes) (r : ℕ) where
-    -- the comparison with the least signed number of w bits is written
-    abbrev pub SpellsComparison : ℕ → Type 0
-    SpellsComparison w = SpellsOver file work sizes body c limit x at y r (λ f S xs. headed (bytes "=") (xs ++ (bit_vec w (2 ^ (w - 1) % 2 ^ 128) ∷ [])))
+-- the application is written
+abbrev pub SpellsOperator : Records → Application → Writer → Writer → Type 0
+SpellsOperator records call =
+    Spells records (HasCall call) (λ f S. application (names S) (named_op f (op_of call.op)) (types_at f (children_in call.arguments)) (atoms f S (children_in call.arguments)))
 
-    -- the match with a pattern of the body is written
-    abbrev pub SpellsLike : Pattern → Type 0
-    SpellsLike p = SpellsOver file work sizes body c limit x at y r (λ f S xs. headed (bytes "str.in_re") (xs ++ (pattern (elements (pattern_bytes body p)) ∷ [])))
+-- the comparison with the least signed number of a width is written
+abbrev pub SpellsComparison : Records → Comparison → Writer → Writer → Type 0
+SpellsComparison records c = SpellsOver records c.arguments (λ xs. headed (bytes "=") (xs ++ (bit_vec c.width (2 ^ (c.width - 1) % 2 ^ 128) ∷ [])))
+
+-- the match with a pattern is written
+abbrev pub SpellsLike : Records → Children → Bytes → Writer → Writer → Type 0
+SpellsLike records c p = SpellsOver records c (λ xs. headed (bytes "str.in_re") (xs ++ (pattern (elements p) ∷ [])))

@@ -6,13 +6,12 @@ use Rattle.script_spec.specs.File.{TermFile, terms, term_at, members}
 use Rattle.script_spec.specs.Command.{spaced}
 use Rattle.script_spec.specs.Spelling.{atom}
 use Rattle.script_spec.specs.Walk.{State, names}
-use Rattle.write_bytes.specs.Writing.{Appends}
+use Rattle.write_bytes.specs.declared.writer.Writer.{Writer}
 use Rattle.index.specs.First.{Below}
-use Rattle.index.specs.Meaning.{Index}
-use Rattle.index.specs.declared.Sizes.{Sizes}
-use Rattle.walk_names.specs.Naming.{Numbers}
+use Rattle.index.specs.declared.Records.{Records}
 use Rattle.index_entry.specs.Terms.{children_in}
 use Rattle.index_entry.specs.declared.terms.Children.{Children}
+use Rattle.walk_names.specs.Spells.{Spells}
 
 -- terms as they are spelled where they are used, by their numbers
 unfoldable pub atoms : TermFile → State → List ℕ → List Bytes
@@ -26,16 +25,18 @@ spaced_before xs = collect (λ x. bytes " " ++ x) xs
 unfoldable pub closed_list : List Bytes → Bytes
 closed_list xs = bytes " " ++ (spaced xs ++ bytes ")")
 
-module _ (file : Bytes) (work : List ℕ) (sizes : Sizes) (body : Bytes) (c : Children) (limit : ℕ) (x : Bytes) (at : ℕ) (y : Bytes) (r : ℕ) where
-  -- a text over the children of a body is written, whatever file was accepted and whatever names were given
-  pub record SpellsOver (text : TermFile → State → List Bytes → Bytes) : Type 0 where
-    pub go : (f : TermFile) (S : State) → Index file f work sizes → Numbers f work sizes.rows S → Below (length (terms f)) (children_in body c)
-        → Appends limit x at y r (text f S (atoms f S (children_in body c)))
+-- the file has the terms with these numbers
+abbrev pub HasTerms : List ℕ → TermFile → Type 0
+HasTerms ns f = Below (length (terms f)) ns
 
-  -- each child is written after a space
-  abbrev pub SpellsArguments : Type 0
-  SpellsArguments = SpellsOver (λ f S xs. spaced_before xs)
+-- a text over children is written
+abbrev pub SpellsOver : Records → Children → (List Bytes → Bytes) → Writer → Writer → Type 0
+SpellsOver records c text = Spells records (HasTerms (children_in c)) (λ f S. text (atoms f S (children_in c)))
 
-  -- the children are written, and the end
-  abbrev pub SpellsClosed : Type 0
-  SpellsClosed = SpellsOver (λ f S xs. closed_list xs)
+-- each child is written after a space
+abbrev pub SpellsArguments : Records → Children → Writer → Writer → Type 0
+SpellsArguments records c = SpellsOver records c spaced_before
+
+-- the children are written, and the end
+abbrev pub SpellsClosed : Records → Children → Writer → Writer → Type 0
+SpellsClosed records c = SpellsOver records c closed_list

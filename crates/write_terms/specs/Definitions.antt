@@ -1,22 +1,23 @@
--- What writing the definition of a term as a line into the rest of a script promises.
+-- What writing the definition of a term as a line promises.
 -- Assumes nothing.
-use Rattle.std.specs.Prelude.{ℕ, ◌<◌, ◌≡◌, false, List, [], ◌∷◌, length}
-use Rattle.script_spec.specs.Base.{Bytes}
+use denote.MutBor.{MutBor}
+use Rattle.std.specs.Prelude.{ℕ, ◌<◌, ◌≡◌, false, List, [], ◌∷◌}
+use Rattle.script_spec.specs.Base.{Bytes, bytes}
 use Rattle.script_spec.specs.Tree.{Op, Some, Set, Record, App, type_of, ordinary, comparison, negation}
-use Rattle.script_spec.specs.File.{TermFile, terms, term_at}
+use Rattle.script_spec.specs.File.{TermFile, term_at}
 use Rattle.script_spec.specs.Command.{line, define_fun}
 use Rattle.script_spec.specs.Spelling.{sort}
 use Rattle.script_spec.specs.Walk.{State, names}
-use Rattle.write_bytes.specs.Writing.{Wrote}
+use Rattle.write_bytes.specs.declared.writer.Writer.{Writer}
+use Rattle.write_bytes.specs.Writing.{ceiling}
+use Rattle.write_bytes.specs.Writers.{Writes}
 use Rattle.read_operator.specs.Operators.{op_of}
-use Rattle.read_operator.specs.declared.Op as operator
-use Rattle.index.specs.Meaning.{Index}
-use Rattle.index.specs.declared.Sizes.{Sizes}
-use Rattle.walk_names.specs.Naming.{Numbers}
+use Rattle.index.specs.declared.Records.{Records}
 use Rattle.index_entry.specs.Terms.{children_in}
-use Rattle.index_entry.specs.declared.terms.Children.{Children}
+use Rattle.index_entry.specs.declared.terms.Application.{Application}
 use Rattle.write_atoms.specs.Records.{TermIs}
-use Rattle.write_terms.specs.Lines.{is_compound, own_body}
+use Rattle.walk_names.specs.Spells.{Spells}
+use Rattle.write_terms.specs.Lines.{is_compound, own_body, Known, SpellsHead}
 
 -- ---- what is known of the term with number n
 
@@ -38,11 +39,11 @@ pub record RecordIs (n : ℕ) (rs : List ℕ) (f : TermFile) : Type 0 where
   pub names : List Bytes
   pub is : TermIs f n (Record names) rs
 
--- it is an application of an operator to the children that a body has, and is written by its operator
-pub record OrdinaryIs (n : ℕ) (s : Bytes) (o : operator.Op) (c : Children) (f : TermFile) : Type 0 where
+-- it is this application, and is written by its operator
+pub record OrdinaryIs (call : Application) (f : TermFile) : Type 0 where
   pub result : ℕ
-  pub is : TermIs f n (App result (op_of s o)) (children_in s c)
-  pub becomes : negation (term_at f n) ≡ ordinary
+  pub is : TermIs f call.number (App result (op_of call.op)) (children_in call.arguments)
+  pub becomes : negation (term_at f call.number) ≡ ordinary
 
 -- it is an application to the terms with these numbers that is written as a comparison of w bits
 pub record ComparisonIs (n w : ℕ) (rs : List ℕ) (f : TermFile) : Type 0 where
@@ -53,7 +54,15 @@ pub record ComparisonIs (n w : ℕ) (rs : List ℕ) (f : TermFile) : Type 0 wher
 
 -- ---- its line
 
--- the definition of the term with number n is written from the start of x, for a term of which that is known
-pub record SpellsDefinition (file : Bytes) (work : List ℕ) (sizes : Sizes) (n room : ℕ) (x y : Bytes) (r : ℕ) (known : TermFile → Type 0) : Type 0 where
-  pub go : (f : TermFile) (S : State) → Index file f work sizes → Numbers f work sizes.rows S → n < length (terms f) → known f
-      → Wrote room x y r (line (define_fun ((names S).term (term_at f n)) [] (sort (names S) (type_of (term_at f n))) (own_body f S n)))
+-- the definition of the term with number n
+abbrev pub definition_line : ℕ → TermFile → State → Bytes
+definition_line n f S = line (define_fun ((names S).term (term_at f n)) [] (sort (names S) (type_of (term_at f n))) (own_body f S n))
+
+-- the definition is written, where that is known of the term
+abbrev pub SpellsDefinition : Records → ℕ → (TermFile → Type 0) → Writer → Writer → Type 0
+SpellsDefinition records n is = Spells records (Known n is) (definition_line n)
+
+-- the definition is written by a writer of its body, which is handed what it is of; or the place is past the limit already
+pub data Defines {T : Type 0} (records : Records) (n : ℕ) (of : T) (Body : Records → MutBor Writer → T → Unit {0} → MutBor Writer → Type 0) (v w : Writer) : Type 0 where
+  past : ceiling v.limit < v.at → w ≡ v → Defines records n of Body v w
+  whole : (x y : MutBor Writer) → SpellsHead records n v x.now → Body records x of tt y → Writes y.now w (bytes ")\n") → Defines records n of Body v w

@@ -1,20 +1,20 @@
 -- What writing the body of a term, its declaration, the head of its definition and its assertion promises.
 -- Assumes nothing.
-use Rattle.std.specs.Prelude.{ℕ, ◌<◌, ◌≡◌, Bool, true, false, List, [], ◌∷◌, ◌++◌, map, length}
-use Rattle.script_spec.specs.Base.{Bytes, bytes}
+use Rattle.std.specs.Prelude.{ℕ, ◌<◌, ◌≡◌, Bool, true, false, List, [], ◌∷◌, ◌++◌, map, length, take}
+use Rattle.script_spec.specs.Base.{Bytes, bytes, collect}
 use Rattle.script_spec.specs.Utf8.{is_utf8}
 use Rattle.script_spec.specs.Tree.{Tm, Ty, Forest, Mark, node, children, type_of}
 use Rattle.script_spec.specs.Tree.{Var, BoolLit, BitVecLit, StringLit, Entity, ExtLit, None, Some, Set, Record, App}
-use Rattle.script_spec.specs.File.{TermFile, types, terms, type_at, term_at, members}
-use Rattle.script_spec.specs.Text.{literal, debug}
+use Rattle.script_spec.specs.File.{TermFile, terms, type_at, term_at, members}
+use Rattle.script_spec.specs.Text.{literal, debug_char, debug}
 use Rattle.script_spec.specs.Command.{headed, line, script, comment, declare_const, assert_that}
 use Rattle.script_spec.specs.Spelling.{sort, atom, body}
 use Rattle.script_spec.specs.Walk.{State, names}
-use Rattle.write_bytes.specs.Writing.{Appends, Wrote}
+use Rattle.write_bytes.specs.declared.writer.Writer.{Writer}
 use Rattle.read_utf8.specs.Decoding.{points}
-use Rattle.index.specs.Meaning.{Index}
-use Rattle.index.specs.declared.Sizes.{Sizes}
-use Rattle.walk_names.specs.Naming.{Numbers}
+use Rattle.index.specs.declared.Records.{Records}
+use Rattle.walk_names.specs.Spells.{Spells, HasType, HasTerm}
+use Rattle.write_atoms.specs.Atoms.{EntityIs}
 
 -- ---- bodies
 
@@ -40,51 +40,58 @@ own_body f S n = body (members f) (names S) (term_at f n) (map (atom (members f)
 unfoldable pub definition_head : Bytes → Bytes → Bytes
 definition_head name sort = bytes "(define-fun " ++ (name ++ (bytes " () " ++ (sort ++ bytes " ")))
 
--- an entity of the type with number t, which is no enum, is written by its id, whatever file was accepted and whatever names were given
-pub record SpellsConstructed (file : Bytes) (work : List ℕ) (sizes : Sizes) (t : ℕ) (id : Bytes) (limit : ℕ) (x : Bytes) (at : ℕ) (y : Bytes) (r : ℕ) : Type 0 where
-  pub go : (f : TermFile) (S : State) → Index file f work sizes → Numbers f work sizes.rows S → t < length (types f)
-      → Appends limit x at y r (headed (sort (names S) (type_at f t)) (literal (points id) ∷ []))
+-- an entity of the type with number t, which is no enum, is written by its id
+abbrev pub SpellsConstructed : Records → ℕ → Bytes → Writer → Writer → Type 0
+SpellsConstructed records t id = Spells records (HasType t) (λ f S. headed (sort (names S) (type_at f t)) (literal (points id) ∷ []))
 
-module _ (file : Bytes) (work : List ℕ) (sizes : Sizes) (n : ℕ) where
-  -- the term with number n, an entity of the type with number t with this id, is written in full
-  pub record SpellsEntityBody (t : ℕ) (id : Bytes) (limit : ℕ) (x : Bytes) (at : ℕ) (y : Bytes) (r : ℕ) : Type 0 where
-    pub go : (f : TermFile) (S : State) → Index file f work sizes → Numbers f work sizes.rows S → n < length (terms f) → t < length (types f)
-        → (ts : Forest Mark) → node (Entity (type_at f t) id) ts ≡ term_at f n → is_utf8 id ≡ true → (args : List Bytes) → Appends limit x at y r (body (members f) (names S) (term_at f n) args)
+-- the term with number n is an entity of the type with number t with this id, which is UTF-8
+pub record TextIs (n t : ℕ) (id : Bytes) (f : TermFile) : Type 0 where
+  pub is : EntityIs n t id f
+  pub sound : is_utf8 id ≡ true
 
-  module _ (limit : ℕ) (x : Bytes) (at : ℕ) (y : Bytes) (r : ℕ) where
-    -- the term with number n, which is not compound, is written in full
-    pub record SpellsBody : Type 0 where
-      pub go : (f : TermFile) (S : State) → Index file f work sizes → Numbers f work sizes.rows S → n < length (terms f) → is_compound (term_at f n) ≡ false
-          → Appends limit x at y r (own_body f S n)
+-- it is written in full
+abbrev pub SpellsEntityBody : Records → ℕ → ℕ → Bytes → Writer → Writer → Type 0
+SpellsEntityBody records n t id v w = (args : List Bytes) → Spells records (TextIs n t id) (λ f S. body (members f) (names S) (term_at f n) args) v w
 
-    -- its definition is written as far as its body
-    pub record SpellsHead : Type 0 where
-      pub go : (f : TermFile) (S : State) → Index file f work sizes → Numbers f work sizes.rows S → n < length (terms f)
-          → Appends limit x at y r (definition_head ((names S).term (term_at f n)) (sort (names S) (type_of (term_at f n))))
+-- the file has the term with number n, of which something is known
+pub record Known (n : ℕ) (is : TermFile → Type 0) (f : TermFile) : Type 0 where
+  pub inside : n < length (terms f)
+  pub known : is f
 
-  -- ---- lines in the rest of a script
+-- the term with number n, which is not compound, is written in full
+abbrev pub SpellsBody : Records → ℕ → Writer → Writer → Type 0
+SpellsBody records n = Spells records (Known n (λ f. is_compound (term_at f n) ≡ false)) (λ f S. own_body f S n)
 
-  module _ (room : ℕ) (x y : Bytes) (r : ℕ) where
-    -- the assertion of the term with number n is written
-    pub record SpellsAssertion : Type 0 where
-      pub go : (f : TermFile) (S : State) → Index file f work sizes → Numbers f work sizes.rows S → n < length (terms f)
-          → Wrote room x y r (line (assert_that (atom (members f) (names S) (term_at f n))))
+-- the definition of the term with number n is written as far as its body
+abbrev pub SpellsHead : Records → ℕ → Writer → Writer → Type 0
+SpellsHead records n = Spells records (HasTerm n) (λ f S. definition_head ((names S).term (term_at f n)) (sort (names S) (type_of (term_at f n))))
 
-    -- its declaration by its name and its sort is written
-    pub record SpellsConst : Type 0 where
-      pub go : (f : TermFile) (S : State) → Index file f work sizes → Numbers f work sizes.rows S → n < length (terms f)
-          → Wrote room x y r (line (declare_const ((names S).term (term_at f n)) (sort (names S) (type_of (term_at f n)))))
+-- ---- lines
 
-    -- its declaration is written after its id in a comment, if it is a variable
-    pub record SpellsVariable : Type 0 where
-      pub go : (f : TermFile) (S : State) → Index file f work sizes → Numbers f work sizes.rows S → n < length (terms f) → (id : Bytes) (ty : Ty) (ts : Forest Mark) → term_at f n ≡ node (Var id ty) ts
-          → Wrote room x y r (script (comment (debug id) ∷ declare_const ((names S).term (term_at f n)) (sort (names S) (type_of (term_at f n))) ∷ []))
+-- an id as `{:?}` prints it, whatever its bytes are
+unfoldable pub printed : Bytes → Bytes
+printed id = 34 ∷ (collect debug_char (points id) ++ (34 ∷ []))
 
-  -- its declaration is written after its id in a comment, for a variable with this id
-  pub record SpellsNamed (id : Bytes) (room : ℕ) (x y : Bytes) (r : ℕ) : Type 0 where
-    pub go : (f : TermFile) (S : State) → Index file f work sizes → Numbers f work sizes.rows S → n < length (terms f) → is_utf8 id ≡ true
-        → Wrote room x y r (script (comment (debug id) ∷ declare_const ((names S).term (term_at f n)) (sort (names S) (type_of (term_at f n))) ∷ []))
+-- the id of a variable in its comment
+unfoldable pub id_line : Bytes → Bytes
+id_line id = bytes "; " ++ (take 200 (printed id) ++ bytes "\n")
 
--- an id is written in a comment
-pub record SpellsId (id : Bytes) (room : ℕ) (x y : Bytes) (r : ℕ) : Type 0 where
-  pub go : is_utf8 id ≡ true → Wrote room x y r (line (comment (debug id)))
+-- the assertion of the term with number n is written
+abbrev pub SpellsAssertion : Records → ℕ → Writer → Writer → Type 0
+SpellsAssertion records n = Spells records (HasTerm n) (λ f S. line (assert_that (atom (members f) (names S) (term_at f n))))
+
+-- its declaration by its name and its sort is written
+abbrev pub SpellsConst : Records → ℕ → Writer → Writer → Type 0
+SpellsConst records n = Spells records (HasTerm n) (λ f S. line (declare_const ((names S).term (term_at f n)) (sort (names S) (type_of (term_at f n)))))
+
+-- the term with number n is a variable with this id
+pub record VariableIs (n : ℕ) (id : Bytes) (f : TermFile) : Type 0 where
+  pub inside : n < length (terms f)
+  pub type : Ty
+  pub children : Forest Mark
+  pub tree : term_at f n ≡ node (Var id type) children
+
+-- its declaration is written after its id in a comment
+abbrev pub SpellsVariable : Records → ℕ → Writer → Writer → Type 0
+SpellsVariable records n v w =
+    (id : Bytes) → Spells records (VariableIs n id) (λ f S. script (comment (debug id) ∷ declare_const ((names S).term (term_at f n)) (sort (names S) (type_of (term_at f n))) ∷ [])) v w

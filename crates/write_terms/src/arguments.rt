@@ -1,52 +1,30 @@
 // The arguments of a term.
 ghost use Rattle.write_terms.specs.Arguments.{SpellsArguments, SpellsClosed};
 
-use index::Sizes;
+use index::Records;
 use index_entry::terms::Children;
+use write_bytes::writer::Writer;
 
-// Writes the children of a body, each after a space, as far as the limit.
-pub fn put_arguments(
-    file: &[u8],
-    work: &[u32],
-    sizes: Sizes,
-    out: &mut [u8],
-    at: usize,
-    limit: usize,
-    body: &[u8],
-    c: Children,
-) -> usize
-    ensures { SpellsArguments file.now work.now sizes body.now c limit out.old at out.new result }
+// Writes the terms that a record refers to, each after a space, as far as the limit.
+pub fn put_arguments(records: Records<'_>, w: &mut Writer<'_>, children: Children<'_>)
+    ensures { SpellsArguments records.entry children.entry w.old w.new }
 {
-    let mut place = at;
-    let mut rest = c;
-    while 0 < rest.left {
-        if write_bytes::is_past(place, limit) {
-            return place;
+    for child in children {
+        if w.is_past() {
+            return;
         }
-        let child = index_entry::terms::take_child(body, rest);
-        let a = write_bytes::put_byte(out, place, limit, b' ');
-        place = write_atoms::atoms::put_atom(file, work, sizes, out, a, limit, child.number);
-        rest = child.rest;
+        w.put_byte(b' ');
+        write_atoms::atoms::put_atom(records, w, child);
     }
-    place
 }
 
-// Writes the children of a body after a space, and the end of the term.
-pub fn put_closed(
-    file: &[u8],
-    work: &[u32],
-    sizes: Sizes,
-    out: &mut [u8],
-    at: usize,
-    limit: usize,
-    body: &[u8],
-    c: Children,
-) -> usize
-    ensures { SpellsClosed file.now work.now sizes body.now c limit out.old at out.new result }
+// Writes them after a space, and the end of the term.
+pub fn put_closed(records: Records<'_>, w: &mut Writer<'_>, children: Children<'_>)
+    ensures { SpellsClosed records.entry children.entry w.old w.new }
 {
-    if c.left == 0 {
-        return write_bytes::put_at(out, at, limit, b" )");
+    if children.left == 0 {
+        return w.put(b" )");
     }
-    let a = put_arguments(file, work, sizes, out, at, limit, body, c);
-    write_bytes::put_byte(out, a, limit, b')')
+    put_arguments(records, w, children);
+    w.put_byte(b')')
 }

@@ -1,128 +1,70 @@
-// The definition of a term as a line in the rest of a script, of which `room` bytes count. Each answers the line's length.
+// The definitions of terms as lines.
 ghost use Rattle.index_entry.specs.Terms.{children_in};
-ghost use Rattle.write_terms.specs.Definitions.{PlainIs, SomeIs, SetIs, RecordIs, OrdinaryIs, ComparisonIs, SpellsDefinition};
+ghost use Rattle.write_terms.specs.Definitions.{PlainIs, SomeIs, SetIs, RecordIs, OrdinaryIs, ComparisonIs, Defines, SpellsDefinition};
 
-use crate::applications::Comparison;
-use crate::values;
-use index::Sizes;
+use crate::applications::{Comparison, put_comparison as put_compared, put_operator};
+use crate::{lines, values};
+use index::Records;
 use index_entry::terms::{Application, Compound};
+use write_bytes::writer::Writer;
+
+// Defines the term with number n by a writer of its body, which is handed what it is of. Past the limit it is not called.
+fn define<T: Copy, F: FnOnce(Records<'_>, &mut Writer<'_>, T)>(
+    records: Records<'_>,
+    w: &mut Writer<'_>,
+    n: u32,
+    of: T,
+    body: F,
+)
+    requires { F.IsAlwaysCallable body }
+    ensures { Defines records.entry n of (F.post body) w.old w.new }
+{
+    if w.is_past() {
+        return;
+    }
+    lines::put_head(records, w, n);
+    body(records, w, of);
+    w.put(b")\n")
+}
 
 // The term with number n, which is not compound.
-pub fn put_definition(
-    file: &[u8],
-    work: &[u32],
-    sizes: Sizes,
-    rest: &mut [u8],
-    room: usize,
-    n: u32,
-) -> usize
-    ensures { SpellsDefinition file.now work.now sizes n room rest.old rest.new result (PlainIs n) }
+pub fn put_definition(records: Records<'_>, w: &mut Writer<'_>, n: u32)
+    ensures { SpellsDefinition records.entry n (PlainIs n) w.old w.new }
 {
-    if room == 0 {
-        return 1;
-    }
-    let a = crate::lines::put_head(file, work, sizes, rest, 0, room, n);
-    let b = crate::lines::put_body(file, work, sizes, rest, a, room, n);
-    crate::lines::put_end(rest, b, room)
+    define(records, w, n, n, lines::put_body)
 }
 
 // The term with number n, the option of the term with number m.
-pub fn put_some(
-    file: &[u8],
-    work: &[u32],
-    sizes: Sizes,
-    rest: &mut [u8],
-    room: usize,
-    n: u32,
-    m: u32,
-) -> usize
-    ensures { SpellsDefinition file.now work.now sizes n room rest.old rest.new result (SomeIs n m) }
+pub fn put_some(records: Records<'_>, w: &mut Writer<'_>, n: u32, m: u32)
+    ensures { SpellsDefinition records.entry n (SomeIs n m) w.old w.new }
 {
-    if room == 0 {
-        return 1;
-    }
-    let a = crate::lines::put_head(file, work, sizes, rest, 0, room, n);
-    let b = values::put_some(file, work, sizes, rest, a, room, m);
-    crate::lines::put_end(rest, b, room)
+    define(records, w, n, m, values::put_some)
 }
 
-// A set of the children of its body.
-pub fn put_set(
-    file: &[u8],
-    work: &[u32],
-    sizes: Sizes,
-    rest: &mut [u8],
-    room: usize,
-    body: &[u8],
-    term: Compound,
-) -> usize
-    ensures { SpellsDefinition file.now work.now sizes term.number room rest.old rest.new result (SetIs term.number (children_in body.now term.children)) }
+// A set.
+pub fn put_set(records: Records<'_>, w: &mut Writer<'_>, term: Compound<'_>)
+    ensures { SpellsDefinition records.entry term.entry.number (SetIs term.entry.number (children_in term.entry.children)) w.old w.new }
 {
-    if room == 0 {
-        return 1;
-    }
-    let a = crate::lines::put_head(file, work, sizes, rest, 0, room, term.number);
-    let b = values::put_set(file, work, sizes, rest, a, room, body, term);
-    crate::lines::put_end(rest, b, room)
+    define(records, w, term.number, term, values::put_set)
 }
 
-// A record of the children of its body.
-pub fn put_record(
-    file: &[u8],
-    work: &[u32],
-    sizes: Sizes,
-    rest: &mut [u8],
-    room: usize,
-    body: &[u8],
-    term: Compound,
-) -> usize
-    ensures { SpellsDefinition file.now work.now sizes term.number room rest.old rest.new result (RecordIs term.number (children_in body.now term.children)) }
+// A record.
+pub fn put_record(records: Records<'_>, w: &mut Writer<'_>, term: Compound<'_>)
+    ensures { SpellsDefinition records.entry term.entry.number (RecordIs term.entry.number (children_in term.entry.children)) w.old w.new }
 {
-    if room == 0 {
-        return 1;
-    }
-    let a = crate::lines::put_head(file, work, sizes, rest, 0, room, term.number);
-    let b = values::put_record(file, work, sizes, rest, a, room, body, term);
-    crate::lines::put_end(rest, b, room)
+    define(records, w, term.number, term, values::put_record)
 }
 
 // An application, by its operator.
-pub fn put_application(
-    file: &[u8],
-    work: &[u32],
-    sizes: Sizes,
-    rest: &mut [u8],
-    room: usize,
-    body: &[u8],
-    call: Application,
-) -> usize
-    ensures { SpellsDefinition file.now work.now sizes call.number room rest.old rest.new result (OrdinaryIs call.number body.now call.op call.arguments) }
+pub fn put_application(records: Records<'_>, w: &mut Writer<'_>, call: Application<'_>)
+    ensures { SpellsDefinition records.entry call.entry.number (OrdinaryIs call.entry) w.old w.new }
 {
-    if room == 0 {
-        return 1;
-    }
-    let a = crate::lines::put_head(file, work, sizes, rest, 0, room, call.number);
-    let b = crate::applications::put_operator(file, work, sizes, rest, a, room, body, call);
-    crate::lines::put_end(rest, b, room)
+    define(records, w, call.number, call, put_operator)
 }
 
 // The application with number n, as the comparison of its argument with the least signed number of a width.
-pub fn put_comparison(
-    file: &[u8],
-    work: &[u32],
-    sizes: Sizes,
-    rest: &mut [u8],
-    room: usize,
-    n: u32,
-    body: &[u8],
-    compared: Comparison,
-) -> usize
-    ensures { SpellsDefinition file.now work.now sizes n room rest.old rest.new result (ComparisonIs n compared.width (children_in body.now compared.arguments)) }
+pub fn put_comparison(records: Records<'_>, w: &mut Writer<'_>, n: u32, compared: Comparison<'_>)
+    ensures { SpellsDefinition records.entry n (ComparisonIs n compared.entry.width (children_in compared.entry.arguments)) w.old w.new }
 {
-    if room == 0 {
-        return 1;
-    }
-    let a = crate::lines::put_head(file, work, sizes, rest, 0, room, n);
-    let b = crate::applications::put_comparison(file, work, sizes, rest, a, room, body, compared);
-    crate::lines::put_end(rest, b, room)
+    define(records, w, n, compared, put_compared)
 }

@@ -1,113 +1,61 @@
 // Options, sets and records.
 ghost use Rattle.write_terms.specs.Values.{SpellsTermSort, SpellsConstant, SpellsSome, SpellsSet, SpellsRecord};
 
-use crate::arguments;
-use index::Sizes;
+use crate::arguments::put_arguments;
+use index::{Column, Records};
 use index_entry::terms::Compound;
+use write_bytes::writer::Writer;
 
 // Writes the sort of the term with number n.
-pub fn put_term_sort(
-    file: &[u8],
-    work: &[u32],
-    sizes: Sizes,
-    out: &mut [u8],
-    at: usize,
-    limit: usize,
-    n: u32,
-) -> usize
-    ensures { SpellsTermSort file.now work.now sizes n limit out.old at out.new result }
+pub fn put_term_sort(records: Records<'_>, w: &mut Writer<'_>, n: u32)
+    ensures { SpellsTermSort records.entry n w.old w.new }
 {
-    let t = index::get(
-        work,
-        sizes.rows,
-        index::TERM_TYPE,
-        index_entry::records::wide(n),
-    );
-    write_types::sorts::put_sort(file, work, sizes, out, at, limit, t)
+    write_types::sorts::put_sort(records, w, records.get(Column::TermType, n))
 }
 
 // Writes a constant at the sort of the term with number n.
-pub fn put_constant(
-    file: &[u8],
-    work: &[u32],
-    sizes: Sizes,
-    out: &mut [u8],
-    at: usize,
-    limit: usize,
-    n: u32,
-    constant: &[u8],
-) -> usize
-    ensures { SpellsConstant file.now work.now sizes n constant.now limit out.old at out.new result }
+pub fn put_constant(records: Records<'_>, w: &mut Writer<'_>, n: u32, constant: &[u8])
+    ensures { SpellsConstant records.entry n constant.now w.old w.new }
 {
-    let a = write_bytes::put_at(out, at, limit, b"(as ");
-    let b = write_bytes::put_at(out, a, limit, constant);
-    let c = write_bytes::put_byte(out, b, limit, b' ');
-    let d = put_term_sort(file, work, sizes, out, c, limit, n);
-    write_bytes::put_byte(out, d, limit, b')')
+    w.put(b"(as ");
+    w.put(constant);
+    w.put_byte(b' ');
+    put_term_sort(records, w, n);
+    w.put_byte(b')')
 }
 
 // Writes the option of the term with number m.
-pub fn put_some(
-    file: &[u8],
-    work: &[u32],
-    sizes: Sizes,
-    out: &mut [u8],
-    at: usize,
-    limit: usize,
-    m: u32,
-) -> usize
-    ensures { SpellsSome file.now work.now sizes m limit out.old at out.new result }
+pub fn put_some(records: Records<'_>, w: &mut Writer<'_>, m: u32)
+    ensures { SpellsSome records.entry m w.old w.new }
 {
-    let a = write_bytes::put_at(out, at, limit, b"(some ");
-    let b = write_atoms::atoms::put_atom(file, work, sizes, out, a, limit, m);
-    write_bytes::put_byte(out, b, limit, b')')
+    w.put(b"(some ");
+    write_atoms::atoms::put_atom(records, w, m);
+    w.put_byte(b')')
 }
 
-// Writes a set of the children of its body.
-pub fn put_set(
-    file: &[u8],
-    work: &[u32],
-    sizes: Sizes,
-    out: &mut [u8],
-    at: usize,
-    limit: usize,
-    body: &[u8],
-    term: Compound,
-) -> usize
-    ensures { SpellsSet file.now work.now sizes term.number body.now term.children limit out.old at out.new result }
+// Writes a set.
+pub fn put_set(records: Records<'_>, w: &mut Writer<'_>, term: Compound<'_>)
+    ensures { SpellsSet records.entry term.entry w.old w.new }
 {
-    let n = term.number;
-    let c = term.children;
-    if c.left == 0 {
-        return put_constant(file, work, sizes, out, at, limit, n, b"set.empty");
+    if term.children.left == 0 {
+        return put_constant(records, w, term.number, b"set.empty");
     }
-    let a = write_bytes::put_at(out, at, limit, b"(set.insert");
-    let b = arguments::put_arguments(file, work, sizes, out, a, limit, body, c);
-    let d = write_bytes::put_byte(out, b, limit, b' ');
-    let e = put_constant(file, work, sizes, out, d, limit, n, b"set.empty");
-    write_bytes::put_byte(out, e, limit, b')')
+    w.put(b"(set.insert");
+    put_arguments(records, w, term.children);
+    w.put_byte(b' ');
+    put_constant(records, w, term.number, b"set.empty");
+    w.put_byte(b')')
 }
 
-// Writes a record of the children of its body.
-pub fn put_record(
-    file: &[u8],
-    work: &[u32],
-    sizes: Sizes,
-    out: &mut [u8],
-    at: usize,
-    limit: usize,
-    body: &[u8],
-    term: Compound,
-) -> usize
-    ensures { SpellsRecord file.now work.now sizes term.number body.now term.children limit out.old at out.new result }
+// Writes a record.
+pub fn put_record(records: Records<'_>, w: &mut Writer<'_>, term: Compound<'_>)
+    ensures { SpellsRecord records.entry term.entry w.old w.new }
 {
-    let n = term.number;
-    let c = term.children;
-    if c.left == 0 {
-        return put_term_sort(file, work, sizes, out, at, limit, n);
+    if term.children.left == 0 {
+        return put_term_sort(records, w, term.number);
     }
-    let a = write_bytes::put_byte(out, at, limit, b'(');
-    let b = put_term_sort(file, work, sizes, out, a, limit, n);
-    let d = arguments::put_arguments(file, work, sizes, out, b, limit, body, c);
-    write_bytes::put_byte(out, d, limit, b')')
+    w.put_byte(b'(');
+    put_term_sort(records, w, term.number);
+    put_arguments(records, w, term.children);
+    w.put_byte(b')')
 }

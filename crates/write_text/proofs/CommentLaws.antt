@@ -11,11 +11,13 @@ use lib.ListN.{take}
 use Rattle.script_spec.specs.Base.{Bytes}
 use Rattle.script_spec.specs.Text.{is_control, space_if, blanked, begun, cut_after, one_line}
 use Rattle.script_spec.proofs.Laws.{or_false}
-use Rattle.write_bytes.specs.Writing.{ceiling, Appends}
-use Rattle.write_bytes.proofs.Laws.{nothing, nothing_past, line_says}
+use Rattle.write_bytes.specs.declared.writer.Writer.{Writer}
+use Rattle.write_bytes.specs.Writing.{ceiling}
+use Rattle.write_bytes.specs.Writers.{Writes}
+use Rattle.write_bytes.proofs.Laws.{◌then◌, says, nothing, nothing_past}
 use Rattle.write_text.specs.Comments.{Cuts, over, Commented, Comments}
-use Rattle.write_text.specs.declared.Comment.{Comment}
-use Rattle.write_text.specs.declared.Cut.{Cut}
+use Rattle.write_text.specs.declared.comment.Comment.{Comment}
+use Rattle.write_text.specs.declared.comment.Cut.{Cut}
 use Rattle.script_spec.proofs.Cutting.{cut_on, cut_off}
 use Rattle.write_text.proofs.CutLaws.{cut_over}
 
@@ -47,18 +49,23 @@ cuts_whole : {s : Bytes} {n : ℕ} {c : Cut} → Cuts s n c → cut_after n s �
 unfolding cut_after
 cuts_whole {s} {n} {c} k = ap (cut_after n) (sym (append-nil s)) ∙ k.kept [] ∙ append-nil (take c.end s)
 
-module _ {limit q : ℕ} {x y s : Bytes} {c : Comment} {d : Cut} where
+module _ {c d : Comment} {s : Bytes} {k : Cut} where
   -- a piece that is cut and written
-  pub goes_on : c.at ≤ ceiling limit → Cuts s c.points d → Appends limit x c.at y q (blanked (take d.end s)) → Comments limit x c y (record { at = q; points = d.points }) s
+  pub goes_on : c.writer.now.at ≤ ceiling c.writer.now.limit → Cuts s c.points k → d.writer.ghost_name ≡ c.writer.ghost_name → d.points ≡ k.points
+      → Writes c.writer.now d.writer.now (blanked (take k.end s)) → Comments c d s
   unfolding one_line
-  goes_on h k A = record {
-    go = λ o a t m.
-        let whole : cut_after 0 (t ++ s) ≡ cut_after 0 t ++ take d.end s = m.counted h s ∙ ap (λ (l : Bytes). cut_after 0 t ++ l) (cuts_whole k) in
+  goes_on h cuts lent points A = record {
+    lent = lent;
+    same = A.same;
+    limit_is = A.limit_is;
+    size = A.size;
+    go = λ v t m.
+        let whole : cut_after 0 (t ++ s) ≡ cut_after 0 t ++ take k.end s = m.counted h s ∙ ap (λ (l : Bytes). cut_after 0 t ++ l) (cuts_whole cuts) in
         record {
-          wrote = line_says (append_assoc a (blanked (cut_after 0 t)) (blanked (take d.end s)) ∙ ap (λ (l : Bytes). a ++ l) (sym (ap blanked whole ∙ blanked_append (cut_after 0 t) (take d.end s)))) (A.go o (a ++ blanked (cut_after 0 t)) m.wrote);
+          wrote = says (sym (ap blanked whole ∙ blanked_append (cut_after 0 t) (take k.end s))) (m.wrote then A);
           counted = λ l r.
-              ap (cut_after 0) (append_assoc t s r) ∙ m.counted h (s ++ r) ∙ ap (λ (u : Bytes). cut_after 0 t ++ u) (k.kept r)
-              ∙ sym (append_assoc (cut_after 0 t) (take d.end s) (cut_after d.points r)) ∙ ap (λ (u : Bytes). u ++ cut_after d.points r) (sym whole);
+              ap (cut_after 0) (append_assoc t s r) ∙ m.counted h (s ++ r) ∙ ap (λ (u : Bytes). cut_after 0 t ++ u) (cuts.kept r ∙ ap (λ (n : ℕ). take k.end s ++ cut_after n r) (sym points))
+              ∙ sym (append_assoc (cut_after 0 t) (take k.end s) (cut_after d.points r)) ∙ ap (λ (u : Bytes). u ++ cut_after d.points r) (sym whole);
         };
   }
 
@@ -66,60 +73,76 @@ or_left : (x : Bool) → (x || false) ≡ true → x ≡ true
 or_left true h = refl
 or_left false h = h
 
-module _ {limit : ℕ} {x s : Bytes} {c : Comment} where
+module _ {c : Comment} {s : Bytes} where
   -- past the limit nothing is written
-  comment_past : ceiling limit < c.at → Comments limit x c x c s
+  comment_past : ceiling c.writer.now.limit < c.writer.now.at → Comments c c s
   unfolding one_line
   comment_past h = record {
-    go = λ o a t m. record {
+    lent = refl;
+    same = refl;
+    limit_is = refl;
+    size = refl;
+    go = λ v t m. record {
       wrote =
           let w = cut_more t s 0 in
-          line_says (append_assoc a (blanked (cut_after 0 t)) (blanked w.more) ∙ ap (λ (l : Bytes). a ++ l) (sym (ap blanked w.is ∙ blanked_append (cut_after 0 t) w.more)))
-          ((nothing_past h).go o (a ++ blanked (cut_after 0 t)) m.wrote);
+          says (sym (ap blanked w.is ∙ blanked_append (cut_after 0 t) w.more)) (m.wrote then nothing_past h);
       counted = λ l r. absurd (omega arith);
     };
   }
 
   -- nor where the text is cut
-  comment_cut : 200 < c.points → c.at ≤ ceiling limit → Comments limit x c x c s
+  comment_cut : 200 < c.points → c.writer.now.at ≤ ceiling c.writer.now.limit → Comments c c s
   unfolding blanked
-  comment_cut h l = goes_on {d = record { end = 0; points = c.points }} l (record { inside = omega arith; kept = λ r. cut_over c.points (s ++ r) h ∙ sym (cut_over c.points r h) }) nothing
+  comment_cut h l = goes_on {k = record { end = 0; points = c.points }} l (record { inside = omega arith; kept = λ r. cut_over c.points (s ++ r) h ∙ sym (cut_over c.points r h) }) refl refl nothing
 
-  by_limit : (b : Bool) → ltb (ceiling limit) c.at ≡ b → (ltb 200 c.points || b) ≡ true → Comments limit x c x c s
-  by_limit true e h = comment_past (ltb-true (ceiling limit) c.at e)
-  by_limit false e h = comment_cut (ltb-true 200 c.points (or_left (ltb 200 c.points) h)) (ltb-false (ceiling limit) c.at e)
+  by_limit : (b : Bool) → ltb (ceiling c.writer.now.limit) c.writer.now.at ≡ b → (ltb 200 c.points || b) ≡ true → Comments c c s
+  by_limit true e h = comment_past (ltb-true (ceiling c.writer.now.limit) c.writer.now.at e)
+  by_limit false e h = comment_cut (ltb-true 200 c.points (or_left (ltb 200 c.points) h)) (ltb-false (ceiling c.writer.now.limit) c.writer.now.at e)
 
-  pub comment_over : {b : Bool} → b ≡ over limit c → b ≡ true → Comments limit x c x c s
+  pub comment_over : {b : Bool} → b ≡ over c → b ≡ true → Comments c c s
   unfolding over
-  comment_over e h = by_limit (ltb (ceiling limit) c.at) refl (sym e ∙ h)
+  comment_over e h = by_limit (ltb (ceiling c.writer.now.limit) c.writer.now.at) refl (sym e ∙ h)
 
 -- where it is not over, something is left of both
-pub not_over : (limit : ℕ) (c : Comment) {b : Bool} → b ≡ over limit c → b ≡ false → (c.points ≤ 200) × (c.at ≤ ceiling limit)
+pub not_over : (c : Comment) {b : Bool} → b ≡ over c → b ≡ false → (c.points ≤ 200) × (c.writer.now.at ≤ ceiling c.writer.now.limit)
 unfolding over
-not_over limit c e h =
-    let parts = or_false (ltb 200 c.points) (ltb (ceiling limit) c.at) (sym e ∙ h) in
-    (ltb-false 200 c.points parts.0, ltb-false (ceiling limit) c.at parts.1)
+not_over c e h =
+    let parts = or_false (ltb 200 c.points) (ltb (ceiling c.writer.now.limit) c.writer.now.at) (sym e ∙ h) in
+    (ltb-false 200 c.points parts.0, ltb-false (ceiling c.writer.now.limit) c.writer.now.at parts.1)
 
 -- ---- pieces
 
 -- no piece
-pub no_text : {limit : ℕ} {x : Bytes} {c : Comment} → Comments limit x c x c []
-no_text {limit} {x} {c} = record { go = λ o a t m. subst (λ (u : Bytes). Commented limit o x c a u) (sym (append-nil t)) m }
+pub no_text : {c : Comment} → Comments c c []
+no_text {c} = record { lent = refl; same = refl; limit_is = refl; size = refl; go = λ v t m. subst (λ (u : Bytes). Commented v c u) (sym (append-nil t)) m }
 
 -- one piece after another
 infixr 5 ◌also◌
-pub ◌also◌ : {limit : ℕ} {x y z s t : Bytes} {c d e : Comment} → Comments limit x c y d s → Comments limit y d z e t → Comments limit x c z e (s ++ t)
-◌also◌ {limit} {z = z} {s = s} {t = t} {e = e} f g = record {
-  go = λ o a u m. subst (λ (v : Bytes). Commented limit o z e a v) (append_assoc u s t) (g.go o a (u ++ s) (f.go o a u m));
+pub ◌also◌ : {c d e : Comment} {s t : Bytes} → Comments c d s → Comments d e t → Comments c e (s ++ t)
+◌also◌ {e = e} {s = s} {t = t} f g = record {
+  lent = g.lent ∙ f.lent;
+  same = g.same ∙ f.same;
+  limit_is = g.limit_is ∙ f.limit_is;
+  size = g.size ∙ f.size;
+  go = λ v u m. subst (λ (x : Bytes). Commented v e x) (append_assoc u s t) (g.go v (u ++ s) (f.go v u m));
 }
 
 -- the same piece, of bytes that are equal
-pub text_says : {limit : ℕ} {x y s t : Bytes} {c d : Comment} → s ≡ t → Comments limit x c y d s → Comments limit x c y d t
-text_says {limit} {x} {y} {c = c} {d = d} e f = subst (λ (u : Bytes). Comments limit x c y d u) e f
+pub text_says : {c d : Comment} {s t : Bytes} → s ≡ t → Comments c d s → Comments c d t
+text_says {c} {d} e f = subst (λ (u : Bytes). Comments c d u) e f
 
 -- pieces from the start are a comment's text
-pub text_written : {limit : ℕ} {x y s : Bytes} {c d : Comment} → c.points ≡ 0 → Comments limit x c y d s → Appends limit x c.at y d.at (one_line s)
+pub text_written : {v : Writer} {c d : Comment} {s : Bytes} → c.writer.now ≡ v → c.points ≡ 0 → Comments c d s → Writes v d.writer.now (one_line s)
 unfolding one_line blanked cut_after
-text_written e f = record {
-  go = λ o a w. (f.go o a [] (record { wrote = rw append-nil w; counted = λ h r. ap (λ (n : ℕ). cut_after n r) (sym e) })).wrote;
-}
+text_written {v} {c} {d} {s} is e f =
+    let start : Writes v c.writer.now [] = subst (λ (w : Writer). Writes v w []) (sym is) nothing in
+    (f.go v [] (record { wrote = start; counted = λ h r. ap (λ (n : ℕ). cut_after n r) (sym e) })).wrote
+
+-- what is behind a reference, by its ghost name
+pub reached : {A : Type 0} {y z : A} {m n : ℕ} → m ≡ n → (m ≡ n → y ≡ z) → y ≡ z
+reached e f = f e
+
+-- a comment's text after the bytes a and before the bytes b; w is the writer that the comment gives back
+pub comment_written : {u v w x : Writer} {c d : Comment} {a s b : Bytes} → Writes u v a → c.writer.now ≡ v → c.points ≡ 0 → Comments c d s → w ≡ d.writer.now → Writes w x b
+    → Writes u x (a ++ (one_line s ++ b))
+comment_written {x = x} {b = b} A is e C back B = A then text_written is e C then subst (λ (w : Writer). Writes w x b) back B

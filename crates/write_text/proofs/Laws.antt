@@ -1,23 +1,19 @@
 -- Laws of single code points and bytes: how they are spelled, and which of them stand for themselves.
 -- Assumes nothing.
 use mathlib.Core.Path.{◌≡◌, refl}
-use mathlib.Core.Bool.{Bool, true, false, not, ◌&&◌, ◌||◌}
+use mathlib.Core.Bool.{Bool, true, false, ◌&&◌}
 use mathlib.Core.List.{[], ◌∷◌}
 use mathlib.Core.Option.{none}
-use Prim.Native.Nat.{ℕ, ◌≤◌, ◌<◌}
+use Prim.Native.Nat.{ℕ, ◌≤◌}
 use native.Mathlib.Omega.{arith}
-use borrow.Author.Tests.{le-leb, leb-true, lt-ltb, le-ltb, eq-eqb, ne_eqb}
+use borrow.Author.Tests.{leb-true, eq-eqb, ne_eqb}
 use lib.Dec.{eqb, leb}
 use Rattle.script_spec.specs.Base.{Bytes, bytes, between, place, place_from}
-use Rattle.script_spec.specs.Text.{brace, escape, escape_by, debug_char, is_control}
+use Rattle.script_spec.specs.Text.{brace, escape, escape_by, debug_char}
 use Rattle.script_spec.proofs.Laws.{and_false, and_true, never}
-use Rattle.write_text.specs.Written.{shown, stops}
+use Rattle.write_text.specs.Written.{shown}
 
 -- ---- printable code points
-
-pub printable_high : (c : ℕ) → 32 ≤ c → leb c 126 ≡ between 32 126 c
-unfolding between
-printable_high c h = rw (le-leb 32 c h)
 
 and_second : (x y : Bool) → (x && y) ≡ true → y ≡ true
 and_second true y h = h
@@ -85,29 +81,3 @@ module _ (c : ℕ) (h1 : c ≡ 34 → ⊥) (h2 : c ≡ 92 → ⊥) (h3 : c ≡ 9
   pub debug_shown : shown c ≡ debug_char c
   unfolding debug_char shown
   debug_shown = rw (no_letter, debug_char)
-
--- ---- bytes that end a run
-
-pub control_low : (b : ℕ) → b < 32 → true ≡ is_control b
-unfolding is_control
-control_low b h = rw (lt-ltb b 32 h)
-
-pub control_else : (b : ℕ) → 32 ≤ b → eqb b 127 ≡ is_control b
-unfolding is_control
-control_else b h = rw (le-ltb b 32 h)
-
-or_true : (x : Bool) → (x || true) ≡ true
-or_true true = refl
-or_true false = refl
-
-pub stops_quote : (b : ℕ) → b ≡ 34 → true ≡ stops false b
-unfolding stops
-stops_quote b h = rw (eq-eqb b 34 h)
-
-pub stops_backslash : (b : ℕ) → b ≡ 92 → true ≡ stops false b
-unfolding stops
-stops_backslash b h = rw (eq-eqb b 92 h, or_true)
-
-pub stops_else : (b : ℕ) → (b ≡ 34 → ⊥) → (b ≡ 92 → ⊥) → not (between 32 126 b) ≡ stops false b
-unfolding stops
-stops_else b h k = rw (ne_eqb b 34 h, ne_eqb b 92 k)

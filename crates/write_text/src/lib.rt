@@ -1,169 +1,169 @@
 // Texts written as string literals, as ids in comments, and as comments.
 #![tactic(auto)]
 
-ghost use Rattle.std.specs.Prelude.{◌≡◌, true, false, ◌≤◌, length, take};
+pub mod comment;
+
+ghost use Rattle.std.specs.Prelude.{◌≡◌, take};
 ghost use Rattle.script_spec.specs.Base.{between, collect};
 ghost use Rattle.script_spec.specs.Text.{brace, escape, debug_char, literal};
 ghost use Rattle.script_spec.specs.Text as text;
-ghost use Rattle.write_bytes.specs.Writing.{Appends};
+ghost use Rattle.write_bytes.specs.Writers.{Writes};
 ghost use Rattle.read_utf8.specs.Decoding.{points};
+ghost use Rattle.write_text.specs.declared.Quotes.TheVariants.{Debug};
 ghost use Rattle.write_text.specs.Written.{shown, spelling, quoted, stops, Passed};
-ghost use Rattle.write_text.specs.Comments.{over, Cuts, Comments};
 
-use read_utf8::{Cursor, Next};
+use read_utf8::CodePoints;
+use write_bytes::writer::Writer;
+
+// What a text in double quotes is: a string literal, or an id as `{:?}` prints it.
+#[derive(Clone, Copy)]
+enum Quotes {
+    Literal,
+    Debug,
+}
+
+// Where a text is written.
+#[derive(Clone, Copy)]
+enum Place {
+    Quotes,
+    Comment,
+}
 
 // A printable ASCII character.
+#[tactic(auto, unfolding(script_spec::specs::Base::between))]
 fn is_printable(c: u32) -> bool
     ensures { result ≡ between 32 126 c }
 {
-    if c < 32 {
-        return false;
-    }
-    c <= 126
+    32 <= c && c <= 126
 }
 
 // Writes a code point as `\u{h}`.
-fn put_brace(out: &mut [u8], at: usize, limit: usize, c: u32) -> usize
-    ensures { Appends limit out.old at out.new result (brace c) }
+fn put_brace(w: &mut Writer<'_>, c: u32)
+    ensures { Writes w.old w.new (brace c) }
 {
-    let a1 = write_bytes::put_at(out, at, limit, b"\\u{");
-    let a2 = write_numeral::put_hex(out, a1, limit, c as u64);
-    write_bytes::put_byte(out, a2, limit, b'}')
+    w.put(b"\\u{");
+    write_numeral::put_hex(w, u64::from(c));
+    w.put_byte(b'}')
 }
 
 // Writes a code point as it is where it is printable, and else as `\u{h}`.
-fn put_shown(out: &mut [u8], at: usize, limit: usize, c: u32) -> usize
-    ensures { Appends limit out.old at out.new result (shown c) }
+fn put_shown(w: &mut Writer<'_>, c: u32)
+    ensures { Writes w.old w.new (shown c) }
 {
     if is_printable(c) {
-        return write_bytes::put_byte(out, at, limit, c as u8);
+        return w.put_byte(c as u8);
     }
-    put_brace(out, at, limit, c)
+    put_brace(w, c)
 }
 
 // Writes a code point inside a string literal.
-pub fn put_escape(out: &mut [u8], at: usize, limit: usize, c: u32) -> usize
-    ensures { Appends limit out.old at out.new result (escape c) }
+pub fn put_escape(w: &mut Writer<'_>, c: u32)
+    ensures { Writes w.old w.new (escape c) }
 {
-    if c == 34 {
-        return write_bytes::put_at(out, at, limit, b"\"\"");
+    match c {
+        34 => w.put(b"\"\""),
+        92 => put_brace(w, c),
+        _ => put_shown(w, c),
     }
-    if c == 92 {
-        return put_brace(out, at, limit, c);
-    }
-    put_shown(out, at, limit, c)
 }
 
 // Writes a code point of an id as `{:?}` prints it.
-fn put_debug_char(out: &mut [u8], at: usize, limit: usize, c: u32) -> usize
-    ensures { Appends limit out.old at out.new result (debug_char c) }
+fn put_debug_char(w: &mut Writer<'_>, c: u32)
+    ensures { Writes w.old w.new (debug_char c) }
 {
     match c {
-        34 => write_bytes::put_at(out, at, limit, b"\\\""),
-        92 => write_bytes::put_at(out, at, limit, b"\\\\"),
-        9 => write_bytes::put_at(out, at, limit, b"\\t"),
-        13 => write_bytes::put_at(out, at, limit, b"\\r"),
-        10 => write_bytes::put_at(out, at, limit, b"\\n"),
-        0 => write_bytes::put_at(out, at, limit, b"\\0"),
-        _ => put_shown(out, at, limit, c),
+        34 => w.put(b"\\\""),
+        92 => w.put(b"\\\\"),
+        9 => w.put(b"\\t"),
+        13 => w.put(b"\\r"),
+        10 => w.put(b"\\n"),
+        0 => w.put(b"\\0"),
+        _ => put_shown(w, c),
     }
 }
 
 // Writes a code point of a quoted text, as `{:?}` prints it or as a string literal has it.
-fn put_point(out: &mut [u8], at: usize, limit: usize, c: u32, debug: bool) -> usize
-    ensures { Appends limit out.old at out.new result (spelling debug c) }
+#[tactic(auto, unfolding(crate::specs::Written::spelling))]
+fn put_point(w: &mut Writer<'_>, quotes: Quotes, c: u32)
+    ensures { Writes w.old w.new (spelling quotes c) }
 {
-    if debug {
-        return put_debug_char(out, at, limit, c);
+    match quotes {
+        Quotes::Literal => put_escape(w, c),
+        Quotes::Debug => put_debug_char(w, c),
     }
-    put_escape(out, at, limit, c)
 }
 
 // A control character of ASCII.
+#[tactic(auto, unfolding(script_spec::specs::Text::is_control))]
 fn is_control(b: u8) -> bool
     ensures { result ≡ text.is_control b }
 {
-    if b < 32 {
-        return true;
-    }
-    b == 127
+    b < 32 || b == 127
 }
 
 // A byte at which a run of bytes that are written as they are ends.
-fn is_stop(b: u8, comment: bool) -> bool
-    ensures { result ≡ stops comment b }
+#[tactic(auto, unfolding(crate::specs::Written::stops))]
+fn is_stop(place: Place, b: u8) -> bool
+    ensures { result ≡ stops place b }
 {
-    if comment {
-        return is_control(b);
+    match place {
+        Place::Quotes => b == 34 || b == 92 || !is_printable(u32::from(b)),
+        Place::Comment => is_control(b),
     }
-    if b == 34 {
-        return true;
-    }
-    if b == 92 {
-        return true;
-    }
-    !is_printable(b as u32)
 }
 
-// The end of a run of bytes from a place on that are written as they are: it stops at another byte, or after so many.
-fn run_end(s: &[u8], from: usize, most: usize, comment: bool) -> usize
-    requires { from ≤ length s.now }
-    ensures { Passed (stops comment) s.now from result }
+// How many bytes at the start of a text are written as they are.
+fn run(place: Place, s: &[u8]) -> usize
+    ensures { Passed (stops place) s.now result }
 {
-    let end = from + write_bytes::smaller(s.len() - from, most);
-    let mut i = from;
-    while i < end {
-        if is_stop(s[i], comment) {
+    for (i, b) in s.iter().enumerate() {
+        if is_stop(place, *b) {
             return i;
         }
-        i += 1;
     }
-    i
+    s.len()
+}
+
+// Writes the bytes at the start of a text that are written as they are, as far as there is room, and tells how many they are.
+fn put_run(w: &mut Writer<'_>, place: Place, s: &[u8]) -> usize
+    ensures run { Passed (stops place) s.now result }
+    ensures written { Writes w.old w.new (take result s.now) }
+{
+    let n = run(place, &s[..s.len().min(w.room())]);
+    w.put(&s[..n]);
+    n
 }
 
 // Writes the code points of a text, up to bytes that are not UTF-8: runs of plain bytes at once, others one by one. Past the
 // limit the text is not looked at.
-fn put_points(out: &mut [u8], at: usize, limit: usize, s: &[u8], debug: bool) -> usize
-    ensures { Appends limit out.old at out.new result (collect (spelling debug) (points s.now)) }
+fn put_points(w: &mut Writer<'_>, quotes: Quotes, s: &[u8])
+    ensures { Writes w.old w.new (collect (spelling quotes) (points s.now)) }
 {
-    let mut place = at;
-    let mut from = 0;
-    loop {
-        if write_bytes::is_past(place, limit) {
-            return place;
-        }
-        let to = run_end(s, from, write_bytes::room(place, limit), false);
-        place = write_bytes::put_at(out, place, limit, &s[from..to]);
-        let cursor = Cursor { at: to };
-        match cursor.next(s) {
-            Next::Point(c, after) => {
-                place = put_point(out, place, limit, c, debug);
-                from = after.at;
-            }
-            Next::Malformed => {
-                return place;
-            }
-            Next::End => {
-                return place;
-            }
+    let mut rest = CodePoints::new(s);
+    while !w.is_past() {
+        rest.at += put_run(w, Place::Quotes, &rest.text[rest.at..]);
+        match rest.next() {
+            Some(Ok(c)) => put_point(w, quotes, c),
+            Some(Err(_)) => return,
+            None => return,
         }
     }
 }
 
 // Writes the code points of a text in double quotes.
-fn put_quoted(out: &mut [u8], at: usize, limit: usize, s: &[u8], debug: bool) -> usize
-    ensures { Appends limit out.old at out.new result (quoted debug (points s.now)) }
+fn put_quoted(w: &mut Writer<'_>, quotes: Quotes, s: &[u8])
+    ensures { Writes w.old w.new (quoted quotes (points s.now)) }
 {
-    let a1 = write_bytes::put_byte(out, at, limit, b'"');
-    let a2 = put_points(out, a1, limit, s, debug);
-    write_bytes::put_byte(out, a2, limit, b'"')
+    w.put_byte(b'"');
+    put_points(w, quotes, s);
+    w.put_byte(b'"')
 }
 
 // Writes a text as a string literal.
-pub fn put_literal(out: &mut [u8], at: usize, limit: usize, s: &[u8]) -> usize
-    ensures { Appends limit out.old at out.new result (literal (points s.now)) }
+pub fn put_literal(w: &mut Writer<'_>, s: &[u8])
+    ensures { Writes w.old w.new (literal (points s.now)) }
 {
-    put_quoted(out, at, limit, s, false)
+    put_quoted(w, Quotes::Literal, s)
 }
 
 // The most code points of a comment's text.
@@ -171,113 +171,16 @@ const MOST: usize = 200;
 
 // Writes a variable's id in its comment: as many bytes of it as a comment has code points, since each of them is a code point. Past them
 // the id is not looked at.
-pub fn put_debug(out: &mut [u8], at: usize, limit: usize, id: &[u8]) -> usize
-    ensures { Appends limit out.old at out.new result (take 200 (quoted true (points id.now))) }
+pub fn put_debug(w: &mut Writer<'_>, id: &[u8])
+    ensures { Writes w.old w.new (take 200 (quoted Debug (points id.now))) }
 {
-    if write_bytes::room(at, limit) < MOST {
-        return put_quoted(out, at, limit, id, true);
+    if w.room() < MOST {
+        return put_quoted(w, Quotes::Debug, id);
     }
-    let end = at + MOST;
-    let place = put_quoted(out, at, end, id, true);
-    write_bytes::smaller(place, end)
-}
-
-// A space for a control character, and else the byte.
-fn blank(b: u8) -> u8
-    ensures { result ≡ text.space_if (text.is_control b) b }
-{
-    if is_control(b) {
-        return b' ';
-    }
-    b
-}
-
-// Writes a text with spaces for its control characters. Past the limit the text is not looked at.
-fn put_blanked(out: &mut [u8], at: usize, limit: usize, s: &[u8]) -> usize
-    ensures { Appends limit out.old at out.new result (text.blanked s.now) }
-{
-    let mut place = at;
-    let mut from = 0;
-    loop {
-        if write_bytes::is_past(place, limit) {
-            return place;
-        }
-        let to = run_end(s, from, write_bytes::room(place, limit), true);
-        place = write_bytes::put_at(out, place, limit, &s[from..to]);
-        if s.len() <= to {
-            return place;
-        }
-        place = write_bytes::put_byte(out, place, limit, blank(s[to]));
-        from = to + 1;
-    }
-}
-
-// How many code points begin at a byte.
-fn begun(b: u8) -> usize
-    ensures { result ≡ text.begun b }
-{
-    if b < 128 {
-        return 1;
-    }
-    if b <= 191 {
-        return 0;
-    }
-    1
-}
-
-// A comment's text as far as it is written: the place after it, and how many code points it has; one more than the most where it is cut.
-#[derive(Clone, Copy)]
-pub struct Comment {
-    pub at: usize,
-    pub points: usize,
-}
-
-// Where a text ends in a comment, and how many code points the comment then has.
-#[derive(Clone, Copy)]
-struct Cut {
-    end: usize,
-    points: usize,
-}
-
-// Where a text is cut in a comment that has so many code points before it.
-fn cut_text(s: &[u8], points: usize) -> Cut
-    requires { points ≤ 200 }
-    ensures { Cuts s.now points result }
-{
-    let mut end = 0;
-    let mut sum = points;
-    while end < s.len() {
-        let next = sum + begun(s[end]);
-        if MOST < next {
-            return Cut { end, points: next };
-        }
-        sum = next;
-        end += 1;
-    }
-    Cut { end, points: sum }
-}
-
-// Whether nothing is written of a comment's text any more, since it is cut or past the limit.
-pub fn is_over(comment: Comment, limit: usize) -> bool
-    ensures { result ≡ over limit comment }
-{
-    if MOST < comment.points {
-        return true;
-    }
-    write_bytes::is_past(comment.at, limit)
-}
-
-// Goes on with a comment's text. Past its end and past the limit the text is not looked at.
-pub fn put_comment_text(out: &mut [u8], comment: Comment, limit: usize, s: &[u8]) -> Comment
-    ensures { Comments limit out.old comment out.new result s.now }
-{
-    if is_over(comment, limit) {
-        return comment;
-    }
-    let kept = cut_text(s, comment.points);
-    let at = put_blanked(out, comment.at, limit, &s[..kept.end]);
-    Comment {
-        at,
-        points: kept.points,
-    }
+    let limit = w.limit;
+    let end = w.at + MOST;
+    w.limit = end;
+    put_quoted(w, Quotes::Debug, id);
+    w.limit = limit;
+    w.at = w.at.min(end);
 }

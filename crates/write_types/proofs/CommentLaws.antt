@@ -1,16 +1,12 @@
 -- Laws of texts with commas between them: by recursion on the texts; and of a loop that goes on with a comment's text.
 -- Assumes nothing.
-use mathlib.Core.Path.{◌≡◌, refl, sym, ap, ◌∙◌}
-use mathlib.Core.List.{List, [], ◌∷◌, ◌++◌, append-nil}
-use Prim.Native.Nat.{ℕ, zero, suc, ◌-◌, ◌<◌, ◌≤◌}
-use native.Mathlib.Omega.{arith}
-use lib.ListN.{drop}
+use mathlib.Core.Path.{◌≡◌, sym, ap, ◌∙◌}
+use mathlib.Core.Bool.{Bool, true}
+use mathlib.Core.List.{List, [], ◌∷◌, ◌++◌, append-nil, append_assoc}
 use Rattle.script_spec.specs.Base.{Bytes, bytes, joined, collect}
-use Rattle.write_text.specs.Comments.{Comments}
-use Rattle.write_text.specs.declared.Comment.{Comment}
-use Rattle.write_text.proofs.CommentLaws.{◌also◌, text_says, no_text}
-use Rattle.index.specs.Lists.{first_text, texts}
-use Rattle.index_entry.specs.Places.{rest_after_text}
+use Rattle.write_text.specs.Comments.{Comments, over}
+use Rattle.write_text.specs.declared.comment.Comment.{Comment}
+use Rattle.write_text.proofs.CommentLaws.{◌also◌, text_says, comment_over}
 
 -- texts, each after a comma
 unfoldable pub led : List Bytes → Bytes
@@ -22,40 +18,24 @@ unfolding joined led collect bytes
 joined_led x [] = sym (append-nil x)
 joined_led x (y ∷ ys) = ap (λ (s : Bytes). x ++ (bytes ", " ++ s)) (joined_led y ys)
 
-pub texts_none : (skip n : ℕ) (s : Bytes) → n ≡ 0 → [] ≡ joined (bytes ", ") (texts skip n s)
-unfolding texts joined
-texts_none skip n s e = rw e
-
-pub led_none : (skip n : ℕ) (s : Bytes) → n ≤ 0 → led (texts skip n s) ≡ []
-unfolding texts led collect
-led_none skip zero s h = refl
-led_none skip (suc n) s h = absurd (omega arith)
-
--- the text at a place, and those after it
-module _ (body : Bytes) {item : Bytes} (at : ℕ) (T : item ≡ first_text (drop at body)) (skip next : ℕ) (e : drop next body ≡ rest_after_text skip (drop at body)) where
-  texts_step : (n : ℕ) → 0 < n → item ∷ texts skip (n - 1) (drop next body) ≡ texts skip n (drop at body)
-  unfolding texts rest_after_text
-  texts_step zero h = absurd (omega arith)
-  texts_step (suc n) h = let m : suc n - 1 ≡ n = omega arith in rw (m, e, T)
-
-  pub texts_start : (n : ℕ) → 0 < n → item ++ led (texts skip (n - 1) (drop next body)) ≡ joined (bytes ", ") (texts skip n (drop at body))
-  texts_start n h = sym (joined_led item (texts skip (n - 1) (drop next body))) ∙ ap (joined (bytes ", ")) (texts_step n h)
-
-  pub texts_next : (n : ℕ) → 0 < n → (bytes ", " ++ item) ++ led (texts skip (n - 1) (drop next body)) ≡ led (texts skip n (drop at body))
-  unfolding led collect
-  texts_next n h = ap led (texts_step n h)
-
 -- ---- loops
 
--- going on with `rest` from here is going on with `whole` from the start
-pub record Leads (limit : ℕ) (o : Bytes) (c : Comment) (whole x : Bytes) (d : Comment) (rest : Bytes) : Type 0 where
-  pub go : (y : Bytes) (e : Comment) → Comments limit x d y e rest → Comments limit o c y e whole
+-- a comment went on from c to d, and `todo` is what is left of the whole
+pub record Led (c d : Comment) (todo whole : Bytes) : Type 0 where
+  pub done : Bytes
+  pub wrote : Comments c d done
+  pub rest : done ++ todo ≡ whole
 
-pub leads_start : {limit : ℕ} {x s : Bytes} {c : Comment} → Leads limit x c s x c s
-leads_start = record { go = λ y e A. A }
+pub led_start : {c d : Comment} {s x : Bytes} (xs : List Bytes) → s ≡ x → Comments c d s → Led c d (led xs) (joined (bytes ", ") (x ∷ xs))
+led_start {s = s} {x = x} xs e A = record { done = s; wrote = A; rest = rw e (sym (joined_led x xs)) }
 
-pub leads_on : {limit : ℕ} {o x y s rest left whole : Bytes} {c d e : Comment} → s ++ left ≡ rest → Leads limit o c whole x d rest → Comments limit x d y e s → Leads limit o c whole y e left
-leads_on h L A = record { go = λ z f B. L.go z f (text_says h (A also B)) }
+pub led_step : {c d e : Comment} {s x whole : Bytes} (xs : List Bytes) → s ≡ x → Led c d (led (x ∷ xs)) whole → Comments d e (bytes ", " ++ s) → Led c e (led xs) whole
+unfolding led collect
+led_step {s = s} xs q l A = record { done = l.done ++ (bytes ", " ++ s); wrote = l.wrote also A; rest = append_assoc l.done (bytes ", " ++ s) (led xs) ∙ (rw (← q) at l.rest) }
 
-pub leads_end : {limit : ℕ} {o x rest whole : Bytes} {c d : Comment} → rest ≡ [] → Leads limit o c whole x d rest → Comments limit o c x d whole
-leads_end {x = x} {d = d} h L = L.go x d (text_says (sym h) no_text)
+pub led_end : {c d : Comment} {whole : Bytes} → Led c d (led []) whole → Comments c d whole
+unfolding led collect
+led_end l = text_says (sym (append-nil l.done) ∙ l.rest) l.wrote
+
+pub led_over : {c d : Comment} {b : Bool} {todo whole : Bytes} → Led c d todo whole → b ≡ over d → b ≡ true → Comments c d whole
+led_over l e h = text_says l.rest (l.wrote also comment_over e h)

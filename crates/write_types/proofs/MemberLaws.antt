@@ -2,7 +2,7 @@
 -- Assumes nothing.
 use mathlib.Core.Path.{◌≡◌, refl, sym, ◌∙◌}
 use mathlib.Core.List.{List, [], ◌∷◌, ◌++◌, append_assoc, append-nil}
-use mathlib.Core.Option.{none, some}
+use mathlib.Core.Option.{Option, none, some}
 use Prim.Native.Nat.{ℕ, suc, ◌+◌, ◌-◌, ◌<◌, ◌≤◌}
 use native.Mathlib.Numerals.{add-one}
 use native.Mathlib.Omega.{arith}
@@ -11,8 +11,12 @@ use Rattle.script_spec.specs.Base.{Bytes, bytes, joined}
 use Rattle.script_spec.specs.Text.{decimal}
 use Rattle.script_spec.specs.Command.{line, spelled, headed, listed, spaced, constructor_list, datatype_body, declare_datatype}
 use Rattle.script_spec.specs.Spelling.{member_name, numbered_from, entity_constructors}
-use Rattle.write_bytes.specs.Writing.{Appends}
-use Rattle.write_bytes.proofs.Laws.{◌then◌, says, from_start, line_past, line_some}
+use denote.Ref.{MutBor}
+use Rattle.write_bytes.specs.Writers.{Writes, Lends}
+use Rattle.write_bytes.specs.declared.writer.Writer.{Writer}
+use Rattle.write_bytes.proofs.Laws.{◌then◌, says}
+use Rattle.write_bytes.proofs.Rest.{lent}
+use Rattle.walk_names.proofs.Advancing.{◌further◌, continues, continues_lent}
 use Rattle.write_types.specs.Members.{entity_symbol, member_text, members_text, SpellsMembers, SpellsEnum}
 
 pub entity_pieces : (n : Bytes) → bytes "(declare-datatype " ++ (n ++ (bytes " (\n  (" ++ (n ++ (bytes " (" ++ (n ++ bytes "_eid String))))\n"))))) ≡ line (declare_datatype n [] (entity_constructors n none))
@@ -24,16 +28,13 @@ unfolding member_text listed spaced joined member_name bytes
 member_pieces n i = simp append_assoc
 
 -- the member that comes next, and those after it
-pub members_next : (name : Bytes) (i n : ℕ) → i < n → member_text name i ++ members_text name (i + 1) (n - (i + 1)) ≡ members_text name i (n - i)
+pub members_next : (name : Bytes) (i n : ℕ) → i < n → members_text name i (n - i) ≡ member_text name i ++ members_text name (i + 1) (n - (i + 1))
 unfolding members_text
 members_next name i n h = let m : n - i ≡ suc (n - (i + 1)) = omega arith in rw (m, add-one i)
 
 pub members_none : (name : Bytes) (i n : ℕ) → n ≤ i → members_text name i (n - i) ≡ []
 unfolding members_text
 members_none name i n h = let z : n - i ≡ 0 = omega arith in rw z
-
-pub members_whole : (name : Bytes) (n : ℕ) → members_text name 0 (n - 0) ≡ members_text name 0 n
-members_whole name n = let z : n - 0 ≡ n = omega arith in rw z
 
 -- members as the definitions list them
 members_joined : (name m : Bytes) (i : ℕ) (ms : List Bytes)
@@ -42,18 +43,18 @@ unfolding members_text member_text numbered_from joined bytes
 members_joined name m i [] = simp append-nil
 members_joined name m i (k ∷ ms) = rw (members_joined name k (suc i) ms)
 
-module _ {name n limit at r : ℕ} {x y : Bytes} where
-  pub lines_none : n ≡ 0 → Appends limit x at y r (bytes "\n  ") → SpellsMembers name n limit x at y r
+module _ {name : Option ℕ} {n : ℕ} {v w : Writer} where
+  pub lines_none : n ≡ 0 → Writes v w (bytes "\n  ") → SpellsMembers name n v w
   unfolding entity_constructors numbered_from joined bytes
-  lines_none e A = record { go = λ ms h. says (none_of ms (h ∙ e)) A }
+  lines_none e A = record { same = continues A; go = λ ms h. says (none_of ms (h ∙ e)) A }
     where
       none_of : (ms : List Bytes) → length ms ≡ 0 → bytes "\n  " ≡ bytes "\n  " ++ joined (bytes "\n  ") (entity_constructors (entity_symbol name) (some ms))
       none_of [] h = refl
       none_of (m ∷ ms) h = absurd (omega arith)
 
-  pub lines_some : (n ≡ 0 → ⊥) → Appends limit x at y r (members_text (entity_symbol name) 0 n) → SpellsMembers name n limit x at y r
+  pub lines_some : (n ≡ 0 → ⊥) → Writes v w (members_text (entity_symbol name) 0 n) → SpellsMembers name n v w
   unfolding entity_constructors
-  lines_some h A = record { go = λ ms e. says (some_of ms e) A }
+  lines_some h A = record { same = continues A; go = λ ms e. says (some_of ms e) A }
     where
       some_of : (ms : List Bytes) → length ms ≡ n → members_text (entity_symbol name) 0 n ≡ bytes "\n  " ++ joined (bytes "\n  ") (entity_constructors (entity_symbol name) (some ms))
       some_of [] e = absurd (h (sym e))
@@ -63,13 +64,16 @@ enum_pieces : (n : Bytes) (cs : List Bytes) → bytes "(declare-datatype " ++ (n
 unfolding line spelled headed spaced joined datatype_body constructor_list bytes
 enum_pieces n cs = simp append_assoc
 
-pub spells_enum : {name n room p₁ p₂ p₃ p₄ r : ℕ} {x x₁ x₂ x₃ x₄ y : Bytes} → Appends room x 0 x₁ p₁ (bytes "(declare-datatype ") → Appends room x₁ p₁ x₂ p₂ (entity_symbol name)
-    → Appends room x₂ p₂ x₃ p₃ (bytes " (") → SpellsMembers name n room x₃ p₃ x₄ p₄ → Appends room x₄ p₄ y r (bytes "))\n") → SpellsEnum name n room x y r
-spells_enum A N B M C = record { go = λ ms e. from_start (says (enum_pieces _ _) (A then N then B then M.go ms e then C)) }
+pub spells_enum : {name : Option ℕ} {n : ℕ} {v v₁ v₂ v₃ v₄ w : Writer} → Writes v v₁ (bytes "(declare-datatype ") → Writes v₁ v₂ (entity_symbol name) → Writes v₂ v₃ (bytes " (")
+    → SpellsMembers name n v₃ v₄ → Writes v₄ w (bytes "))\n") → SpellsEnum name n v w
+spells_enum A N B M C = record {
+  same = continues (A then N then B) further M.same further continues C;
+  go = λ ms e. says (enum_pieces _ _) (A then N then B then M.go ms e then C);
+}
 
--- with no room nothing is written
-pub enum_past : {name n room : ℕ} {x : Bytes} → room ≡ 0 → SpellsEnum name n room x x 1
-enum_past h = record { go = λ ms e. rw h (line_past (line_some _)) }
+-- the declaration of an enum in the rest of the script
+pub enum_lent : {name : Option ℕ} {n : ℕ} {v w : Writer} {P : MutBor Writer → MutBor Writer → Type 0} → ((x y : MutBor Writer) → P x y → SpellsEnum name n x.now y.now) → Lends P v w → SpellsEnum name n v w
+enum_lent h L = record { same = continues_lent L; go = λ ms e. lent (λ x y p. (h x y p).go ms e) L }
 
 -- a declaration by its name and its constructors
 pub datatype_pieces : (n : Bytes) (cs : List Bytes) → bytes "(declare-datatype " ++ (spaced (n ∷ constructor_list cs ∷ []) ++ bytes ")\n") ≡ line (declare_datatype n [] cs)

@@ -5,50 +5,45 @@ use mathlib.Core.List.{List, [], ◌∷◌, ◌++◌, map}
 use mathlib.Core.Option.{Option, none, some}
 use Prim.Native.Nat.{ℕ, ◌<◌}
 use native.Mathlib.Omega.{arith}
-use lib.ListN.{length, take, drop, length-append}
-use package.types.Run.{OneOf, miss}
-use denote.Enum.Declared.{tag_of}
-use Rattle.script_spec.specs.Base.{Bytes, place, collect}
+use lib.ListN.{length}
+use denote.Ref.{Bor}
+use Rattle.std.specs.Prelude as std
+use Rattle.script_spec.specs.Base.{Bytes, place}
 use Rattle.script_spec.specs.Tree.{TypeMark, Ty, Datatype, entity, extension, record_of, Declared, node, nil, forest, eq_ty, datatype, datatype_mark}
 use Rattle.script_spec.specs.Fields as fields
 use Rattle.script_spec.specs.Fields.{Entry}
 use Rattle.script_spec.specs.File.{TermFile, types, members, type_at}
-use Rattle.script_spec.specs.Command.{Command, line, script, declare_datatype}
-use Rattle.script_spec.specs.Spelling.{ext_name, ext_constructors, type_comment, type_declaration}
-use Rattle.script_spec.specs.Walk.{names}
-use Rattle.script_spec.proofs.Laws.{collect_append, never}
-use Rattle.write_bytes.specs.Writing.{Wrote}
-use Rattle.write_bytes.proofs.Laws.{line_says, line_past, line_some}
+use Rattle.script_spec.specs.Command.{line, declare_datatype}
+use Rattle.script_spec.specs.Spelling.{ext_name, ext_constructors}
+use Rattle.script_spec.specs.Walk.{State}
+use Rattle.write_bytes.specs.Writers.{Writes}
+use Rattle.write_bytes.specs.declared.writer.Writer.{Writer}
 use Rattle.index.specs.Cells.{cell, type_offset, type_first}
 use Rattle.index.specs.First.{Below}
-use Rattle.index.specs.Standing.{body_at}
-use Rattle.index.specs.Meaning.{Index, counted}
-use Rattle.index.specs.declared.Sizes.{Sizes}
+use Rattle.index.specs.Meaning.{counted}
+use Rattle.index.specs.declared.Records.{Records}
 use Rattle.index.proofs.Later.{below_more}
-use Rattle.walk_names.specs.Naming.{type_names, name_at, place_of}
+use Rattle.walk_names.specs.Naming.{type_names, name_at, place_of, place_said, IndexOf}
 use Rattle.walk_names.proofs.Names.{place_type}
-use Rattle.read_field.specs.Answers.{spanned}
-use Rattle.read_field.specs.declared.Span.{Span}
-use Rattle.index.specs.Lists.{texts}
+use Rattle.walk_names.proofs.Spelling.{written, spells_as, unwritten, knowing}
 use Rattle.index_entry.specs.Types.{ext_type_said, type_said, TypeAt}
-use Rattle.index_entry.proofs.Places.{texts_named}
+use Rattle.index_entry.specs.Terms.{children_in, names_in}
+use Rattle.index_entry.specs.declared.terms.Children.{Children}
 use Rattle.index_entry.proofs.Rows.{type_stands}
-use Rattle.index_entry.specs.contracts.types.TypeEntry.{the_type}
 use Rattle.index_entry.specs.declared.types.ExtType.{ExtType}
 use Rattle.index_entry.specs.declared.types.TypeEntry.{TypeEntry}
 use Rattle.index_entry.specs.declared.types.TypeEntry.TheVariants as entry
-use Rattle.write_types.specs.Records.{parts_of}
-use Rattle.write_types.specs.Lines.{SpellsRecordLines, SpellsEntityLines, SpellsType}
-use Rattle.write_types.proofs.Scripts.{declaring, entity_script, record_script, ext_script, declared_as}
+use Rattle.write_types.specs.Lines.{type_lines, SpellsRecordLines, SpellsEntityLines, SpellsType}
+use Rattle.write_types.proofs.Scripts.{declaring, entity_script, record_script, ext_script}
 
--- at the same offset
-pub type_at_place : {file : Bytes} {o o' : ℕ} {r : TypeEntry} → o ≡ o' → TypeAt file o r → TypeAt file o' r
-type_at_place {file} {r = r} e T = subst (λ (n : ℕ). TypeAt file n r) e T
+-- the lines of a datatype
+lines_of : (f : TermFile) (S : State) (t : ℕ) (d : Datatype) (ty : Ty) → ty ≡ type_at f t → datatype ty ≡ some d → declaring (members f) S d ty ≡ type_lines f S t
+unfolding type_lines declaring
+lines_of f S t d ty tree is = let e : datatype (type_at f t) ≡ some d = ap datatype (sym tree) ∙ is in rw (type_lines, e, tree)
 
-module _ {file : Bytes} {work : List ℕ} {sizes : Sizes} {t : ℕ} {r : TypeEntry} (T : TypeAt file (cell work sizes.rows type_offset t) r) where
+module _ (records : Records) {t : ℕ} {r : TypeEntry} (T : TypeAt records.file.now (cell records.work.now records.sizes.rows type_offset t) r) where
   -- the type that the entry names, whose parts have lower numbers
-  type_here : {A : Type 0} (f : TermFile) → Index file f work sizes → t < length (types f) → (m : TypeMark) (rs : List ℕ)
-      → type_said (body_at file (cell work sizes.rows type_offset t)) r ≡ some (fields.type m rs)
+  type_here : {A : Type 0} (f : TermFile) → IndexOf f records → t < length (types f) → (m : TypeMark) (rs : List ℕ) → type_said r ≡ some (fields.type m rs)
       → (Below (length (types f)) rs → node m (forest (map (type_at f) rs)) ≡ type_at f t → A) → A
   unfolding counted
   type_here f I l m rs h next =
@@ -58,51 +53,37 @@ module _ {file : Bytes} {work : List ℕ} {sizes : Sizes} {t : ℕ} {r : TypeEnt
       let er : rs ≡ rs' = cc in
       next (rw er (below_more t (length (types f)) (omega arith) rs' below)) (rw (em, er) tree))
 
-  module _ {name room q : ℕ} {x y : Bytes} where
+  module _ {v w : Writer} where
     -- an entity type
-    pub spells_entity : {p : Span} {text body : Bytes} {o : ℕ} → r ≡ entry.Entity p → body ≡ body_at file o → o ≡ cell work sizes.rows type_offset t → text ≡ take p.len (drop p.start body)
-        → name ≡ name_at work sizes.rows type_first type_names t → SpellsEntityLines file work sizes text name room x y q → SpellsType file work sizes t room x y q
-    unfolding type_said spanned declaring forest datatype
-    spells_entity {p} {text} {body} {o} e b there h n L = record {
-      go = λ f S I N l d is.
-          let text_is : text ≡ spanned (body_at file (cell work sizes.rows type_offset t)) p = h ∙ (rw (b, there)) in
-          type_here f I l (Declared (entity text)) [] (rw (e, text_is)) (λ below tree.
-          let d-is : entity text ≡ d = declared_as (type_at f t) (ap datatype tree) is in
-          let known : place_of name ≡ place (eq_ty (node (Declared (entity text)) nil)) S.types = rw (n, tree) (sym (place_type I.rows t N l)) in
-          line_says (entity_script (members f) S name text known ∙ ap (λ (ty : Ty). declaring (members f) S (entity text) ty) tree ∙ ap (λ (d : Datatype). declaring (members f) S d (type_at f t)) d-is) (L.go f I));
-    }
+    pub spells_entity : {text : Bor Bytes} {name : Option ℕ} → r ≡ entry.Entity text → name ≡ place_of (name_at records.work.now records.sizes.rows type_first type_names t)
+        → SpellsEntityLines records text.now name v w → SpellsType records t v w
+    unfolding type_said forest datatype datatype_mark
+    spells_entity {text} {name} e n L =
+        spells_as (λ f S I N l.
+        type_here f I l (Declared (entity text.now)) [] (rw e) (λ below tree.
+        let known : name ≡ place (eq_ty (node (Declared (entity text.now)) nil)) S.types = rw (n, tree) (sym (place_type I.rows t N l)) in
+        entity_script (members f) S name text.now known ∙ lines_of f S t (entity text.now) _ tree refl))
+        (knowing (λ f I l. tt) L)
 
     -- a record type
-    pub spells_record_type : {n o : ℕ} {body : Bytes} → r ≡ entry.Record n → body ≡ body_at file o → o ≡ cell work sizes.rows type_offset t → name ≡ name_at work sizes.rows type_first type_names t
-        → SpellsRecordLines file work sizes body name n room x y q → SpellsType file work sizes t room x y q
-    unfolding type_said declaring parts_of datatype
-    spells_record_type {n} {o} {body} e b there h L = record {
-      go = λ f S I N l d is.
-          let s : Bytes = drop 4 body in
-          let body_is : body ≡ body_at file (cell work sizes.rows type_offset t) = b ∙ (rw there) in
-          type_here f I l (Declared (record_of (texts 4 n s))) (parts_of n s) (rw (e, ← body_is, texts_named n s)) (λ below tree.
-          let d-is : record_of (texts 4 n s) ≡ d = declared_as (type_at f t) (ap datatype tree) is in
-          let known : place_of name ≡ place (eq_ty (node (Declared (record_of (texts 4 n s))) (forest (map (type_at f) (parts_of n s))))) S.types = rw (h, tree) (sym (place_type I.rows t N l)) in
-          line_says (record_script (members f) S name f (texts 4 n s) (parts_of n s) known ∙ ap (λ (ty : Ty). declaring (members f) S (record_of (texts 4 n s)) ty) tree
-          ∙ ap (λ (d : Datatype). declaring (members f) S d (type_at f t)) d-is)
-          (L.go f S I N below));
-    }
+    pub spells_record_type : {c : Children} (name : std.Option ℕ) → r ≡ entry.Record c → place_said name ≡ place_of (name_at records.work.now records.sizes.rows type_first type_names t)
+        → SpellsRecordLines records (record { name = name; attributes = c }) v w → SpellsType records t v w
+    unfolding type_said datatype datatype_mark
+    spells_record_type {c} name e n L =
+        spells_as (λ f S I N l.
+        type_here f I l (Declared (record_of (names_in c))) (children_in c) (rw e) (λ below tree.
+        let known : place_said name ≡ place (eq_ty (node (Declared (record_of (names_in c))) (forest (map (type_at f) (children_in c))))) S.types = rw (n, tree) (sym (place_type I.rows t N l)) in
+        record_script (members f) S (place_said name) f (names_in c) (children_in c) known ∙ lines_of f S t (record_of (names_in c)) _ tree refl))
+        (knowing (λ f I l. type_here f I l (Declared (record_of (names_in c))) (children_in c) (rw e) (λ below tree. below)) L)
 
-  module _ {room q : ℕ} {x y : Bytes} where
     -- an extension type
-    pub spells_ext : {z : ExtType} → r ≡ entry.Ext z → Wrote room x y q (line (declare_datatype (ext_name (ext_type_said z)) [] (ext_constructors (ext_type_said z)))) → SpellsType file work sizes t room x y q
-    unfolding type_said declaring forest datatype
-    spells_ext {z} e A = record {
-      go = λ f S I N l d is.
-          type_here f I l (Declared (extension (ext_type_said z))) [] (rw e) (λ below tree.
-          let d-is : extension (ext_type_said z) ≡ d = declared_as (type_at f t) (ap datatype tree) is in
-          line_says (ext_script (members f) S 0 (ext_type_said z) ∙ ap (λ (ty : Ty). declaring (members f) S (extension (ext_type_said z)) ty) tree
-          ∙ ap (λ (d : Datatype). declaring (members f) S d (type_at f t)) d-is) A);
-    }
-
--- the entries that are no datatypes, by their places among the entries
-abbrev tags : List ℕ
-tags = 0 ∷ 1 ∷ 2 ∷ 3 ∷ 4 ∷ 8 ∷ []
+    pub spells_ext : {z : ExtType} → r ≡ entry.Ext z → Writes v w (line (declare_datatype (ext_name (ext_type_said z)) [] (ext_constructors (ext_type_said z)))) → SpellsType records t v w
+    unfolding type_said forest datatype datatype_mark
+    spells_ext {z} e A =
+        spells_as (λ f S I N l.
+        type_here f I l (Declared (extension (ext_type_said z))) [] (rw e) (λ below tree.
+        ext_script (members f) S none (ext_type_said z) ∙ lines_of f S t (extension (ext_type_said z)) _ tree refl))
+        (written A)
 
 -- the datatype that an entry is
 unfoldable datatype_said : Option Entry → Option Datatype
@@ -113,34 +94,27 @@ datatype_said (some (fields.func id a r)) = none
 datatype_said (some (fields.term m rs)) = none
 datatype_said (some (fields.input n)) = none
 
-no_datatype : (body : Bytes) (r : TypeEntry) → OneOf tags (tag_of the_type r) → datatype_said (type_said body r) ≡ none
-unfolding datatype_said type_said datatype_mark
-no_datatype body entry.Bool h = refl
-no_datatype body entry.String h = refl
-no_datatype body (entry.BitVec n) h = refl
-no_datatype body (entry.Option n) h = refl
-no_datatype body (entry.Set n) h = refl
-no_datatype body (entry.Entity p) h = absurd (miss tags 5 tt h)
-no_datatype body (entry.Ext x) h = absurd (miss tags 6 tt h)
-no_datatype body (entry.Record n) h = absurd (miss tags 7 tt h)
-no_datatype body entry.Unreadable h = refl
+module _ (r : TypeEntry) (e : (name : Bor Bytes) → r ≡ entry.Entity name → ⊥) (x : (z : ExtType) → r ≡ entry.Ext z → ⊥) (c : (c : Children) → r ≡ entry.Record c → ⊥) where
+  no_datatype : datatype_said (type_said r) ≡ none
+  unfolding datatype_said type_said datatype_mark
+  no_datatype = go r refl
+    where
+      go : (q : TypeEntry) → r ≡ q → datatype_said (type_said q) ≡ none
+      go entry.Bool h = refl
+      go entry.String h = refl
+      go (entry.BitVec n) h = refl
+      go (entry.Option n) h = refl
+      go (entry.Set n) h = refl
+      go (entry.Entity p) h = absurd (e p h)
+      go (entry.Ext z) h = absurd (x z h)
+      go (entry.Record d) h = absurd (c d h)
+      go entry.Unreadable h = refl
 
--- what is no datatype has nothing that declares it
-pub spells_none : {file : Bytes} {work : List ℕ} {sizes : Sizes} {t room : ℕ} {x : Bytes} {r : TypeEntry} → TypeAt file (cell work sizes.rows type_offset t) r → OneOf tags (tag_of the_type r)
-    → SpellsType file work sizes t room x x 0
-unfolding datatype_said datatype
-spells_none {file} {work} {sizes} {t} {r = r} T h = record {
-  go = λ f S I N l d is.
+  -- what is no datatype has nothing that declares it
+  pub spells_none : {records : Records} {t : ℕ} {v : Writer} → TypeAt records.file.now (cell records.work.now records.sizes.rows type_offset t) r → SpellsType records t v v
+  unfolding datatype_said datatype type_lines
+  spells_none {records} {t} T =
+      unwritten (λ f S I N l.
       type_stands (I.rows.type_row t l).stands (λ m' rs reads below tree.
-      let no : datatype_mark m' ≡ none = ap datatype_said (sym (T.go m' rs reads)) ∙ no_datatype (body_at file (cell work sizes.rows type_offset t)) r h in
-      let e : none ≡ some d = sym no ∙ ap datatype tree ∙ is in
-      never cc);
-}
-
--- with no room nothing is written
-script_some : (cs : List Command) (c : Command) → 0 < length (script (cs ++ (c ∷ [])))
-unfolding script collect
-script_some cs c = rw (collect_append line cs (c ∷ [])) (simp length-append (omega (arith, line_some c)))
-
-pub type_past : {file : Bytes} {work : List ℕ} {sizes : Sizes} {t room : ℕ} {x : Bytes} → room ≡ 0 → SpellsType file work sizes t room x x 1
-type_past {t = t} e = record { go = λ f S I N l d is. rw e (line_past (script_some (type_comment (members f) d) (type_declaration (members f) (names S) d (type_at f t)))) }
+      let no : datatype_mark m' ≡ none = ap datatype_said (sym (T.go m' rs reads)) ∙ no_datatype in
+      rw (type_lines, ← tree, no)))

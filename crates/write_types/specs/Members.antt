@@ -1,17 +1,18 @@
 -- The constructors of an enum's members, and what writing them promises.
 -- Assumes nothing.
 use Rattle.std.specs.Prelude.{ℕ, zero, suc, ◌≡◌, List, [], ◌∷◌, ◌++◌, length}
-use Rattle.std.proofs.Math.Option.{some}
+use Rattle.std.proofs.Math.Option.{Option, some}
 use Rattle.script_spec.specs.Base.{Bytes, bytes, joined}
 use Rattle.script_spec.specs.Command.{line, listed, declare_datatype}
 use Rattle.script_spec.specs.Spelling.{member_name, entity_constructors}
 use Rattle.script_spec.specs.Walk.{numbered}
-use Rattle.write_bytes.specs.Writing.{Appends, Wrote}
-use Rattle.walk_names.specs.Naming.{place_of}
+use Rattle.write_bytes.specs.Writers.{Writes}
+use Rattle.write_bytes.specs.declared.writer.Writer.{Writer}
+use Rattle.walk_names.specs.Script.{Continues}
 
--- the name that a number stands for
-unfoldable pub entity_symbol : ℕ → Bytes
-entity_symbol name = numbered (bytes "E") (place_of name)
+-- the name of an entity type by its place
+unfoldable pub entity_symbol : Option ℕ → Bytes
+entity_symbol name = numbered (bytes "E") name
 
 -- the constructor of the i-th member, on a line of its own
 unfoldable pub member_text : Bytes → ℕ → Bytes
@@ -23,9 +24,11 @@ members_text name i zero = []
 members_text name i (suc n) = member_text name i ++ members_text name (suc i) n
 
 -- the constructors of an enum with n members are written, each on a line of its own
-pub record SpellsMembers (name n limit : ℕ) (x : Bytes) (at : ℕ) (y : Bytes) (r : ℕ) : Type 0 where
-  pub go : (ms : List Bytes) → length ms ≡ n → Appends limit x at y r (bytes "\n  " ++ joined (bytes "\n  ") (entity_constructors (entity_symbol name) (some ms)))
+pub record SpellsMembers (name : Option ℕ) (n : ℕ) (v w : Writer) : Type 0 where
+  pub same : Continues v w
+  pub go : (ms : List Bytes) → length ms ≡ n → Writes v w (bytes "\n  " ++ joined (bytes "\n  ") (entity_constructors (entity_symbol name) (some ms)))
 
 -- the declaration of an enum with n members is written as a line
-pub record SpellsEnum (name n room : ℕ) (x y : Bytes) (r : ℕ) : Type 0 where
-  pub go : (ms : List Bytes) → length ms ≡ n → Wrote room x y r (line (declare_datatype (entity_symbol name) [] (entity_constructors (entity_symbol name) (some ms))))
+pub record SpellsEnum (name : Option ℕ) (n : ℕ) (v w : Writer) : Type 0 where
+  pub same : Continues v w
+  pub go : (ms : List Bytes) → length ms ≡ n → Writes v w (line (declare_datatype (entity_symbol name) [] (entity_constructors (entity_symbol name) (some ms))))

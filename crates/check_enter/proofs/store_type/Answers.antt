@@ -1,7 +1,12 @@
--- The search, and the row.
+-- The search, the row, and the count.
 -- Assumes nothing.
+use Rattle.check_enter.proofs.Rewritten.{rewritten_from, rewritten_then}
 use Rattle.check_enter.proofs.Types.{type_row_stored}
 use Rattle.check_enter.proofs.store_type.Goals as goal
 
 pub returns : goal.returns
-returns c = type_row_stored _ _ _ _ _ _ c.enrol-first.ensures c.set.ensures c.set-2.ensures c.set-3.ensures c.set-4.ensures c.set-5.ensures
+returns c =
+    let E = c.enrol-first.ensures in
+    type_row_stored _ _ _ _ E
+    (rewritten_then _ _ _ (rewritten_then _ _ _ (rewritten_then _ _ _ (rewritten_then _ _ _ (rewritten_then _ _ _ (rewritten_from E.stays) c.set.ensures) c.set-2.ensures) c.set-3.ensures) c.set-4.ensures) c.set-5.ensures)
+    c.saturating_add-records.ensures

@@ -1,10 +1,14 @@
 -- The answer by fill's, with the memory cleared on acceptance too.
 -- Assumes nothing.
+use mathlib.Core.Path.{ap, ◌∙◌}
+use Prim.Native.Nat.{ℕ}
+use lib.ListN.{replicate}
+use Rattle.std.proofs.lemmas.Result.{err_from_is_err_and}
 use Rattle.check_file.proofs.Checking.{check_refused, check_accepted}
 use Rattle.check_file.proofs.check.Goals as goal
 
-pub returns-in-Refused : goal.returns-in-Refused
-returns-in-Refused c = check_refused _ _ c.fill.ensures (c.in-Refused.is)
+pub returns-in_err-fill : goal.returns-in_err-fill
+returns-in_err-fill c = let p = err_from_is_err_and c.from_residual.result c.from_residual.ensures.1 in rw (p.1, p.2) (check_refused _ _ c.in_err-fill.ensures)
 
-pub returns-in-Done : goal.returns-in-Done
-returns-in-Done c = check_accepted _ _ c.fill.ensures (c.in-Done.is) c.fill.auto.work c.accept.ensures
+pub returns : goal.returns
+returns c = check_accepted _ _ _ _ c.in_ok-fill.ensures (c.clear.ensures ∙ ap (λ (m : ℕ). replicate m 0) c.fill.auto.work)

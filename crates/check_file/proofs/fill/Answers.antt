@@ -1,8 +1,10 @@
--- The refusals before the first record, and the loop over the records; its measure is what is left of the file.
+-- The refusals before the first record, and the ways out after the records.
 -- Assumes nothing.
-use mathlib.Core.Path.{sym, ◌∙◌}
-use Rattle.check_file.proofs.Filling.{fills_long, fills_narrow, going_start, going_further, going_on, going_bad, going_end}
+use mathlib.Core.Path.{refl, sym, ap, ◌∙◌}
 use native.Mathlib.Omega.{arith}
+use Rattle.index.specs.declared.Sizes.{Sizes}
+use Rattle.check_file.proofs.Loop.{begins, same_length}
+use Rattle.check_file.proofs.Filling.{fills_long, fills_narrow, fills_done, fills_broken}
 use Rattle.check_file.proofs.fill.Goals as goal
 
 pub returns-then-file-gt-MOST_BYTES : goal.returns-then-file-gt-MOST_BYTES
@@ -11,23 +13,19 @@ returns-then-file-gt-MOST_BYTES c = fills_long _ c.if-file-gt-MOST_BYTES.true c.
 pub returns-then-work-file : goal.returns-then-work-file
 returns-then-work-file c = fills_narrow _ (omega arith) c.if-work-file.true c.refuse-then-work-file.ensures
 
-pub loop-at-init : goal.loop-at-init
-loop-at-init c = going_start _ _ _ c.capacity-rows.ensures (omega arith) (omega (arith, c.clear_column.auto.work)) c.clear_column.ensures
+pub enter_all-requires : goal.enter_all-requires
+enter_all-requires c = begins c.clear_column.ensures (omega arith) (omega arith) c.capacity.ensures (record { types_none = refl; funs_none = refl; terms_none = refl; enums_none = refl; inputs_none = refl })
 
-pub shape_of-work-in-Bad : goal.shape_of-work-in-Bad
-shape_of-work-in-Bad c = c.refuse-in-Bad.auto.work ∙ c.step.auto.work ∙ (c.loop-at.invariant).same_size ∙ c.clear_column.auto.work
+pub returns-in-Ok : goal.returns-in-Ok
+returns-in-Ok c =
+    let B = c.clear_column.ensures in
+    let E = c.in-Ok.ensures in
+    rw (c.work-in-Ok-1.given.1.1 (sym (c.enter_all.ensures.kept.lent ∙ B.lent)))
+    (fills_done _ _ (ap (λ x. x.now) B.file_is) (omega arith) (omega arith) E (ap (λ (s : Sizes). s.rows) B.sizes_are ∙ c.capacity.ensures))
 
-pub returns-in-Bad : goal.returns-in-Bad
-returns-in-Bad c = going_bad c.loop-at.invariant c.step.ensures _ (sym c.clear_column.auto.work) c.loop-at-test.true c.in-Bad.is c.step.auto.work c.next_place.ensures c.refuse-in-Bad.ensures
-
-pub loop-at-smaller : goal.loop-at-smaller
-loop-at-smaller c = omega (arith, going_further c.loop-at.invariant c.step.ensures c.in-To.is)
-
-pub loop-at-preserved : goal.loop-at-preserved
-loop-at-preserved c = going_on c.loop-at.invariant c.step.ensures c.in-To.is c.step.auto.work
-
-pub shape_of-work : goal.shape_of-work
-shape_of-work c = (c.loop-at.invariant).same_size ∙ c.clear_column.auto.work
-
-pub returns : goal.returns
-returns c = going_end c.loop-at.invariant _ (sym c.clear_column.auto.work) (omega arith)
+pub returns-in-Err : goal.returns-in-Err
+returns-in-Err c =
+    let B = c.clear_column.ensures in
+    let E = c.in-Err.ensures in
+    rw (c.work-in-Err-1.given.1.1 (sym (c.enter_all.ensures.kept.lent ∙ B.lent)))
+    (fills_broken _ _ (ap (λ x. x.now) B.file_is) (omega arith) (omega arith) E c.together-place.ensures c.refuse-in-Err.ensures (same_length B))

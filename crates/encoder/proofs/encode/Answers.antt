@@ -1,10 +1,10 @@
--- `encoder::encode` meets its contract: check's refusal, or the records, after their lists are made.
+-- `encoder::encode` meets its contract: zeros past the script, or zeros alone.
 -- Assumes nothing.
-use Rattle.encoder.proofs.CloseLaws.{encodes_refused, encodes_accepted}
+use Rattle.encoder.proofs.EndLaws.{encodes_script, encodes_refusal}
 use Rattle.encoder.proofs.encode.Goals as goal
 
-pub returns-in-Refused : goal.returns-in-Refused
-returns-in-Refused c = encodes_refused _ _ _ c.fill.ensures c.in-Refused.is c.turn_back.ensures
+pub returns-in-Ok : goal.returns-in-Ok
+returns-in-Ok c = encodes_script _ _ _ _ c.written-answer.auto.script c.clear_words.ensures c.written-answer.auto.work (rw c.in-Ok.is at c.written-answer.ensures) c.clear.ensures
 
-pub returns-in-Done : goal.returns-in-Done
-returns-in-Done c = encodes_accepted _ _ _ c.fill.ensures c.fill.auto.work c.in-Done.is c.make_lists.ensures c.make_lists.auto.work c.encode_records.ensures
+pub returns-in-Err : goal.returns-in-Err
+returns-in-Err c = encodes_refusal _ _ _ _ c.written-answer.auto.script c.clear_words.ensures c.written-answer.auto.work (rw c.in-Err.is at c.written-answer.ensures) c.clear-in-Err.ensures

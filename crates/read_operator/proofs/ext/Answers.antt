@@ -1,24 +1,26 @@
 -- The code of an extension operator, below ten.
 -- Assumes nothing.
-use mathlib.Core.Path.{refl, ap}
+use Rattle.std.proofs.lemmas.Result.{err_from_is_err_and}
+use mathlib.Core.Path.{refl}
 use native.Mathlib.Nat.{le_trans}
 use lib.Dec.{lit≤}
 use Rattle.script_spec.specs.Fields.{pure, ext_op, coded}
-use Rattle.read_field.proofs.Coded.{reads_chosen, chosen_refused, at_map}
-use Rattle.read_field.proofs.Laws.{reads_stop, reads_next, reads_pure, tells}
-use Rattle.read_field.specs.Answers.{number_told}
+use Rattle.refusal.specs.Numbers.{number}
+use Rattle.read_field.proofs.Coded.{chosen_refused, at_map}
+use Rattle.read_field.proofs.Laws.{takes_next, refuses_next, refuses_stop, takes_pure}
 use Rattle.read_field.specs.Reads.{chosen}
-use Rattle.read_operator.specs.Operators.{op_of, ext_ops, op_told, ext_operator}
+use Rattle.read_operator.specs.Operators.{op_of, ext_ops, ext_operator}
+use Rattle.read_operator.proofs.Laws.{takes_chosen}
 use Rattle.read_operator.proofs.ext.Goals as goal
 
-pub returns-in-Bad : goal.returns-in-Bad
-unfolding ext_operator ext_op coded op_told number_told
-returns-in-Bad c = reads_stop _ (reads_stop _ (tells (ap number_told (c.in-Bad.is)) c.byte.ensures))
+pub returns-in_err-code : goal.returns-in_err-code
+unfolding ext_operator ext_op coded
+returns-in_err-code c = let p = err_from_is_err_and c.from_residual.result c.from_residual.ensures.1 in rw (p.1, p.2) (refuses_stop _ (refuses_stop _ c.in_err-code.ensures))
 
 pub returns-then-code-lt-EXT_OPS : goal.returns-then-code-lt-EXT_OPS
-unfolding ext_operator ext_op coded chosen op_told op_of number_told ext_ops
-returns-then-code-lt-EXT_OPS c = reads_next _ (reads_next _ (tells (ap number_told (c.in-Value.is)) c.byte.ensures) (reads_chosen _ _ refl (at_map pure ext_ops _ _ (c.ext_of.ensures.is)) (reads_pure _))) (reads_pure _)
+unfolding ext_operator ext_op coded chosen op_of ext_ops
+returns-then-code-lt-EXT_OPS c = takes_next _ (takes_next _ c.in_ok-code.ensures (takes_chosen _ _ refl (at_map pure ext_ops _ _ (c.ext_of.ensures.is)) (takes_pure _))) (takes_pure _)
 
-pub returns-else-code-lt-EXT_OPS : goal.returns-else-code-lt-EXT_OPS
-unfolding ext_operator ext_op coded chosen op_told number_told
-returns-else-code-lt-EXT_OPS c = reads_stop _ (reads_next _ (tells (ap number_told (c.in-Value.is)) c.byte.ensures) (chosen_refused _ _ (le_trans (lit≤ tt) c.if-code-lt-EXT_OPS.false)))
+pub returns : goal.returns
+unfolding ext_operator ext_op coded chosen number
+returns c = refuses_stop _ (refuses_next _ c.in_ok-code.ensures (record { reads = chosen_refused _ _ (le_trans (lit≤ tt) c.if-code-lt-EXT_OPS.false) }))

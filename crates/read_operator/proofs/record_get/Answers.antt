@@ -1,15 +1,27 @@
--- The attribute's name.
+-- The name of an attribute, tested or not.
 -- Assumes nothing.
-use mathlib.Core.Path.{ap}
-use Rattle.read_field.proofs.Laws.{reads_stop, reads_next, reads_pure, tells}
-use Rattle.read_field.specs.Answers.{text_told}
-use Rattle.read_operator.specs.Operators.{op_told, op_of, record_get_operand}
+use Rattle.std.proofs.lemmas.Result.{err_from_is_err_and}
+use Rattle.read_field.proofs.Laws.{takes_next, refuses_next, refuses_stop, takes_pure}
+use Rattle.read_operator.specs.Operators.{op_of, record_get_operand}
+use Rattle.read_operator.proofs.Again.{any_attribute, counted, attribute_again, tested_if, untested}
 use Rattle.read_operator.proofs.record_get.Goals as goal
 
-pub returns-in-Bad : goal.returns-in-Bad
-unfolding record_get_operand op_told text_told
-returns-in-Bad c = reads_stop _ (tells (ap (text_told _) (c.in-Bad.is)) c.text.ensures)
+pub returns-in_err-name : goal.returns-in_err-name
+unfolding record_get_operand
+returns-in_err-name g c = let p = err_from_is_err_and c.from_residual.result c.from_residual.ensures.1 in rw (p.1, p.2) (tested_if _ (λ b. record_get_operand) _ c.if-this-ne0.true (refuses_stop _ c.in_err-name.ensures))
 
-pub returns-in-Bytes : goal.returns-in-Bytes
-unfolding record_get_operand op_told op_of text_told
-returns-in-Bytes c = reads_next _ (tells (ap (text_told _) (c.in-Bytes.is)) c.text.ensures) (reads_pure _)
+pub returns-then-this-ne0 : goal.returns-then-this-ne0
+unfolding record_get_operand op_of
+returns-then-this-ne0 g c = tested_if _ (λ b. record_get_operand) _ c.if-this-ne0.true (takes_next _ c.in_ok-name.ensures (takes_pure _))
+
+pub returns-in_err-n : goal.returns-in_err-n
+unfolding any_attribute counted
+returns-in_err-n g c = let p = err_from_is_err_and c.from_residual-in_err-n.result c.from_residual-in_err-n.ensures.1 in rw c.if-this-ne0.false (rw (p.1, p.2) (untested (attribute_again _ (refuses_stop _ (refuses_stop _ c.in_err-n.ensures)))))
+
+pub returns-in_err-name-2 : goal.returns-in_err-name-2
+unfolding any_attribute counted
+returns-in_err-name-2 g c = let p = err_from_is_err_and c.from_residual-in_err-name-2.result c.from_residual-in_err-name-2.ensures.1 in rw c.if-this-ne0.false (rw (p.1, p.2) (untested (attribute_again _ (refuses_stop _ (refuses_next _ c.in_ok-n.ensures c.in_err-name-2.ensures)))))
+
+pub returns : goal.returns
+unfolding any_attribute counted op_of
+returns g c = rw c.if-this-ne0.false (untested (attribute_again _ (takes_next _ (takes_next _ c.in_ok-n.ensures c.in_ok-name-2.ensures) (takes_pure _))))

@@ -1,15 +1,24 @@
--- The function's number.
+-- The number of a function, tested or not.
 -- Assumes nothing.
-use mathlib.Core.Path.{ap}
-use Rattle.read_field.proofs.Laws.{reads_stop, reads_next, reads_pure, tells}
-use Rattle.read_field.specs.Answers.{number_told}
-use Rattle.read_operator.specs.Operators.{op_told, op_of, uninterpreted}
+use Rattle.std.proofs.lemmas.Result.{err_from_is_err_and}
+use Rattle.read_field.proofs.Laws.{takes_next, refuses_stop, takes_pure}
+use Rattle.read_operator.specs.Again.{count}
+use Rattle.read_operator.specs.Operators.{op_of, uninterpreted}
+use Rattle.read_operator.proofs.Again.{any_function, function_again, tested_if, untested}
 use Rattle.read_operator.proofs.uuf.Goals as goal
 
-pub returns-in-Bad : goal.returns-in-Bad
-unfolding uninterpreted op_told number_told
-returns-in-Bad c = reads_stop _ (tells (ap number_told (c.in-Bad.is)) c.reference.ensures)
+pub returns-in_err-n : goal.returns-in_err-n
+unfolding count uninterpreted
+returns-in_err-n g c = let p = err_from_is_err_and c.from_residual.result c.from_residual.ensures.1 in rw (p.1, p.2) (tested_if _ (λ b. uninterpreted (count b c.args.funs)) _ c.if-this-ne0.true (refuses_stop _ c.in_err-n.ensures))
 
-pub returns-in-Value : goal.returns-in-Value
-unfolding uninterpreted op_told op_of number_told
-returns-in-Value c = reads_next _ (tells (ap number_told (c.in-Value.is)) c.reference.ensures) (reads_pure _)
+pub returns-then-this-ne0 : goal.returns-then-this-ne0
+unfolding count uninterpreted op_of
+returns-then-this-ne0 g c = tested_if _ (λ b. uninterpreted (count b c.args.funs)) _ c.if-this-ne0.true (takes_next _ c.in_ok-n.ensures (takes_pure _))
+
+pub returns-in_err-n-2 : goal.returns-in_err-n-2
+unfolding any_function
+returns-in_err-n-2 g c = let p = err_from_is_err_and c.from_residual-in_err-n-2.result c.from_residual-in_err-n-2.ensures.1 in rw c.if-this-ne0.false (rw (p.1, p.2) (untested (function_again _ _ (refuses_stop _ c.in_err-n-2.ensures))))
+
+pub returns : goal.returns
+unfolding any_function op_of
+returns g c = rw c.if-this-ne0.false (untested (function_again _ _ (takes_next _ c.in_ok-n-2.ensures (takes_pure _))))

@@ -1,4 +1,4 @@
--- `read_utf8::is_utf8` meets its contract: the rest of the text is UTF-8 exactly if the whole is. The measure is the rest's length.
+-- The rest of the text is UTF-8 exactly if the whole is. The measure is the rest's length.
 -- Assumes nothing.
 use mathlib.Core.Path.{◌≡◌}
 use Prim.Native.Nat.{◌-◌}
@@ -6,8 +6,8 @@ use lib.ListN.{length, drop}
 use Rattle.script_spec.specs.Utf8.{is_utf8}
 use Rattle.read_utf8.proofs.is_utf8.Given as goal
 
-abbrev pub invariant-loop-after : goal.invariant-loop-after
-invariant-loop-after l = is_utf8 l.s ≡ is_utf8 (drop l.cursor.at l.s)
+abbrev pub invariant-loop-point : goal.invariant-loop-point
+invariant-loop-point l = is_utf8 l.s ≡ is_utf8 (drop l.rest.at l.rest.text.now)
 
-abbrev pub decreases-loop-after : goal.decreases-loop-after
-decreases-loop-after l = length l.s - l.cursor.at
+abbrev pub decreases-loop-point : goal.decreases-loop-point
+decreases-loop-point l = length l.rest.text.now - l.rest.at

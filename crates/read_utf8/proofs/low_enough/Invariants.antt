@@ -1,5 +1,4 @@
--- `read_utf8::low_enough` meets its contract: the rest of the text decides, as long as every code point before it passed. The measure
--- is the rest's length.
+-- The rest of the text decides, as long as every code point before it passed. The measure is the rest's length.
 -- Assumes nothing.
 use mathlib.Core.Path.{◌≡◌}
 use Prim.Native.Nat.{◌-◌}
@@ -8,8 +7,8 @@ use Rattle.script_spec.specs.Walk.{low_enough}
 use Rattle.read_utf8.specs.Decoding.{points}
 use Rattle.read_utf8.proofs.low_enough.Given as goal
 
-abbrev pub invariant-loop-c : goal.invariant-loop-c
-invariant-loop-c l = low_enough (points l.s) ≡ low_enough (points (drop l.cursor.at l.s))
+abbrev pub invariant-loop-point : goal.invariant-loop-point
+invariant-loop-point l = low_enough (points l.s) ≡ low_enough (points (drop l.rest.at l.rest.text.now))
 
-abbrev pub decreases-loop-c : goal.decreases-loop-c
-decreases-loop-c l = length l.s - l.cursor.at
+abbrev pub decreases-loop-point : goal.decreases-loop-point
+decreases-loop-point l = length l.rest.text.now - l.rest.at

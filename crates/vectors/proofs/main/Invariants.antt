@@ -1,9 +1,7 @@
--- `vectors::main` is safe and ends: the counts are at most the number of the argument, which grows.
-use Rattle.std.proofs.Common.{◌+◌, ◌-◌, ◌<◌, ◌≤◌}
+-- `vectors::main`: fewer files differ, and fewer are compared, than there are pairs of arguments.
+-- Assumes nothing.
+use Rattle.std.specs.Prelude.{◌≤◌}
 use Rattle.vectors.proofs.main.Given as goal
 
-abbrev pub invariant-loop-i : goal.invariant-loop-i
-invariant-loop-i l = (l.count < 1000000) × (l.i ≤ l.count + 1) × (l.compared ≤ l.i) × (l.differ ≤ l.i)
-
-abbrev pub decreases-loop-i : goal.decreases-loop-i
-decreases-loop-i l = l.count + 1 - l.i
+abbrev pub invariant-loop-pair : goal.invariant-loop-pair
+invariant-loop-pair l = (l.compared ≤ l.pair) × (l.differ ≤ l.pair)

@@ -1,37 +1,38 @@
 -- `walk_terms::encode_term`, `walk_terms::encode_unnamed` and `walk_terms::encode_terms` meet their contracts: by recursion on the number, which
 -- falls from a term to its children. The loop's invariant: the children that are left, after those that were encoded, make all.
 -- Assumes nothing.
-use native.Mathlib.Omega.{arith}
-use borrow.Author.Rules.{rules}
-use mathlib.Core.Path.{refl, sym, ◌∙◌}
-use Rattle.walk_names.proofs.Running.{advances_refused}
-use Rattle.index_entry.proofs.ChildLaws.{no_children}
-use Rattle.walk_terms.proofs.Walking.{leaves_term, encodes_term, terms_start, terms_on, terms_end, terms_never}
+use mathlib.Core.Path.{sym, ◌∙◌}
+use Rattle.std.proofs.lemmas.Result.{err_from_is_err_and}
+use Rattle.walk_terms.proofs.Walking.{has_name, has_none, leaves_term, after_type, after_children, children_stop, terms_start, terms_on, terms_stop, terms_end, terms_never}
 use Rattle.walk_terms.proofs.+encode_term_encode_terms_encode_unnamed.Goals as goal
 
-pub encode_term-returns-then-p-ne0 : goal.encode_term-returns-then-p-ne0
-encode_term-returns-then-p-ne0 t c = advances_refused c.if-p-ne0.true
-
-pub encode_term-returns-then-term_name-ne0 : goal.encode_term-returns-then-term_name-ne0
-encode_term-returns-then-term_name-ne0 t c = leaves_term _ c.if-p-ne0.false c.term_name.ensures c.if-term_name-ne0.true
+pub encode_term-returns-then-is_some : goal.encode_term-returns-then-is_some
+encode_term-returns-then-is_some t c = let v = c.view.ensures in leaves_term _ (has_name _ _ (rw (v.1, v.2) at c.get.ensures) (sym c.is_some.ensures ∙ c.if-is_some.true))
 
 pub encode_term-returns : goal.encode_term-returns
-encode_term-returns t c = (c.encode_unnamed.ensures).go c.if-p-ne0.false (sym c.term_name.ensures ∙ c.if-term_name-ne0.false)
+encode_term-returns t c = let v = c.view.ensures in c.encode_unnamed.ensures.go (has_none _ _ (rw (v.1, v.2) at c.get.ensures) (sym c.is_some.ensures ∙ c.if-is_some.false))
+
+pub encode_unnamed-returns-in_err-encode_terms : goal.encode_unnamed-returns-in_err-encode_terms
+encode_unnamed-returns-in_err-encode_terms t c =
+    let p = err_from_is_err_and c.from_residual.result c.from_residual.ensures.1 in
+    rw (p.1, p.2) (after_type c.encode_own_type.ensures (children_stop (rw c.in_err-encode_terms.was at c.encode_terms.ensures)))
 
 pub encode_unnamed-returns : goal.encode_unnamed-returns
-encode_unnamed-returns t c = record { go = λ z h. encodes_term _ z refl h c.encode_own_type-typed.ensures c.encode_terms-q.ensures c.encode_new.ensures }
+encode_unnamed-returns t c = after_type c.encode_own_type.ensures (after_children (rw c.in_ok-encode_terms.was at c.encode_terms.ensures) c.encode_new.ensures)
 
-pub encode_terms-loop-left-init : goal.encode_terms-loop-left-init
-encode_terms-loop-left-init t c = (terms_start _ (c.wide.ensures).0 c.get-offset.ensures c.to_encode-left.ensures, (refl, refl))
+pub encode_terms-loop-child-init : goal.encode_terms-loop-child-init
+encode_terms-loop-child-init t c = rw c.into_iter-child-iterator.ensures.into_iter_gives (terms_start c.to_encode-child-items.ensures)
 
-pub encode_terms-returns-then-n-number : goal.encode_terms-returns-then-n-number
-encode_terms-returns-then-n-number t c = terms_never (c.loop-left.invariant).0 ((c.take_child-child.ensures).splits c.loop-left-test.true) c.if-n-number.true
+pub encode_terms-returns-then-n-child : goal.encode_terms-returns-then-n-child
+encode_terms-returns-then-n-child t c = terms_never c.loop-child.invariant c.in-Some.ensures.steps c.if-n-child.true
 
-pub encode_terms-loop-left-smaller : goal.encode_terms-loop-left-smaller
-encode_terms-loop-left-smaller t c = omega (arith, (c.take_child-child.ensures).fewer c.loop-left-test.true)
+pub encode_terms-loop-child-preserved : goal.encode_terms-loop-child-preserved
+encode_terms-loop-child-preserved t c = terms_on c.loop-child.invariant c.in-Some.ensures.steps c.if-n-child.false (rw c.in_ok-encode_term.was at c.encode_term.ensures)
 
-pub encode_terms-loop-left-preserved : goal.encode_terms-loop-left-preserved
-encode_terms-loop-left-preserved t c = (terms_on (c.loop-left.invariant).0 ((c.take_child-child.ensures).splits c.loop-left-test.true) c.if-n-number.false c.encode_term-q.ensures, search rules)
+pub encode_terms-returns-in_err-encode_term : goal.encode_terms-returns-in_err-encode_term
+encode_terms-returns-in_err-encode_term t c =
+    let p = err_from_is_err_and c.from_residual.result c.from_residual.ensures.1 in
+    rw (p.1, p.2) (terms_stop c.loop-child.invariant c.in-Some.ensures.steps c.if-n-child.false (rw c.in_err-encode_term.was at c.encode_term.ensures))
 
 pub encode_terms-returns : goal.encode_terms-returns
-encode_terms-returns t c = terms_end (c.loop-left.invariant).0 (no_children _ _ (omega (arith, c.loop-left-test.false)))
+encode_terms-returns t c = terms_end c.loop-child.invariant c.in-None.ensures.steps.0

@@ -4,4 +4,4 @@ use Rattle.write_bytes.proofs.Clearing.{cleared_part}
 use Rattle.write_bytes.proofs.clear.Goals as goal
 
 pub returns : goal.returns
-returns c = cleared_part _ _ _ _ c.smaller-start.ensures c.clear_all.ensures
+returns c = cleared_part _ _ _ _ c.min-start.ensures (c.fill.ensures.after (λ y e. e))

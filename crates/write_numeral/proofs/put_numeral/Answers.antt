@@ -25,14 +25,14 @@ loop-left-smaller c = div_smaller _ _ c.requires c.loop-left-test.true
 pub loop-left-preserved : goal.loop-left-preserved
 loop-left-preserved c = laid_next _ _ _ _ _ _ c.requires c.loop-left-test.true c.last_digit-in-loop-left.ensures c.loop-left.invariant
 
-pub slice_bounds-put_at-count : goal.slice_bounds-put_at-count
-slice_bounds-put_at-count c = omega (arith, c.loop-left.invariant.inside)
+pub slice_bounds-put-count : goal.slice_bounds-put-count
+slice_bounds-put-count c = omega (arith, c.loop-left.invariant.inside)
 
-pub slice_bounds-put_at-start : goal.slice_bounds-put_at-start
-slice_bounds-put_at-start c = omega (arith, c.loop-left.invariant.inside)
+pub slice_bounds-put-start : goal.slice_bounds-put-start
+slice_bounds-put-start c = omega (arith, c.loop-left.invariant.inside)
 
-pub slice_bounds-put_at-end : goal.slice_bounds-put_at-end
-slice_bounds-put_at-end c = omega (arith, c.loop-left.invariant.inside)
+pub slice_bounds-put-end : goal.slice_bounds-put-end
+slice_bounds-put-end c = omega (arith, c.loop-left.invariant.inside)
 
 pub returns : goal.returns
-returns c = says (laid_end _ _ _ _ _ c.loop-left-test.false c.loop-left.invariant) c.put_at.ensures
+returns c = says (laid_end _ _ _ _ _ c.loop-left-test.false c.loop-left.invariant) c.put.ensures

@@ -7,8 +7,8 @@ use Rattle.write_pattern.proofs.put_element.Goals as goal
 
 pub returns-then-c-eq-WILDCARD : goal.returns-then-c-eq-WILDCARD
 unfolding bytes
-returns-then-c-eq-WILDCARD c = says (element_wildcard _ c.if-c-eq-WILDCARD.true) c.put_at.ensures
+returns-then-c-eq-WILDCARD c = says (element_wildcard _ c.if-c-eq-WILDCARD.true) c.put.ensures
 
 pub returns : goal.returns
 unfolding bytes
-returns c = says (element_point _ c.if-c-eq-WILDCARD.false) (c.put_at-a1.ensures then c.put_escape-a2.ensures then c.put_at-2.ensures)
+returns c = says (element_point _ c.if-c-eq-WILDCARD.false) (c.put-2.ensures then c.put_escape.ensures then c.put-3.ensures)

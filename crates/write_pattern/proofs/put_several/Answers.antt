@@ -7,4 +7,4 @@ use Rattle.write_pattern.proofs.put_several.Goals as goal
 
 pub returns : goal.returns
 unfolding several bytes
-returns c = c.put_at-a1.ensures then c.put_element-a2.ensures then c.put_elements-a3.ensures then c.put_byte.ensures
+returns c = c.put.ensures then c.put_element.ensures then c.put_elements.ensures then c.put_byte.ensures

@@ -12,4 +12,4 @@ pub overflow_add-end : goal.overflow_add-end
 overflow_add-end c = omega (arith, c.room.ensures, c.if-room-lt-MOST.false)
 
 pub returns : goal.returns
-returns c = rw c.smaller.ensures (cut_long c.room.ensures c.if-room-lt-MOST.false (omega arith) refl c.put_quoted-place.ensures)
+returns c = cut_long c.room.ensures c.if-room-lt-MOST.false (omega arith) refl c.min-w.ensures c.put_quoted-2.ensures

@@ -7,22 +7,22 @@ use Rattle.write_text.proofs.Laws.{debug_letters, debug_shown}
 use Rattle.write_text.proofs.put_debug_char.Goals as goal
 
 pub returns-in-34 : goal.returns-in-34
-returns-in-34 c = says (debug_letters.0 ∙ sym (ap debug_char c.in-34.is)) c.put_at.ensures
+returns-in-34 c = says (debug_letters.0 ∙ sym (ap debug_char c.in-34.is)) c.put.ensures
 
 pub returns-in-92 : goal.returns-in-92
-returns-in-92 c = says (debug_letters.1 ∙ sym (ap debug_char c.in-92.is)) c.put_at-in-92.ensures
+returns-in-92 c = says (debug_letters.1 ∙ sym (ap debug_char c.in-92.is)) c.put-in-92.ensures
 
 pub returns-in-9 : goal.returns-in-9
-returns-in-9 c = says (debug_letters.2 ∙ sym (ap debug_char c.in-9.is)) c.put_at-in-9.ensures
+returns-in-9 c = says (debug_letters.2 ∙ sym (ap debug_char c.in-9.is)) c.put-in-9.ensures
 
 pub returns-in-13 : goal.returns-in-13
-returns-in-13 c = says (debug_letters.3 ∙ sym (ap debug_char c.in-13.is)) c.put_at-in-13.ensures
+returns-in-13 c = says (debug_letters.3 ∙ sym (ap debug_char c.in-13.is)) c.put-in-13.ensures
 
 pub returns-in-10 : goal.returns-in-10
-returns-in-10 c = says (debug_letters.4 ∙ sym (ap debug_char c.in-10.is)) c.put_at-in-10.ensures
+returns-in-10 c = says (debug_letters.4 ∙ sym (ap debug_char c.in-10.is)) c.put-in-10.ensures
 
 pub returns-in-0 : goal.returns-in-0
-returns-in-0 c = says (debug_letters.5 ∙ sym (ap debug_char c.in-0.is)) c.put_at-in-0.ensures
+returns-in-0 c = says (debug_letters.5 ∙ sym (ap debug_char c.in-0.is)) c.put-in-0.ensures
 
 pub returns-in_default : goal.returns-in_default
 returns-in_default c = let r = c.in_default.in_default-own.rest in says (debug_shown _ r.0.0.0.0.0.1 r.0.0.0.0.1 r.0.0.0.1 r.0.0.1 r.0.1 r.1) c.put_shown.ensures

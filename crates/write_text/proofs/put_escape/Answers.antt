@@ -4,11 +4,11 @@ use Rattle.write_bytes.proofs.Laws.{says}
 use Rattle.write_text.proofs.Laws.{escape_quote, escape_backslash, escape_shown}
 use Rattle.write_text.proofs.put_escape.Goals as goal
 
-pub returns-then-c-eq34 : goal.returns-then-c-eq34
-returns-then-c-eq34 c = says (escape_quote _ c.if-c-eq34.true) c.put_at.ensures
+pub returns-in-34 : goal.returns-in-34
+returns-in-34 c = says (escape_quote _ c.in-34.is) c.put.ensures
 
-pub returns-then-c-eq92 : goal.returns-then-c-eq92
-returns-then-c-eq92 c = says (escape_backslash _ c.if-c-eq92.true) c.put_brace.ensures
+pub returns-in-92 : goal.returns-in-92
+returns-in-92 c = says (escape_backslash _ c.in-92.is) c.put_brace.ensures
 
-pub returns : goal.returns
-returns c = says (escape_shown _ c.if-c-eq34.false c.if-c-eq92.false) c.put_shown.ensures
+pub returns-in_default : goal.returns-in_default
+returns-in_default c = let r = c.in_default.in_default-own.rest in says (escape_shown _ r.0.1 r.1) c.put_shown.ensures

@@ -6,4 +6,4 @@ use Rattle.write_text.proofs.put_quoted.Goals as goal
 
 pub returns : goal.returns
 unfolding quoted
-returns c = c.put_byte-a1.ensures then c.put_points-a2.ensures then c.put_byte.ensures
+returns c = c.put_byte.ensures then c.put_points.ensures then c.put_byte-2.ensures

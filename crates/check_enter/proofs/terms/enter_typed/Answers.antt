@@ -1,20 +1,48 @@
 -- `check_enter::terms::enter_typed` meets its contract: rules 9 and 10, the type, the count, the depth, and then the row.
 -- Assumes nothing.
-use Rattle.check_enter.proofs.TermRules.{enters_left, stores_left, term_broken, term_unlisted, term_many, term_deep, term_entered}
-use native.Mathlib.Omega.{arith}
+use mathlib.Core.Path.{sym, ◌∙◌}
+use Rattle.std.proofs.lemmas.Result.{err_from_is_err_and}
+use Rattle.check_enter.proofs.Rewritten.{keeps_left, keeps_then}
+use Rattle.check_enter.proofs.TermRules.{given, not_given, term_broken, term_unlisted, term_many, term_deep, term_entered}
 use Rattle.check_enter.proofs.terms.enter_typed.Goals as goal
 
-pub returns-in-Broken : goal.returns-in-Broken
-returns-in-Broken c = record { go = λ M T. enters_left (c.broken_rule-rules.ensures).unchanged (term_broken {file = c.args.file.now} _ (λ i. omega (arith, c.type_inv.file i)) c.greatest-deepest.ensures ((c.broken_rule-rules.ensures).told M) c.in-Broken.is) }
+pub returns-in_err-broken_rule : goal.returns-in_err-broken_rule
+returns-in_err-broken_rule c =
+    let p = err_from_is_err_and c.from_residual.result c.from_residual.ensures.1 in
+    let U = c.broken_rule.ensures.unchanged in
+    rw (p.1, p.2) (record { kept = keeps_left U; go = λ M T. term_broken _ c.octets.ensures (rw (c.view.ensures.0, c.view.ensures.1, c.view.ensures.2) at c.greatest-deepest.ensures) (c.broken_rule.ensures.told M) U _ c.in_err-broken_rule.was })
 
-pub returns-in_default-found : goal.returns-in_default-found
-returns-in_default-found c = record { go = λ M T. enters_left (c.broken_rule-rules.ensures).unchanged (term_unlisted {file = c.args.file.now} _ (λ i. omega (arith, c.type_inv.file i)) c.greatest-deepest.ensures ((c.broken_rule-rules.ensures).told M) T c.in_default.is c.in_default-found.is) }
+pub returns-in_err-ty : goal.returns-in_err-ty
+returns-in_err-ty c =
+    let p = err_from_is_err_and c.from_residual-in_err-ty.result c.from_residual-in_err-ty.ensures.1 in
+    let U = c.broken_rule.ensures.unchanged in
+    let g = not_given (sym c.ok_or.ensures.value ∙ c.in_err-ty.was) in
+    rw (p.1, p.2, g.1) (record { kept = keeps_left U; go = λ M T. term_unlisted _ c.octets.ensures (rw (c.view.ensures.0, c.view.ensures.1, c.view.ensures.2) at c.greatest-deepest.ensures) (c.broken_rule.ensures.told M) U _ T c.in_ok-broken_rule.was g.0 })
 
-pub returns-then-sizes-ge-MOST : goal.returns-then-sizes-ge-MOST
-returns-then-sizes-ge-MOST c = record { go = λ M T. enters_left (c.broken_rule-rules.ensures).unchanged (term_many {file = c.args.file.now} _ (λ i. omega (arith, c.type_inv.file i)) c.greatest-deepest.ensures ((c.broken_rule-rules.ensures).told M) T c.in_default.is c.in-Listed.is c.if-sizes-ge-MOST.true) }
+pub returns-then-records-ge-MOST : goal.returns-then-records-ge-MOST
+returns-then-records-ge-MOST c =
+    let U = c.broken_rule.ensures.unchanged in
+    record {
+      kept = keeps_left U;
+      go = λ M T. term_many _ c.octets.ensures (rw (c.view.ensures.0, c.view.ensures.1, c.view.ensures.2) at c.greatest-deepest.ensures) (c.broken_rule.ensures.told M) U _ T c.in_ok-broken_rule.was (given (sym c.ok_or.ensures.value ∙ c.in_ok-ty.was)) (rw U.sizes_are at c.if-records-ge-MOST.true);
+    }
 
 pub returns-then-deepest-gt-DEEPEST_PART : goal.returns-then-deepest-gt-DEEPEST_PART
-returns-then-deepest-gt-DEEPEST_PART c = record { go = λ M T. enters_left (c.broken_rule-rules.ensures).unchanged (term_deep {file = c.args.file.now} _ (λ i. omega (arith, c.type_inv.file i)) c.greatest-deepest.ensures ((c.broken_rule-rules.ensures).told M) T c.in_default.is c.in-Listed.is c.if-sizes-ge-MOST.false c.if-deepest-gt-DEEPEST_PART.true) }
+returns-then-deepest-gt-DEEPEST_PART c =
+    let U = c.broken_rule.ensures.unchanged in
+    record {
+      kept = keeps_left U;
+      go = λ M T.
+          term_deep _ c.octets.ensures (rw (c.view.ensures.0, c.view.ensures.1, c.view.ensures.2) at c.greatest-deepest.ensures) (c.broken_rule.ensures.told M) U _ T c.in_ok-broken_rule.was (given (sym c.ok_or.ensures.value ∙ c.in_ok-ty.was)) (rw U.sizes_are at c.if-records-ge-MOST.false)
+          c.if-deepest-gt-DEEPEST_PART.true;
+    }
 
 pub returns : goal.returns
-returns c = record { go = λ M T. term_entered {file = c.args.file.now} _ (λ i. omega (arith, c.type_inv.file i)) c.greatest-deepest.ensures ((c.broken_rule-rules.ensures).told M) T c.in_default.is c.in-Listed.is c.if-sizes-ge-MOST.false c.if-deepest-gt-DEEPEST_PART.false (stores_left (c.broken_rule-rules.ensures).unchanged c.store_term.ensures) }
+returns c =
+    let U = c.broken_rule.ensures.unchanged in
+    record {
+      kept = keeps_then (keeps_left U) c.store_term.ensures.kept;
+      go = λ M T.
+          term_entered _ c.octets.ensures (rw (c.view.ensures.0, c.view.ensures.1, c.view.ensures.2) at c.greatest-deepest.ensures) (c.broken_rule.ensures.told M) U _ T c.in_ok-broken_rule.was (given (sym c.ok_or.ensures.value ∙ c.in_ok-ty.was)) (rw U.sizes_are at c.if-records-ge-MOST.false)
+          c.if-deepest-gt-DEEPEST_PART.false c.store_term.ensures;
+    }

@@ -1,26 +1,21 @@
--- The invariant: what the texts that are left decide, all of them decide from the first on.
+-- What the texts that are left decide, all of them decide from the first on.
 -- Assumes nothing.
-use mathlib.Core.Path.{ap}
-use Rattle.read_field.specs.Answers.{text_told, spanned}
-use Rattle.read_field.proofs.Laws.{tells}
+use native.Mathlib.Omega.{arith}
 use Rattle.check_rules.proofs.Decided.{going_start, going_on, decides_none, decides_first, decides_bad}
 use Rattle.check_rules.proofs.Ordered.{after_next, after_stop, after_none}
 use Rattle.check_rules.proofs.ascending.ascend_after.Goals as goal
 
-pub loop-left-init : goal.loop-left-init
-loop-left-init c = going_start
+pub loop-init : goal.loop-init
+loop-init g c = going_start (omega arith)
 
-pub returns-in-Bad : goal.returns-in-Bad
-unfolding text_told
-returns-in-Bad c = (c.loop-left.invariant).go _ (decides_bad _ _ c.loop-left-test.true (tells (ap (text_told _) (c.in-Bad.is)) c.item_text.ensures))
+pub returns-in_default : goal.returns-in_default
+returns-in_default g c = (c.loop.invariant).go _ (decides_bad _ (omega (arith, c.loop-test.true)) c.in_default.ensures)
 
-pub returns-else-before : goal.returns-else-before
-unfolding text_told spanned
-returns-else-before c = (c.loop-left.invariant).go _ (decides_first _ c.loop-left-test.true (tells (ap (text_told _) (c.in-Bytes.is)) c.item_text.ensures) (record { go = λ ts rest e. after_stop c.part_of-previous.ensures c.part_of-next.ensures c.before-in-Bytes.ensures c.if-before.false ts }))
+pub returns-then-not-before : goal.returns-then-not-before
+returns-then-not-before g c = (c.loop.invariant).go _ (decides_first (omega (arith, c.loop-test.true)) c.in-Ok.ensures (record { go = λ ts rest e. after_stop _ _ c.before-in-loop.ensures c.if-not-before.true ts }))
 
-pub loop-left-preserved : goal.loop-left-preserved
-unfolding text_told spanned
-loop-left-preserved c = going_on _ c.loop-left-test.true c.loop-left.invariant (tells (ap (text_told _) (c.in-Bytes.is)) c.item_text.ensures) (record { go = λ ts rest e. after_next c.part_of-previous.ensures c.part_of-next.ensures c.before-in-Bytes.ensures c.if-before.true ts })
+pub loop-preserved : goal.loop-preserved
+loop-preserved g c = going_on (omega (arith, c.loop-test.true)) c.loop.invariant c.in-Ok.ensures (record { go = λ ts rest e. after_next _ _ c.before-in-loop.ensures c.if-not-before.false ts })
 
 pub returns : goal.returns
-returns c = (c.loop-left.invariant).go _ (decides_none _ c.loop-left-test.false (after_none _))
+returns g c = (c.loop.invariant).go _ (decides_none (omega (arith, c.loop-test.false)) (after_none _))

@@ -7,4 +7,4 @@ use Rattle.check_rules.proofs.repeats.first_at.Goals as goal
 
 pub returns : goal.returns
 unfolding first_at
-returns c = c.get.ensures ∙ ap (cell _ _ term_first) c.ref_at-n.ensures
+returns c = c.get.ensures ∙ ap (cell _ _ term_first) c.ref_at.ensures

@@ -1,32 +1,24 @@
--- The invariant: the references that were passed are noted, each at an entry that was empty.
+-- The references that were passed are noted, each at an entry that was empty.
 -- Assumes nothing.
+use mathlib.Core.Path.{refl}
 use native.Mathlib.Omega.{arith}
-use Rattle.check_rules.proofs.Noting.{none_noted, noting_start, noting_size, noting_stop, noting_more}
+use Rattle.check_rules.proofs.Noting.{none_noted, noting_start, noting_stop, noting_more}
 use Rattle.check_rules.proofs.repeats.note.Goals as goal
 
-pub returns-then-work-rows : goal.returns-then-work-rows
-returns-then-work-rows c = none_noted
+pub returns-then-records-rows : goal.returns-then-records-rows
+returns-then-records-rows c = none_noted
 
 pub loop-i-init : goal.loop-i-init
-loop-i-init c = noting_start c.if-work-rows.false
-
-pub shape_of-work-then-rows-f : goal.shape_of-work-then-rows-f
-shape_of-work-then-rows-f c = noting_size c.loop-i.invariant
+loop-i-init c = noting_start c.if-records-rows.false
 
 pub returns-then-rows-f : goal.returns-then-rows-f
-returns-then-rows-f c = noting_stop c.loop-i.invariant
-
-pub shape_of-work-then-get-ne0 : goal.shape_of-work-then-get-ne0
-shape_of-work-then-get-ne0 c = noting_size c.loop-i.invariant
+returns-then-rows-f c = noting_stop c.loop-i.invariant refl
 
 pub returns-then-get-ne0 : goal.returns-then-get-ne0
-returns-then-get-ne0 c = noting_stop c.loop-i.invariant
+returns-then-get-ne0 c = noting_stop c.loop-i.invariant refl
 
 pub loop-i-preserved : goal.loop-i-preserved
-loop-i-preserved c = noting_more c.loop-i.invariant c.loop-i-test.true c.first_at-f.ensures (omega arith) c.get.ensures c.if-get-ne0.false c.set.ensures
-
-pub shape_of-work : goal.shape_of-work
-shape_of-work c = noting_size c.loop-i.invariant
+loop-i-preserved c = noting_more c.loop-i.invariant c.view.result c.loop-i-test.true c.view.ensures c.first_at-f.ensures c.if-rows-f.false c.get.ensures c.if-get-ne0.false c.set.ensures
 
 pub returns : goal.returns
-returns c = noting_stop c.loop-i.invariant
+returns c = noting_stop c.loop-i.invariant (omega (arith, c.loop-i-test.false, c.loop-i.auto))

@@ -7,8 +7,5 @@ use Rattle.check_rules.proofs.repeats.same_earlier.Goals as goal
 pub returns-then-v-eq0 : goal.returns-then-v-eq0
 returns-then-v-eq0 c = none_earlier
 
-pub returns-then-n-v : goal.returns-then-n-v
-returns-then-n-v c = none_earlier
-
 pub returns : goal.returns
-returns c = maybe_earlier c.if-v-eq0.false c.if-n-v.false c.first_at-a.ensures c.first_at-b.ensures (λ t. eqb→eq _ _ (rw t tt))
+returns c = maybe_earlier c.if-v-eq0.false c.if-n-v.false c.first_at.ensures c.first_at-2.ensures (λ t. eqb→eq _ _ (rw t tt))

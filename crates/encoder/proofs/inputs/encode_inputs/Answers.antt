@@ -1,19 +1,21 @@
 -- `encoder::inputs::encode_inputs` meets its contract: the loop has encoded the inputs before its count.
 -- Assumes nothing.
-use Rattle.encoder.proofs.InputLaws.{encoding_start, encoding_on, encoding_end}
+use native.Mathlib.Omega.{arith}
+use Rattle.std.proofs.lemmas.Result.{err_from_is_err_and}
+use Rattle.encoder.proofs.InputLaws.{encoding_start, encoding_on, encoding_stopped, encoding_end}
 use Rattle.encoder.proofs.inputs.encode_inputs.Goals as goal
 
 pub loop-i-init : goal.loop-i-init
-loop-i-init c = encoding_start _ _ _ _ _
+loop-i-init c = encoding_start _
 
 pub loop-i-preserved : goal.loop-i-preserved
-loop-i-preserved c = encoding_on _ _ c.loop-i.invariant c.loop-i-test.true c.get-n.ensures c.encode_term-q.ensures c.encode_term-q.auto.out
+loop-i-preserved c = encoding_on c.loop-i.invariant (omega (arith, c.loop-i-test.true)) c.get-n.ensures (rw c.in_ok-encode_term.was at c.encode_term.ensures)
 
-pub shape_of-work : goal.shape_of-work
-shape_of-work c = c.loop-i.invariant.kept.size
-
-pub shape_of-out : goal.shape_of-out
-shape_of-out c = c.loop-i.invariant.size
+pub returns-in_err-encode_term : goal.returns-in_err-encode_term
+returns-in_err-encode_term c =
+    let p = err_from_is_err_and c.from_residual.result c.from_residual.ensures.1 in
+    let s = encoding_on c.loop-i.invariant (omega (arith, c.loop-i-test.true)) c.get-n.ensures (rw c.in_err-encode_term.was at c.encode_term.ensures) in
+    rw (p.1, p.2) (encoding_stopped s (omega (arith, c.loop-i-test.true)))
 
 pub returns : goal.returns
-returns c = encoding_end _ _ c.loop-i.invariant c.loop-i-test.false
+returns c = encoding_end c.loop-i.invariant (omega (arith, c.loop-i-test.false))

@@ -1,14 +1,14 @@
--- `encoder::print::put_refusal` meets its contract: nothing with no room, and else five pieces.
+-- `encoder::print::put_refusal` meets its contract: a word and a number, twice.
 -- Assumes nothing.
 use Rattle.script_spec.specs.Base.{bytes}
 use Rattle.script_spec.specs.Walk.{printed}
-use Rattle.write_bytes.proofs.Laws.{◌then◌, from_start, line_past}
-use Rattle.encoder.proofs.PrintLaws.{refusal_some}
+use mathlib.Core.Path.{refl}
+use Rattle.write_bytes.proofs.Laws.{◌then◌, says}
 use Rattle.encoder.proofs.print.put_refusal.Goals as goal
-
-pub returns-then-room-eq0 : goal.returns-then-room-eq0
-returns-then-room-eq0 c = rw c.if-room-eq0.true (line_past (refusal_some _ _))
 
 pub returns : goal.returns
 unfolding bytes printed
-returns c = from_start (c.put_at-a.ensures then c.put_decimal-b.ensures then c.put_at-c.ensures then c.put_decimal-d.ensures then c.put_at.ensures)
+returns c =
+    let n = rw (c.from.ensures, c.number.ensures) at c.put_decimal.ensures in
+    let p = rw c.from-2.ensures at c.put_decimal-2.ensures in
+    says refl (c.put.ensures then n then c.put-2.ensures then p then c.put_byte.ensures)

@@ -1,31 +1,32 @@
 -- `index_compare::depth::greatest` meets its contract: by the shape of the record, or by the walk from the start of its body.
 -- Assumes nothing.
-use Rattle.index_compare.specs.Machine.{segments}
-use Rattle.index_compare.specs.View.{segments_at, start_at}
-use Rattle.index_compare.proofs.Shapes.{shape_is}
+use Rattle.index_compare.specs.Step.{kind_number}
 use Rattle.index_compare.proofs.Opened.{greatest_sole, greatest_applied, greatest_listing, greatest_named}
 use Rattle.index_compare.proofs.depth.greatest.Goals as goal
 
-pub returns-in-Sole : goal.returns-in-Sole
-returns-in-Sole c =
-    greatest_sole c.args.work.now c.args.rows c.args.kind c.larger.ensures c.get.ensures
-    (shape_is c.body_at-body.result.now (segments_at c.args.file.now c.args.offset) c.shape_of.result (c.shape_of.ensures c.body_at-body.ensures) c.in-Sole.is)
+pub returns-in-Some-Sole : goal.returns-in-Some-Sole
+returns-in-Some-Sole c =
+    let r = c.args.records in
+    let shape = c.in-Some-Sole in
+    greatest_sole r.work.now r.sizes.rows (kind_number c.args.kind) c.larger.ensures c.get.ensures (rw shape.field-0-is at shape.ensures)
 
-pub returns-in-Applied : goal.returns-in-Applied
-returns-in-Applied c =
-    let shown = shape_is c.body_at-body.result.now (segments_at c.args.file.now c.args.offset) c.shape_of.result (c.shape_of.ensures c.body_at-body.ensures) c.in-Applied.is in
-    greatest_applied c.args.work.now c.args.rows c.args.kind _ _ _ c.greatest_listed.ensures shown.1
+pub returns-in-Some-Applied : goal.returns-in-Some-Applied
+returns-in-Some-Applied c =
+    let r = c.args.records in
+    let shape = c.in-Some-Applied in
+    greatest_applied r.work.now r.sizes.rows (kind_number c.args.kind) _ _ _ c.greatest_listed.ensures (rw shape.field-0-is at shape.ensures)
 
-pub returns-in-Listing : goal.returns-in-Listing
-returns-in-Listing c =
-    let shown = shape_is c.body_at-body.result.now (segments_at c.args.file.now c.args.offset) c.shape_of.result (c.shape_of.ensures c.body_at-body.ensures) c.in-Listing.is in
-    greatest_listing c.args.work.now c.args.rows c.args.kind _ _ c.greatest_listed-in-Listing.ensures shown.1
+pub returns-in-Some-Listing : goal.returns-in-Some-Listing
+returns-in-Some-Listing c =
+    let r = c.args.records in
+    let shape = c.in-Some-Listing in
+    greatest_listing r.work.now r.sizes.rows (kind_number c.args.kind) _ _ c.greatest_listed-in-Some-Listing.ensures (rw shape.field-0-is at shape.ensures)
 
-pub returns-in-Named : goal.returns-in-Named
-returns-in-Named c =
-    let shown = shape_is c.body_at-body.result.now (segments_at c.args.file.now c.args.offset) c.shape_of.result (c.shape_of.ensures c.body_at-body.ensures) c.in-Named.is in
-    greatest_named c.args.work.now c.args.rows c.args.kind _ c.type_depth.ensures shown.1
+pub returns-in-Some-Named : goal.returns-in-Some-Named
+returns-in-Some-Named c =
+    let r = c.args.records in
+    let shape = c.in-Some-Named in
+    greatest_named r.work.now r.sizes.rows (kind_number c.args.kind) _ c.type_depth.ensures (rw shape.field-0-is at shape.ensures)
 
-pub returns-in-Other : goal.returns-in-Other
-unfolding segments_at start_at segments
-returns-in-Other c = rw (c.walk_of.ensures, c.body_at-body.ensures) at c.greatest_ahead.ensures
+pub returns-in-None : goal.returns-in-None
+returns-in-None c = rw c.segments_at.ensures at c.greatest_ahead.ensures

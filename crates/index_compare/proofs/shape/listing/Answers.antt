@@ -1,9 +1,20 @@
--- `index_compare::shape::listing` meets its contract: the fields stand one after the other.
+-- `index_compare::shape::listing` meets its contract: the count is at a fixed place.
 -- Assumes nothing.
-use lib.ListN.{drop}
-use Rattle.index_compare.proofs.Steps.{word_value}
+use Prim.Native.Nat.{ℕ}
+use mathlib.Core.Path.{sym, ap, ◌∙◌}
+use mathlib.Core.List.{List, ◌∷◌}
+use lib.ListN.{take, drop}
+use Rattle.index_compare.specs.Segment.{plain, type_ref}
+use Rattle.index_compare.specs.Machine.{items}
+use Rattle.index_compare.specs.Shape.{terms_ahead}
+use Rattle.index_compare.specs.declared.segments.Item.TheVariants.{Term}
+use Rattle.index_compare.proofs.Steps.{part_after}
 use Rattle.index_compare.proofs.Shapes.{listing_shown}
 use Rattle.index_compare.proofs.shape.listing.Goals as goal
 
 pub returns : goal.returns
-returns c = listing_shown c.args.body.now (word_value (drop 0 c.args.body.now) c.read_word.result c.read_word.ensures c.in-Value.is) (word_value (drop 4 c.args.body.now) c.read_word-2.result c.read_word-2.ensures c.in-Value-read_word.is)
+unfolding terms_ahead
+returns c =
+    let s = c.args.body.now in
+    listing_shown s c.in_ok-t.ensures c.in_ok-left.ensures
+    ∙ ap (λ (r : List ℕ). type_ref c.in_ok-t.t ∷ plain (take 4 (drop 4 s)) ∷ items Term c.in_ok-left.left r) (sym (part_after 8 s))

@@ -4,4 +4,4 @@ use Rattle.index_entry.proofs.LeafEntries.{term_entity}
 use Rattle.index_entry.proofs.leaves.entity_lit.Goals as goal
 
 pub returns : goal.returns
-returns c = term_entity c.number_at-t.ensures c.number_at.ensures (c.wide-len.ensures).0
+returns c = term_entity c.number_at-t.ensures c.text_at-id.ensures

@@ -4,4 +4,4 @@ use Rattle.index_entry.proofs.LeafEntries.{term_string}
 use Rattle.index_entry.proofs.leaves.string_lit.Goals as goal
 
 pub returns : goal.returns
-returns c = term_string c.number_at.ensures (c.wide-len.ensures).0
+returns c = term_string c.text_at.ensures

@@ -4,4 +4,4 @@ use Rattle.index_entry.proofs.LeafEntries.{term_var}
 use Rattle.index_entry.proofs.leaves.variable.Goals as goal
 
 pub returns : goal.returns
-returns c = term_var c.number_at.ensures (c.wide-len.ensures).0 c.past_text.ensures c.number_at-t.ensures
+returns c = term_var c.text_at.ensures c.past_text.ensures c.number_at-t.ensures

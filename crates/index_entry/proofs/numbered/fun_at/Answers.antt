@@ -3,4 +3,4 @@
 use Rattle.index_entry.proofs.numbered.fun_at.Goals as goal
 
 pub returns : goal.returns
-returns c = rw (← (c.wide.ensures).0, ← c.get-offset.ensures) c.fun_at.ensures
+returns c = rw (← c.get.ensures) c.fun_at.ensures

@@ -4,4 +4,4 @@ use mathlib.Core.Path.{◌∙◌}
 use Rattle.index_entry.proofs.numbered_terms.body_at.Goals as goal
 
 pub returns : goal.returns
-returns c = c.body_at.ensures ∙ (rw (c.get-offset.ensures, (c.wide.ensures).0))
+returns c = c.body_at.ensures ∙ (rw c.get.ensures)

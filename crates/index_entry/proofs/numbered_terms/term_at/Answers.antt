@@ -3,4 +3,4 @@
 use Rattle.index_entry.proofs.numbered_terms.term_at.Goals as goal
 
 pub returns : goal.returns
-returns c = rw (← (c.wide.ensures).0, ← c.get-offset.ensures) c.term_at.ensures
+returns c = rw (← c.get.ensures) c.term_at.ensures

@@ -4,4 +4,4 @@ use Rattle.index_entry.proofs.ParentEntries.{term_set}
 use Rattle.index_entry.proofs.parents.set_of.Goals as goal
 
 pub returns : goal.returns
-returns c = term_set c.number_at-t.ensures c.set_children.ensures
+returns c = term_set c.number_at.ensures c.set_children.ensures

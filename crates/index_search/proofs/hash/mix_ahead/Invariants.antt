@@ -8,8 +8,8 @@ use Rattle.index_compare.specs.View.{viewed}
 use Rattle.index_search.specs.Hash.{mixed_segments}
 use Rattle.index_search.proofs.hash.mix_ahead.Given as goal
 
-abbrev pub invariant-loop-view : goal.invariant-loop-view
-invariant-loop-view l = mixed_segments l.y (map (viewed l.work l.rows l.view) (ahead l.body l.x)) ≡ mixed_segments l.h (map (viewed l.work l.rows l.view) (ahead l.body l.initial.x))
+abbrev pub invariant-loop-met : goal.invariant-loop-met
+invariant-loop-met l = mixed_segments l.y (map (viewed l.records.work.now l.records.sizes.rows l.view) (ahead l.x)) ≡ mixed_segments l.h (map (viewed l.records.work.now l.records.sizes.rows l.view) (ahead l.segments))
 
-abbrev pub decreases-loop-view : goal.decreases-loop-view
-decreases-loop-view l = length (ahead l.body l.x)
+abbrev pub decreases-loop-met : goal.decreases-loop-met
+decreases-loop-met l = length (ahead l.x)

@@ -1,24 +1,11 @@
--- The hash so far with the references that are left comes to the hash with all of them. The measure is how many are left.
+-- The hash so far with what is ahead comes to the hash with all references.
 -- Assumes nothing.
-use mathlib.Core.Path.{refl, ◌∙◌}
-use lib.ListN.{drop}
-use Rattle.index_compare.proofs.Steps.{word_short, word_value, word_fits}
-use Rattle.index_compare.proofs.Shapes.{terms_none, terms_short, terms_next}
-use Rattle.index_search.proofs.Shapes.{mixed_none, mixed_turn}
-use native.Mathlib.Omega.{arith}
+use mathlib.Core.Path.{◌∙◌}
+use Rattle.index_search.proofs.Mixed.{ahead_next, ahead_none}
 use Rattle.index_search.proofs.hash.mix_terms.Goals as goal
 
-pub loop-left-init : goal.loop-left-init
-loop-left-init c = refl
-
-pub returns-in_default : goal.returns-in_default
-returns-in_default c = mixed_none c.args.work.now c.args.rows c.loop-left.x (terms_short c.args.body.now c.loop-left.at c.loop-left.left (word_short (drop c.loop-left.at c.args.body.now) c.read_word.result c.read_word.ensures c.in_default.is)) ∙ c.loop-left.invariant
-
-pub overflow_add-at : goal.overflow_add-at
-overflow_add-at c = omega (arith, word_fits c.loop-left.at c.args.body.now (word_value (drop c.loop-left.at c.args.body.now) c.read_word.result c.read_word.ensures c.in-Value.is).0)
-
-pub loop-left-preserved : goal.loop-left-preserved
-loop-left-preserved c = mixed_turn c.args.work.now c.args.rows c.loop-left.x c.mix_reference-x.ensures c.get.ensures (terms_next c.args.body.now c.loop-left.at c.loop-left.left (omega (arith, c.loop-left-test.true)) (word_value (drop c.loop-left.at c.args.body.now) c.read_word.result c.read_word.ensures c.in-Value.is)) ∙ c.loop-left.invariant
+pub loop-n-preserved : goal.loop-n-preserved
+loop-n-preserved c = ahead_next _ _ c.in-Some.ensures c.mix_viewed-y.ensures ∙ c.loop-n.invariant
 
 pub returns : goal.returns
-returns c = mixed_none c.args.work.now c.args.rows c.loop-left.x (terms_none (drop c.loop-left.at c.args.body.now) c.loop-left.left (omega arith)) ∙ c.loop-left.invariant
+returns c = ahead_none _ _ c.in_default.ensures ∙ c.loop-n.invariant

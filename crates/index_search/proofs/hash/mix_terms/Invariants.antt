@@ -1,17 +1,16 @@
--- The hash so far with the references that are left comes to the hash with all of them. The measure is how many are left.
+-- The hash so far with what is ahead comes to the hash with all.terms. The measure is the number of references ahead.
 -- Assumes nothing.
 use mathlib.Core.Path.{◌≡◌}
 use mathlib.Core.List.{map}
-use lib.ListN.{drop}
-use Rattle.index_search.specs.Hash.{mixed_segments}
-use Rattle.index_compare.specs.Machine.{items}
-use Rattle.index_compare.specs.declared.segments.Item.TheVariants.{Term}
+use lib.ListN.{length}
+use Rattle.index_compare.specs.Shape.{terms_ahead}
 use Rattle.index_compare.specs.View.{viewed}
 use Rattle.index_compare.specs.declared.compare.View.TheVariants.{First}
+use Rattle.index_search.specs.Hash.{mixed_segments}
 use Rattle.index_search.proofs.hash.mix_terms.Given as goal
 
-abbrev pub invariant-loop-left : goal.invariant-loop-left
-invariant-loop-left l = mixed_segments l.x (map (viewed l.work l.rows First) (items Term l.left (drop l.at l.body))) ≡ mixed_segments l.h (map (viewed l.work l.rows First) (items Term l.count (drop l.from l.body)))
+abbrev pub invariant-loop-n : goal.invariant-loop-n
+invariant-loop-n l = mixed_segments l.y (map (viewed l.records.work.now l.records.sizes.rows First) (terms_ahead l.x)) ≡ mixed_segments l.h (map (viewed l.records.work.now l.records.sizes.rows First) (terms_ahead l.terms))
 
-abbrev pub decreases-loop-left : goal.decreases-loop-left
-decreases-loop-left l = l.left
+abbrev pub decreases-loop-n : goal.decreases-loop-n
+decreases-loop-n l = length (terms_ahead l.x)

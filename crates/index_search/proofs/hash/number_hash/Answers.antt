@@ -1,14 +1,13 @@
--- One segment of four bytes, which are mixed in as the number that they make.
+-- The mark, and then the segment: the bytes of the number.
 -- Assumes nothing.
-use mathlib.Core.Path.{refl, ◌∙◌}
-use native.Mathlib.Omega.{arith}
+use mathlib.Core.Path.{◌≡◌, ◌∙◌}
+use native.Mathlib.Nat.{div-div-eq-div-mul}
 use Rattle.index_compare.specs.Printed.{low_bytes}
-use Rattle.index_compare.specs.View.{kind_of, reference_number, bytes_of}
-use Rattle.index.specs.Names.{mixed_bytes}
-use Rattle.index_search.specs.Hash.{mixed_segments, hashed, type_hash}
-use Rattle.index_search.proofs.Mixed.{then_mixed, number_mixed}
+use Rattle.index_search.proofs.Shapes.{type_hashed, plain_is}
 use Rattle.index_search.proofs.hash.number_hash.Goals as goal
 
 pub returns : goal.returns
-unfolding type_hash hashed mixed_segments mixed_bytes kind_of reference_number bytes_of low_bytes
-returns c = then_mixed c.sole_hash-h.ensures refl c.mix.ensures ∙ number_mixed _ c.args.n (omega arith)
+unfolding low_bytes
+returns c =
+    let same : c.to_le_bytes.result ≡ low_bytes 4 c.args.n = c.to_le_bytes.ensures ∙ (rw (div-div-eq-div-mul, div-div-eq-div-mul)) in
+    type_hashed _ _ c.mark_hash.ensures (plain_is _ same c.mix_segment.ensures)

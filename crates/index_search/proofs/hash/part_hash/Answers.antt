@@ -1,10 +1,7 @@
--- One segment, a reference.
+-- The mark, and then the segment.
 -- Assumes nothing.
-use Rattle.index_compare.specs.View.{kind_of, reference_number, bytes_of}
-use Rattle.index.specs.Names.{mixed_bytes}
-use Rattle.index_search.specs.Hash.{mixed_segments, hashed, type_hash}
+use Rattle.index_search.proofs.Shapes.{type_hashed}
 use Rattle.index_search.proofs.hash.part_hash.Goals as goal
 
 pub returns : goal.returns
-unfolding type_hash hashed mixed_segments mixed_bytes kind_of reference_number bytes_of
-returns c = c.sole_hash.ensures
+returns c = type_hashed _ _ c.mark_hash.ensures c.mix_segment.ensures

@@ -1,4 +1,4 @@
--- `index_search::slots::name_home` meets its contract: the hash of the name, scaled.
+-- The hash of the name, scaled.
 -- Assumes nothing.
 use Rattle.index_search.proofs.Homes.{name_home_found}
 use Rattle.index_search.proofs.slots.name_home.Goals as goal

@@ -1,15 +1,15 @@
 -- A byte below the bound.
 -- Assumes nothing.
-use mathlib.Core.Path.{ap}
-use Rattle.read_field.specs.Answers.{number_told}
+use Rattle.std.proofs.lemmas.Result.{err_from_is_err_and}
 use Rattle.read_field.specs.Reads.{code}
-use Rattle.read_field.proofs.Laws.{reads_stop, reads_next, tells}
+use Rattle.refusal.specs.Numbers.{number}
+use Rattle.read_field.proofs.Laws.{next, refuses_stop}
 use Rattle.read_field.proofs.Cursor.code.Goals as goal
 
-pub returns-in-Bad : goal.returns-in-Bad
-unfolding number_told code
-returns-in-Bad c = reads_stop _ (tells (ap number_told (c.in-Bad.is)) c.byte.ensures)
+pub returns-in_err-n : goal.returns-in_err-n
+unfolding code number
+returns-in_err-n c = let p = err_from_is_err_and c.from_residual.result c.from_residual.ensures.1 in rw (p.1, p.2) (refuses_stop _ c.in_err-n.ensures)
 
-pub returns-in-Value : goal.returns-in-Value
-unfolding number_told code
-returns-in-Value c = reads_next _ (tells (ap number_told (c.in-Value.is)) c.byte.ensures) (c.ensured.ensures.go _)
+pub returns : goal.returns
+unfolding code number
+returns c = next _ _ c.in_ok-n.ensures c.ensured.ensures

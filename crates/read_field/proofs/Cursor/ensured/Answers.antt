@@ -1,13 +1,11 @@
--- The number where the test is passed, else the refusal.
+-- By whether the test is passed.
 -- Assumes nothing.
-use Rattle.read_field.specs.Answers.{number_told}
-use Rattle.read_field.proofs.Laws.{reads_ensured, reads_refused}
+use Rattle.refusal.specs.Numbers.{number}
+use Rattle.read_field.proofs.Laws.{takes_ensured, takes_refused}
 use Rattle.read_field.proofs.Cursor.ensured.Goals as goal
 
 pub returns-then-passed : goal.returns-then-passed
-unfolding number_told
-returns-then-passed c = record { go = λ body. reads_ensured _ _ _ c.if-passed.true }
+returns-then-passed c = takes_ensured _ _ _ c.if-passed.true
 
 pub returns-else-passed : goal.returns-else-passed
-unfolding number_told
-returns-else-passed c = record { go = λ body. reads_refused _ _ _ c.if-passed.false }
+returns-else-passed c = takes_refused _ _ _ c.if-passed.false

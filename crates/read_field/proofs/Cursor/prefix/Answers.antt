@@ -1,15 +1,26 @@
 -- A byte below the bound, or 255.
 -- Assumes nothing.
-use mathlib.Core.Path.{ap}
+use Rattle.std.proofs.lemmas.Result.{err_from_is_err_and}
+use borrow.Author.Tests.{ne_eqb, lt-ltb, le-ltb}
 use Rattle.script_spec.specs.Fields.{prefix}
-use Rattle.read_field.specs.Answers.{number_told}
-use Rattle.read_field.proofs.Laws.{reads_stop, reads_next, tells}
+use Rattle.refusal.specs.declared.Refusal.TheVariants.{OutOfRange}
+use Rattle.refusal.specs.Numbers.{number}
+use Rattle.read_field.specs.Takes.{prefix_number}
+use Rattle.read_field.proofs.Laws.{takes_next, refuses_next, refuses_stop, takes_ensured, takes_refused, below_or}
 use Rattle.read_field.proofs.Cursor.prefix.Goals as goal
 
-pub returns-in-Bad : goal.returns-in-Bad
-unfolding number_told prefix
-returns-in-Bad c = reads_stop _ (tells (ap number_told (c.in-Bad.is)) c.byte.ensures)
+pub returns-in_err-n : goal.returns-in_err-n
+unfolding prefix
+returns-in_err-n c = let p = err_from_is_err_and c.from_residual.result c.from_residual.ensures.1 in rw (p.1, p.2) (refuses_stop _ c.in_err-n.ensures)
 
-pub returns-in-Value : goal.returns-in-Value
-unfolding number_told prefix
-returns-in-Value c = reads_next _ (tells (ap number_told (c.in-Value.is)) c.byte.ensures) (rw c.is_prefix.ensures at c.ensured.ensures.go _)
+pub returns-then-n-eq-NO_PREFIX : goal.returns-then-n-eq-NO_PREFIX
+unfolding prefix prefix_number
+returns-then-n-eq-NO_PREFIX c = let e = c.if-n-eq-NO_PREFIX.true in takes_next _ (rw e at c.in_ok-n.ensures) (takes_ensured _ _ _ (below_or _))
+
+pub returns-then-n-bound : goal.returns-then-n-bound
+unfolding prefix prefix_number
+returns-then-n-bound c = takes_next _ c.in_ok-n.ensures (takes_ensured _ _ _ (rw (lt-ltb _ _ c.if-n-bound.true)))
+
+pub returns-else-n-bound : goal.returns-else-n-bound
+unfolding prefix number
+returns-else-n-bound c = refuses_next _ c.in_ok-n.ensures (takes_refused OutOfRange _ _ (rw (le-ltb _ _ c.if-n-bound.false, ne_eqb _ _ c.if-n-eq-NO_PREFIX.false)))

@@ -1,24 +1,25 @@
--- A text: its count, its bytes, and the test that they are UTF-8, each refusal where the definition has it.
+-- A count, so many bytes, and the test for UTF-8.
 -- Assumes nothing.
-use mathlib.Core.Path.{sym, ◌∙◌, ap}
+use mathlib.Core.Path.{sym, ◌∙◌}
+use Rattle.std.proofs.lemmas.Result.{err_from_is_err_and}
 use Rattle.script_spec.specs.Fields.{text}
-use Rattle.script_spec.specs.Utf8.{is_utf8}
-use Rattle.read_field.specs.Answers.{number_told, text_told, spanned}
-use Rattle.read_field.proofs.Laws.{reads_stop, reads_next, reads_ensured, reads_refused, tells}
+use Rattle.refusal.specs.declared.Refusal.TheVariants.{NotUtf8}
+use Rattle.refusal.specs.Numbers.{number}
+use Rattle.read_field.proofs.Laws.{takes_next, refuses_next, refuses_stop, takes_ensured, takes_refused}
 use Rattle.read_field.proofs.Cursor.text.Goals as goal
 
-pub returns-in-Bad : goal.returns-in-Bad
-unfolding text number_told text_told
-returns-in-Bad c = reads_stop _ (tells (ap number_told (c.in-Bad.is)) c.u32_le.ensures)
+pub returns-in_err-n : goal.returns-in_err-n
+unfolding text
+returns-in_err-n c = let p = err_from_is_err_and c.from_residual.result c.from_residual.ensures.1 in rw (p.1, p.2) (refuses_stop _ c.in_err-n.ensures)
 
-pub returns-in-Bad-part : goal.returns-in-Bad-part
-unfolding text number_told text_told
-returns-in-Bad-part c = reads_next _ (tells (ap number_told (c.in-Value.is)) c.u32_le.ensures) (reads_stop _ (tells (ap (text_told _) (c.in-Bad-part.is)) c.part.ensures))
+pub returns-in_err-s : goal.returns-in_err-s
+unfolding text
+returns-in_err-s c = let p = err_from_is_err_and c.from_residual-in_err-s.result c.from_residual-in_err-s.ensures.1 in rw (p.1, p.2) (refuses_next _ c.in_ok-n.ensures (refuses_stop _ c.in_err-s.ensures))
 
-pub returns-then-is_utf8 : goal.returns-then-is_utf8
-unfolding text number_told text_told spanned
-returns-then-is_utf8 c = reads_next _ (tells (ap number_told (c.in-Value.is)) c.u32_le.ensures) (reads_next _ (tells (ap (text_told _) (c.in-Bytes.is)) c.part.ensures) (reads_ensured _ _ _ (ap is_utf8 (sym c.part_of.ensures) ∙ sym c.is_utf8.ensures ∙ c.if-is_utf8.true)))
+pub returns-then-not-is_utf8 : goal.returns-then-not-is_utf8
+unfolding text number
+returns-then-not-is_utf8 c = refuses_next _ c.in_ok-n.ensures (refuses_next _ c.in_ok-s.ensures (takes_refused NotUtf8 _ _ (sym c.is_utf8.ensures ∙ c.if-not-is_utf8.true)))
 
-pub returns-else-is_utf8 : goal.returns-else-is_utf8
-unfolding text number_told text_told spanned
-returns-else-is_utf8 c = reads_next _ (tells (ap number_told (c.in-Value.is)) c.u32_le.ensures) (reads_next _ (tells (ap (text_told _) (c.in-Bytes.is)) c.part.ensures) (reads_refused _ _ _ (ap is_utf8 (sym c.part_of.ensures) ∙ sym c.is_utf8.ensures ∙ c.if-is_utf8.false)))
+pub returns : goal.returns
+unfolding text
+returns c = takes_next _ c.in_ok-n.ensures (takes_next _ c.in_ok-s.ensures (takes_ensured _ _ _ (sym c.is_utf8.ensures ∙ c.if-not-is_utf8.false)))

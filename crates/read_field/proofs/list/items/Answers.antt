@@ -1,21 +1,18 @@
--- The invariant: whatever the items that are left tell, all items tell from the start.
+-- Whatever the items that are left tell, all items tell from the start.
 -- Assumes nothing.
-use mathlib.Core.Path.{ap}
-use Rattle.read_field.specs.Answers.{moved_told}
-use Rattle.read_field.proofs.Laws.{goes_start, goes_on, goes_stop, goes_end, tells}
+use Rattle.std.proofs.lemmas.Result.{err_from_is_err_and}
+use native.Mathlib.Omega.{arith}
+use Rattle.read_field.proofs.Laws.{goes_start, goes_on, goes_stop, goes_end}
 use Rattle.read_field.proofs.list.items.Goals as goal
 
-pub loop-left-init : goal.loop-left-init
-loop-left-init c = goes_start
+pub loop-init : goal.loop-init
+loop-init c = goes_start (omega arith)
 
-pub returns-in-Bad : goal.returns-in-Bad
-unfolding moved_told
-returns-in-Bad c = goes_stop _ c.loop-left-test.true c.loop-left.invariant (tells (ap moved_told (c.in-Bad.is)) c.next_item.ensures)
+pub returns-in_err-rest : goal.returns-in_err-rest
+returns-in_err-rest c = let p = err_from_is_err_and c.from_residual.result c.from_residual.ensures.1 in rw (p.1, p.2) (goes_stop c.loop.invariant (omega (arith, c.loop-test.true)) c.in_err-rest.ensures)
 
-pub loop-left-preserved : goal.loop-left-preserved
-unfolding moved_told
-loop-left-preserved c = goes_on _ c.loop-left-test.true c.loop-left.invariant (tells (ap moved_told (c.in-To.is)) c.next_item.ensures)
+pub loop-preserved : goal.loop-preserved
+loop-preserved c = goes_on c.loop.invariant (omega (arith, c.loop-test.true)) c.in_ok-rest.ensures
 
 pub returns : goal.returns
-unfolding moved_told
-returns c = goes_end _ c.loop-left-test.false c.loop-left.invariant
+returns c = goes_end c.loop.invariant (omega (arith, c.loop-test.false))

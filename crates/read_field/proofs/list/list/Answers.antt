@@ -1,15 +1,13 @@
 -- The count, and then the items.
 -- Assumes nothing.
-use mathlib.Core.Path.{ap}
-use Rattle.read_field.specs.Answers.{number_told, moved_told}
+use Rattle.std.proofs.lemmas.Result.{err_from_is_err_and}
+use Rattle.read_field.specs.Takes.{moved_of}
 use Rattle.read_field.proofs.Skims.{list_items}
-use Rattle.read_field.proofs.Laws.{reads_alike, reads_stop, reads_next, tells}
+use Rattle.read_field.proofs.Laws.{alike, refuses_alike, next, refuses_stop}
 use Rattle.read_field.proofs.list.list.Goals as goal
 
-pub returns-in-Bad : goal.returns-in-Bad
-unfolding number_told moved_told
-returns-in-Bad c = reads_alike (list_items _) (reads_stop _ (tells (ap number_told (c.in-Bad.is)) c.u32_le.ensures))
+pub returns-in_err-n : goal.returns-in_err-n
+returns-in_err-n c = let p = err_from_is_err_and c.from_residual.result c.from_residual.ensures.1 in rw (p.1, p.2) (refuses_alike (list_items c.args.item) (refuses_stop _ c.in_err-n.ensures))
 
-pub returns-in-Value : goal.returns-in-Value
-unfolding number_told
-returns-in-Value c = reads_alike (list_items _) (reads_next _ (tells (ap number_told (c.in-Value.is)) c.u32_le.ensures) c.items.ensures)
+pub returns : goal.returns
+returns c = alike (list_items c.args.item) _ (moved_of c.items.result) (next _ _ c.in_ok-n.ensures c.items.ensures)

@@ -1,20 +1,43 @@
 -- By cases on what the items are.
 -- Assumes nothing.
+use Rattle.std.proofs.lemmas.Result.{err_from_is_err_and}
+use Rattle.script_spec.specs.Fields.{pair}
 use Rattle.read_field.specs.Items.{item_reader}
-use Rattle.read_field.proofs.Laws.{skims_text, skims_number}
+use Rattle.read_field.proofs.Laws.{skims, skims_not, takes_next, refuses_next, refuses_stop, takes_pure}
 use Rattle.read_field.proofs.list.next_item.Goals as goal
 
-pub returns-in-Text : goal.returns-in-Text
+pub returns-in_err-text-in-Text : goal.returns-in_err-text-in-Text
 unfolding item_reader
-returns-in-Text c = rw c.in-Text.is (skims_text _ c.text.ensures c.text_moved.ensures)
+returns-in_err-text-in-Text c = let p = err_from_is_err_and c.from_residual.result c.from_residual.ensures.1 in rw (p.1, p.2) (rw c.in-Text.is (skims_not c.in_err-text-in-Text.ensures))
 
-pub returns-in-Reference : goal.returns-in-Reference
+pub returns-in_err-reference-in-Reference : goal.returns-in_err-reference-in-Reference
 unfolding item_reader
-returns-in-Reference c = rw c.in-Reference.is (skims_number _ c.reference.ensures c.number_moved.ensures)
+returns-in_err-reference-in-Reference c = let p = err_from_is_err_and c.from_residual-in_err-reference-in-Reference.result c.from_residual-in_err-reference-in-Reference.ensures.1 in rw (p.1, p.2) (rw c.in-Reference.is (skims_not c.in_err-reference-in-Reference.ensures))
 
-pub returns-in-Named : goal.returns-in-Named
-returns-in-Named c = rw c.in-Named.is c.named.ensures
+pub returns-in_err-text-in-Named : goal.returns-in_err-text-in-Named
+unfolding item_reader pair
+returns-in_err-text-in-Named c = let p = err_from_is_err_and c.from_residual-in_err-text-in-Named.result c.from_residual-in_err-text-in-Named.ensures.1 in rw (p.1, p.2) (rw c.in-Named.is (skims_not (refuses_stop _ c.in_err-text-in-Named.ensures)))
 
-pub returns-in-Element : goal.returns-in-Element
+pub returns-in_err-reference-in-Named : goal.returns-in_err-reference-in-Named
+unfolding item_reader pair
+returns-in_err-reference-in-Named c = let p = err_from_is_err_and c.from_residual-in_err-reference-in-Named.result c.from_residual-in_err-reference-in-Named.ensures.1 in rw (p.1, p.2) (rw c.in-Named.is (skims_not (refuses_next _ c.in_ok-text-in-Named.ensures (refuses_stop _ c.in_err-reference-in-Named.ensures))))
+
+pub returns-in_err-element-in-Element : goal.returns-in_err-element-in-Element
 unfolding item_reader
-returns-in-Element c = rw c.in-Element.is (skims_number _ c.element.ensures c.number_moved-in-Element.ensures)
+returns-in_err-element-in-Element c = let p = err_from_is_err_and c.from_residual-in_err-element-in-Element.result c.from_residual-in_err-element-in-Element.ensures.1 in rw (p.1, p.2) (rw c.in-Element.is (skims_not c.in_err-element-in-Element.ensures))
+
+pub returns-in_ok-text-in-Text : goal.returns-in_ok-text-in-Text
+unfolding item_reader
+returns-in_ok-text-in-Text c = rw c.in-Text.is (skims c.in_ok-text-in-Text.ensures)
+
+pub returns-in_ok-reference-in-Reference : goal.returns-in_ok-reference-in-Reference
+unfolding item_reader
+returns-in_ok-reference-in-Reference c = rw c.in-Reference.is (skims c.in_ok-reference-in-Reference.ensures)
+
+pub returns-in_ok-reference-in-Named : goal.returns-in_ok-reference-in-Named
+unfolding item_reader pair
+returns-in_ok-reference-in-Named c = rw c.in-Named.is (skims (takes_next _ c.in_ok-text-in-Named.ensures (takes_next _ c.in_ok-reference-in-Named.ensures (takes_pure _))))
+
+pub returns-in_ok-element-in-Element : goal.returns-in_ok-element-in-Element
+unfolding item_reader
+returns-in_ok-element-in-Element c = rw c.in-Element.is (skims c.in_ok-element-in-Element.ensures)

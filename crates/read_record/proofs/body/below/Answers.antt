@@ -1,22 +1,22 @@
--- The value bytes, and the test of their number by its halves.
+-- The value's bytes, and the test of their number.
 -- Assumes nothing.
-use mathlib.Core.Path.{ap}
-use Rattle.script_spec.specs.Fields.{number}
-use Rattle.read_field.proofs.Laws.{reads_stop, reads_next, reads_pure, reads_skim, reads_ensured, reads_refused, skimmed, tells}
-use Rattle.read_field.specs.Answers.{text_told, moved_told, spanned}
-use Rattle.read_field.specs.Reads.{value, refusal}
+use Rattle.std.proofs.lemmas.Result.{err_from_is_err_and}
+use Rattle.script_spec.specs.Fields.{number as number_field}
+use Rattle.refusal.specs.declared.Refusal.TheVariants.{OutOfRange}
+use Rattle.refusal.specs.Numbers.{number}
+use Rattle.read_field.proofs.Laws.{takes_next, refuses_next, refuses_stop, skims, skims_not, takes_pure, takes_ensured, takes_refused}
 use Rattle.read_record.specs.Fields.{value_below}
-use Rattle.read_record.proofs.Values.{part_taken, fits_span}
+use Rattle.read_record.proofs.Values.{fits_part}
 use Rattle.read_record.proofs.body.below.Goals as goal
 
-pub returns-in-Bad : goal.returns-in-Bad
-unfolding value_below number text_told moved_told
-returns-in-Bad c = reads_stop _ (reads_stop _ (tells (ap (text_told _) (c.in-Bad.is)) c.part.ensures))
+pub returns-in_err-s : goal.returns-in_err-s
+unfolding value_below number_field
+returns-in_err-s c = let p = err_from_is_err_and c.from_residual.result c.from_residual.ensures.1 in rw (p.1, p.2) (refuses_stop _ (refuses_stop _ c.in_err-s.ensures))
 
-pub returns-then-fits : goal.returns-then-fits
-unfolding value_below number text_told moved_told spanned skimmed
-returns-then-fits c = reads_next _ (reads_next _ (tells (ap (text_told _) (c.in-Bytes.is)) c.part.ensures) (reads_pure _)) (reads_skim (value _ _) (reads_ensured _ _ _ (fits_span _ _ c.part_of.ensures (part_taken 16 (tells (ap (text_told _) (c.in-Bytes.is)) c.part.ensures)) c.low_first-v.ensures c.fits.ensures c.if-fits.true)))
+pub returns-then-not-fits : goal.returns-then-not-fits
+unfolding value_below number_field number
+returns-then-not-fits c = refuses_next _ (takes_next _ c.in_ok-s.ensures (takes_pure _)) (skims_not (takes_refused OutOfRange _ _ (fits_part _ c.in_ok-s.ensures c.low_first.ensures c.fits.ensures c.if-not-fits.true)))
 
-pub returns-else-fits : goal.returns-else-fits
-unfolding value_below number text_told moved_told spanned skimmed
-returns-else-fits c = reads_next _ (reads_next _ (tells (ap (text_told _) (c.in-Bytes.is)) c.part.ensures) (reads_pure _)) (reads_skim (refusal _) (reads_refused _ _ _ (fits_span _ _ c.part_of.ensures (part_taken 16 (tells (ap (text_told _) (c.in-Bytes.is)) c.part.ensures)) c.low_first-v.ensures c.fits.ensures c.if-fits.false)))
+pub returns : goal.returns
+unfolding value_below number_field
+returns c = takes_next _ (takes_next _ c.in_ok-s.ensures (takes_pure _)) (skims (takes_ensured _ _ _ (fits_part _ c.in_ok-s.ensures c.low_first.ensures c.fits.ensures c.if-not-fits.false)))

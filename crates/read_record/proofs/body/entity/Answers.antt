@@ -1,20 +1,21 @@
 -- The reference, and then the mark of the type that it names.
 -- Assumes nothing.
-use mathlib.Core.Path.{ap, sym, ◌∙◌}
-use Rattle.read_field.proofs.Laws.{reads_stop, reads_next, reads_skim, reads_ensured, reads_refused, skimmed, tells}
-use Rattle.read_field.specs.Answers.{number_told, moved_told}
-use Rattle.read_field.specs.Reads.{value, refusal}
+use Rattle.std.proofs.lemmas.Result.{err_from_is_err_and}
+use mathlib.Core.Path.{sym, ◌∙◌}
+use Rattle.refusal.specs.declared.Refusal.TheVariants.{NoSuchRecord}
+use Rattle.refusal.specs.Numbers.{number}
+use Rattle.read_field.proofs.Laws.{takes_next, refuses_next, refuses_stop, skims, skims_not, takes_ensured, takes_refused}
 use Rattle.read_record.specs.Fields.{entity}
 use Rattle.read_record.proofs.body.entity.Goals as goal
 
-pub returns-in-Bad : goal.returns-in-Bad
-unfolding entity number_told moved_told
-returns-in-Bad c = reads_stop _ (tells (ap number_told (c.in-Bad.is)) c.reference.ensures)
+pub returns-in_err-n : goal.returns-in_err-n
+unfolding entity
+returns-in_err-n c = let p = err_from_is_err_and c.from_residual.result c.from_residual.ensures.1 in rw (p.1, p.2) (refuses_stop _ c.in_err-n.ensures)
 
-pub returns-then-is_entity : goal.returns-then-is_entity
-unfolding entity number_told moved_told skimmed
-returns-then-is_entity c = reads_next _ (tells (ap number_told (c.in-Value.is)) c.reference.ensures) (reads_skim (value _ _) (reads_ensured _ _ _ (sym c.is_entity.ensures ∙ c.if-is_entity.true)))
+pub returns-then-not-is_entity : goal.returns-then-not-is_entity
+unfolding entity number
+returns-then-not-is_entity c = refuses_next _ c.in_ok-n.ensures (skims_not (takes_refused NoSuchRecord _ _ (sym c.is_entity.ensures ∙ c.if-not-is_entity.true)))
 
-pub returns-else-is_entity : goal.returns-else-is_entity
-unfolding entity number_told moved_told skimmed
-returns-else-is_entity c = reads_next _ (tells (ap number_told (c.in-Value.is)) c.reference.ensures) (reads_skim (refusal _) (reads_refused _ _ _ (sym c.is_entity.ensures ∙ c.if-is_entity.false)))
+pub returns : goal.returns
+unfolding entity
+returns c = takes_next _ c.in_ok-n.ensures (skims (takes_ensured _ _ _ (sym c.is_entity.ensures ∙ c.if-not-is_entity.false)))

@@ -1,18 +1,18 @@
 -- The code, and then what it says.
 -- Assumes nothing.
-use mathlib.Core.Path.{ap}
+use Rattle.std.proofs.lemmas.Result.{err_from_is_err_and}
 use Rattle.script_spec.specs.Fields.{value, coded}
-use Rattle.read_field.proofs.Laws.{reads_stop, tells}
-use Rattle.read_field.specs.Answers.{number_told, moved_told}
-use Rattle.read_field.specs.Reads.{skim, chosen}
+use Rattle.read_field.proofs.Laws.{refuses_stop, skims_not}
+use Rattle.read_field.specs.Reads.{chosen}
 use Rattle.read_record.specs.Fields.{values}
 use Rattle.read_record.proofs.Values.{skims_next}
+use Rattle.read_field.specs.Takes.{moved_of}
 use Rattle.read_record.proofs.body.ext_value.Goals as goal
 
-pub returns-in-Bad : goal.returns-in-Bad
-unfolding value coded skim number_told moved_told
-returns-in-Bad c = reads_stop _ (reads_stop _ (tells (ap number_told (c.in-Bad.is)) c.byte.ensures))
+pub returns-in_err-code : goal.returns-in_err-code
+unfolding value coded
+returns-in_err-code c = let p = err_from_is_err_and c.from_residual.result c.from_residual.ensures.1 in rw (p.1, p.2) (skims_not (refuses_stop _ c.in_err-code.ensures))
 
-pub returns-in-Value : goal.returns-in-Value
-unfolding value coded chosen values number_told
-returns-in-Value c = skims_next _ (tells (ap number_told (c.in-Value.is)) c.byte.ensures) c.coded_value.ensures
+pub returns : goal.returns
+unfolding value coded chosen values
+returns c = skims_next _ (moved_of c.coded_value.result) c.in_ok-code.ensures c.coded_value.ensures

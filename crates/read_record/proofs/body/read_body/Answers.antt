@@ -1,26 +1,28 @@
 -- The three fields in their order, and the end of the body.
 -- Assumes nothing.
-use mathlib.Core.Path.{refl, ap}
-use Rattle.read_field.proofs.Laws.{reads_stop, reads_next, tells}
-use Rattle.read_field.specs.Answers.{moved_told}
-use Rattle.read_field.specs.Reads.{value, refusal, as_read}
-use Rattle.read_record.specs.Bodies.{earlier_with, all_read, verdict_as}
+use Rattle.std.proofs.lemmas.Result.{err_from_is_err_and}
+use Rattle.read_field.proofs.Laws.{takes_next, refuses_next, refuses_stop}
+use Rattle.read_record.specs.Bodies.{earlier_with}
 use Rattle.read_record.specs.Fields.{body_reader, three}
-use Rattle.read_record.proofs.Verdicts.{verdict_told}
+use Rattle.read_record.proofs.Verdicts.{decided_err, decided_ok, ended_at, ended_before}
 use Rattle.read_record.proofs.body.read_body.Goals as goal
 
-pub returns-in-Bad : goal.returns-in-Bad
-unfolding body_reader three earlier_with moved_told as_read all_read verdict_as
-returns-in-Bad c = verdict_told _ _ _ c.fields_of-all.result (refusal _) c.fields_of-all.ensures (reads_stop _ (tells (ap moved_told (c.in-Bad.is)) c.skip_first.ensures)) refl
+pub returns-in_err-first : goal.returns-in_err-first
+unfolding body_reader three earlier_with
+returns-in_err-first c = let p = err_from_is_err_and c.from_residual.result c.from_residual.ensures.1 in rw (p.1, p.2) (decided_err _ _ c.new.ensures c.fields_of-all.ensures (refuses_stop _ c.in_err-first.ensures))
 
-pub returns-in-Bad-skip_field : goal.returns-in-Bad-skip_field
-unfolding body_reader three earlier_with moved_told as_read all_read verdict_as
-returns-in-Bad-skip_field c = verdict_told _ _ _ c.fields_of-all.result (refusal _) c.fields_of-all.ensures (reads_next _ (tells (ap moved_told (c.in-To.is)) c.skip_first.ensures) (reads_stop _ (tells (ap moved_told (c.in-Bad-skip_field.is)) c.skip_field.ensures))) refl
+pub returns-in_err-second : goal.returns-in_err-second
+unfolding body_reader three earlier_with
+returns-in_err-second c = let p = err_from_is_err_and c.from_residual-in_err-second.result c.from_residual-in_err-second.ensures.1 in rw (p.1, p.2) (decided_err _ _ c.new.ensures c.fields_of-all.ensures (refuses_next _ c.in_ok-first.ensures (refuses_stop _ c.in_err-second.ensures)))
 
-pub returns-in-Bad-skip_field-2 : goal.returns-in-Bad-skip_field-2
-unfolding body_reader three earlier_with moved_told as_read all_read verdict_as
-returns-in-Bad-skip_field-2 c = verdict_told _ _ _ c.fields_of-all.result (refusal _) c.fields_of-all.ensures (reads_next _ (tells (ap moved_told (c.in-To.is)) c.skip_first.ensures) (reads_next _ (tells (ap moved_told (c.in-To-skip_field.is)) c.skip_field.ensures) (tells (ap moved_told (c.in-Bad-skip_field-2.is)) c.skip_field-in-To-skip_field.ensures))) refl
+pub returns-in_err-third : goal.returns-in_err-third
+unfolding body_reader three earlier_with
+returns-in_err-third c = let p = err_from_is_err_and c.from_residual-in_err-third.result c.from_residual-in_err-third.ensures.1 in rw (p.1, p.2) (decided_err _ _ c.new.ensures c.fields_of-all.ensures (refuses_next _ c.in_ok-first.ensures (refuses_next _ c.in_ok-second.ensures c.in_err-third.ensures)))
 
-pub returns-in-To-skip_field-2 : goal.returns-in-To-skip_field-2
-unfolding body_reader three earlier_with moved_told as_read all_read verdict_as
-returns-in-To-skip_field-2 c = verdict_told _ _ _ c.fields_of-all.result (value tt _) c.fields_of-all.ensures (reads_next _ (tells (ap moved_told (c.in-To.is)) c.skip_first.ensures) (reads_next _ (tells (ap moved_told (c.in-To-skip_field.is)) c.skip_field.ensures) (tells (ap moved_told (c.in-To-skip_field-2.is)) c.skip_field-in-To-skip_field.ensures))) c.end.ensures
+pub returns-then-left-eq0 : goal.returns-then-left-eq0
+unfolding body_reader three earlier_with
+returns-then-left-eq0 c = decided_ok _ _ c.new.ensures c.fields_of-all.ensures (takes_next _ c.in_ok-first.ensures (takes_next _ c.in_ok-second.ensures c.in_ok-third.ensures)) (ended_at c.in_ok-third.third c.left.ensures c.if-left-eq0.true)
+
+pub returns-else-left-eq0 : goal.returns-else-left-eq0
+unfolding body_reader three earlier_with
+returns-else-left-eq0 c = decided_ok _ _ c.new.ensures c.fields_of-all.ensures (takes_next _ c.in_ok-first.ensures (takes_next _ c.in_ok-second.ensures c.in_ok-third.ensures)) (ended_before c.in_ok-third.third c.left.ensures c.if-left-eq0.false)

@@ -1,51 +1,66 @@
--- Each field by its own reader.
+-- Each kind of field by its own reader.
 -- Assumes nothing.
-use Rattle.read_field.proofs.Laws.{reads_pure, skims_text, skims_number}
-use Rattle.read_field.specs.Answers.{moved_told}
+use Rattle.std.proofs.lemmas.Result.{err_from_is_err_and}
+use Rattle.read_field.proofs.Laws.{skims, skims_not, takes_pure}
 use Rattle.read_record.specs.Fields.{field_reader}
-use Rattle.read_record.proofs.Values.{skims_op, reads_unknown}
 use Rattle.read_record.proofs.body.skip.Goals as goal
 
-pub returns-in-Nothing : goal.returns-in-Nothing
-unfolding field_reader moved_told
-returns-in-Nothing c = rw c.in-Nothing.is (reads_pure tt)
+pub returns-in_err-text-in-Text : goal.returns-in_err-text-in-Text
+unfolding field_reader
+returns-in_err-text-in-Text c = let p = err_from_is_err_and c.from_residual.result c.from_residual.ensures.1 in rw (p.1, p.2) (rw c.in-Text.is (skims_not c.in_err-text-in-Text.ensures))
 
-pub returns-in-Text : goal.returns-in-Text
-unfolding field_reader moved_told
-returns-in-Text c = rw c.in-Text.is (skims_text _ c.text.ensures c.text_moved.ensures)
+pub returns-in_ok-text-in-Text : goal.returns-in_ok-text-in-Text
+unfolding field_reader
+returns-in_ok-text-in-Text c = rw c.in-Text.is (skims c.in_ok-text-in-Text.ensures)
 
-pub returns-in-Width : goal.returns-in-Width
-unfolding field_reader moved_told
-returns-in-Width c = rw c.in-Width.is (skims_number _ c.width.ensures c.number_moved.ensures)
+pub returns-in_err-width-in-Width : goal.returns-in_err-width-in-Width
+unfolding field_reader
+returns-in_err-width-in-Width c = let p = err_from_is_err_and c.from_residual-in_err-width-in-Width.result c.from_residual-in_err-width-in-Width.ensures.1 in rw (p.1, p.2) (rw c.in-Width.is (skims_not c.in_err-width-in-Width.ensures))
 
-pub returns-in-Code : goal.returns-in-Code
-unfolding field_reader moved_told
-returns-in-Code c = rw c.in-Code.is (skims_number _ c.code.ensures c.number_moved-in-Code.ensures)
+pub returns-in_ok-width-in-Width : goal.returns-in_ok-width-in-Width
+unfolding field_reader
+returns-in_ok-width-in-Width c = rw c.in-Width.is (skims c.in_ok-width-in-Width.ensures)
 
-pub returns-in-Reference : goal.returns-in-Reference
-unfolding field_reader moved_told
-returns-in-Reference c = rw c.in-Reference.is (skims_number _ c.reference.ensures c.number_moved-in-Reference.ensures)
+pub returns-in_err-code-in-Code : goal.returns-in_err-code-in-Code
+unfolding field_reader
+returns-in_err-code-in-Code c = let p = err_from_is_err_and c.from_residual-in_err-code-in-Code.result c.from_residual-in_err-code-in-Code.ensures.1 in rw (p.1, p.2) (rw c.in-Code.is (skims_not c.in_err-code-in-Code.ensures))
+
+pub returns-in_ok-code-in-Code : goal.returns-in_ok-code-in-Code
+unfolding field_reader
+returns-in_ok-code-in-Code c = rw c.in-Code.is (skims c.in_ok-code-in-Code.ensures)
+
+pub returns-in_err-reference-in-Reference : goal.returns-in_err-reference-in-Reference
+unfolding field_reader
+returns-in_err-reference-in-Reference c = let p = err_from_is_err_and c.from_residual-in_err-reference-in-Reference.result c.from_residual-in_err-reference-in-Reference.ensures.1 in rw (p.1, p.2) (rw c.in-Reference.is (skims_not c.in_err-reference-in-Reference.ensures))
+
+pub returns-in_ok-reference-in-Reference : goal.returns-in_ok-reference-in-Reference
+unfolding field_reader
+returns-in_ok-reference-in-Reference c = rw c.in-Reference.is (skims c.in_ok-reference-in-Reference.ensures)
+
+pub returns-in_err-operator-in-Operator : goal.returns-in_err-operator-in-Operator
+unfolding field_reader
+returns-in_err-operator-in-Operator c = let p = err_from_is_err_and c.from_residual-in_err-operator-in-Operator.result c.from_residual-in_err-operator-in-Operator.ensures.1 in rw (p.1, p.2) (rw c.in-Operator.is (skims_not c.in_err-operator-in-Operator.ensures))
+
+pub returns-in_ok-operator-in-Operator : goal.returns-in_ok-operator-in-Operator
+unfolding field_reader
+returns-in_ok-operator-in-Operator c = rw c.in-Operator.is (skims c.in_ok-operator-in-Operator.ensures)
 
 pub returns-in-Entity : goal.returns-in-Entity
-unfolding field_reader moved_told
+unfolding field_reader
 returns-in-Entity c = rw c.in-Entity.is c.entity.ensures
 
 pub returns-in-Number : goal.returns-in-Number
-unfolding field_reader moved_told
+unfolding field_reader
 returns-in-Number c = rw c.in-Number.is c.bit_vec.ensures
 
 pub returns-in-Value : goal.returns-in-Value
-unfolding field_reader moved_told
+unfolding field_reader
 returns-in-Value c = rw c.in-Value.is c.ext_value.ensures
 
-pub returns-in-Operator : goal.returns-in-Operator
-unfolding field_reader moved_told
-returns-in-Operator c = rw c.in-Operator.is (skims_op _ c.operator.ensures c.op_moved.ensures)
-
 pub returns-in-List : goal.returns-in-List
-unfolding field_reader moved_told
+unfolding field_reader
 returns-in-List c = rw c.in-List.is c.list.ensures
 
-pub returns-in-Unknown : goal.returns-in-Unknown
-unfolding field_reader moved_told
-returns-in-Unknown c = rw c.in-Unknown.is reads_unknown
+pub returns-in-Nothing : goal.returns-in-Nothing
+unfolding field_reader
+returns-in-Nothing c = rw c.in-Nothing.is (takes_pure tt)

@@ -67,6 +67,3 @@ returns-in-XA c = rw c.in-XA.is
 
 pub returns-in-IN : goal.returns-in-IN
 returns-in-IN c = rw c.in-IN.is
-
-pub returns-in-Unknown : goal.returns-in-Unknown
-returns-in-Unknown c = rw c.in-Unknown.is

@@ -1,18 +1,13 @@
--- `sakyelbo::answers::of_command` says each case by its numbers.
+-- `sakyelbo::answers::of_command` says each case as encode's answer without a place.
 -- Assumes nothing.
-use mathlib.Core.Path.{ap}
-use Rattle.smtlib_script.specs.Writes.{command_answer}
-use Rattle.sakyelbo.proofs.Laws.{says_length, says_refusal}
+use Rattle.refusal.specs.Numbers.{answered}
+use Rattle.write_bytes.specs.Writing.{answer}
 use Rattle.sakyelbo.proofs.answers.of_command.Goals as goal
 
-pub returns-in-Length : goal.returns-in-Length
-unfolding command_answer
-returns-in-Length c = says_length (ap command_answer c.in-Length.is)
+pub returns-in-Ok : goal.returns-in-Ok
+unfolding answer answered
+returns-in-Ok c = rw c.in-Ok.is c.of_encode.ensures
 
-pub returns-in-NotUtf8 : goal.returns-in-NotUtf8
-unfolding command_answer
-returns-in-NotUtf8 c = says_refusal (ap command_answer c.in-NotUtf8.is) c.refusal.ensures
-
-pub returns-in-NoRoom : goal.returns-in-NoRoom
-unfolding command_answer
-returns-in-NoRoom c = says_refusal (ap command_answer c.in-NoRoom.is) c.refusal-in-NoRoom.ensures
+pub returns-in-Err : goal.returns-in-Err
+unfolding answer answered
+returns-in-Err c = rw c.in-Err.is c.of_encode-in-Err.ensures

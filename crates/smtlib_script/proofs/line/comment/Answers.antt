@@ -1,15 +1,16 @@
--- `smtlib_script::line::comment` meets its contract: its pieces one after another are the line, which is not empty where there is no room.
+-- `smtlib_script::line::comment` meets its contract: the comment's text between its two bytes and the end of the line.
 -- Assumes nothing.
-use mathlib.Core.Path.{refl}
+use mathlib.Core.Path.{refl, sym}
+use Rattle.std.proofs.Common.{rules}
 use Rattle.script_spec.specs.Base.{bytes}
-use Rattle.write_bytes.proofs.Laws.{line_past, line_some}
+use Rattle.write_bytes.proofs.Laws.{says}
+use Rattle.write_text.proofs.CommentLaws.{reached, comment_written}
 use Rattle.smtlib_script.specs.Opened.{opened}
-use Rattle.smtlib_script.proofs.Lines.{comment_written}
+use Rattle.smtlib_script.proofs.Lines.{line_comment}
 use Rattle.smtlib_script.proofs.line.comment.Goals as goal
-
-pub returns-then-room-eq0 : goal.returns-then-room-eq0
-returns-then-room-eq0 c = rw c.if-room-eq0.true (line_past (line_some _))
 
 pub returns : goal.returns
 unfolding opened bytes
-returns c = comment_written refl c.put_word-a.ensures c.put_comment_text-text.ensures c.put_at.ensures
+returns c =
+    says (line_comment _)
+    (comment_written c.put_word.ensures refl refl c.put.ensures (reached (sym c.put.ensures.lent) (λ a. grind rules)) c.put_byte.ensures)

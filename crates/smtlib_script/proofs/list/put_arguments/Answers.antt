@@ -7,4 +7,4 @@ use Rattle.smtlib_script.proofs.list.put_arguments.Goals as goal
 
 pub returns : goal.returns
 unfolding listed bytes
-returns c = c.put_at-a.ensures then (c.put_spaced_arguments-b.ensures then c.put_at.ensures)
+returns c = c.put_byte.ensures then c.put_spaced_arguments.ensures then c.put_byte-2.ensures

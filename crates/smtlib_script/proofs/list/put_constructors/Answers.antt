@@ -7,4 +7,4 @@ use Rattle.smtlib_script.proofs.list.put_constructors.Goals as goal
 
 pub returns : goal.returns
 unfolding constructor_list bytes
-returns c = c.put_at-a.ensures then (c.put_joined-b.ensures then c.put_at.ensures)
+returns c = c.put.ensures then c.put_joined.ensures then c.put_byte.ensures

@@ -1,15 +1,10 @@
--- `smtlib_script::list::put_joined` meets its contract: before a turn, the texts up to `i` are written; the measure is the number of texts left.
+-- `smtlib_script::list::put_joined` meets its contract: before a turn, the texts before the one reached are written.
 -- Assumes nothing.
-use Prim.Native.Nat.{◌-◌}
-use mathlib.Core.Path.{◌≡◌}
 use mathlib.Core.List.{map}
-use lib.ListN.{length, drop}
+use lib.ListN.{drop}
 use Rattle.write_bytes.proofs.Loop.{Along}
 use Rattle.smtlib_script.proofs.Lists.{separated}
 use Rattle.smtlib_script.proofs.list.put_joined.Given as goal
 
-abbrev pub invariant-loop-i : goal.invariant-loop-i
-invariant-loop-i l = Along l.limit l.initial.out l.initial.place l.out l.place (separated l.separator (drop l.i (map (λ x. x.now) l.texts))) (separated l.separator (drop 1 (map (λ x. x.now) l.texts))) × (length l.out ≡ length l.initial.out)
-
-abbrev pub decreases-loop-i : goal.decreases-loop-i
-decreases-loop-i l = length l.texts - l.i
+abbrev pub invariant-loop-text : goal.invariant-loop-text
+invariant-loop-text l = Along l.initial.w l.w (separated l.separator (drop l.text-index (map (λ x. x.now) l.rest))) (separated l.separator (map (λ x. x.now) l.rest))

@@ -7,4 +7,4 @@ use Rattle.smtlib_script.proofs.list.put_list.Goals as goal
 
 pub returns : goal.returns
 unfolding listed spaced bytes
-returns c = c.put_at-a.ensures then (c.put_joined-b.ensures then c.put_at.ensures)
+returns c = c.put_byte.ensures then c.put_joined.ensures then c.put_byte-2.ensures

@@ -7,4 +7,4 @@ use Rattle.smtlib_script.proofs.list.put_two.Goals as goal
 
 pub returns : goal.returns
 unfolding spaced joined bytes
-returns c = c.put_at-a.ensures then (c.put_at-b.ensures then c.put_at.ensures)
+returns c = c.put.ensures then c.put_byte.ensures then c.put-2.ensures

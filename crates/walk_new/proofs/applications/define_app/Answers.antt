@@ -1,10 +1,18 @@
--- `walk_new::applications::define_app` meets its contract.
+-- `walk_new::applications::define_app` meets its contract: by the operator, and each answer on a `Bvnego` by its arm.
 -- Assumes nothing.
-use Rattle.walk_new.proofs.ApplicationLaws.{app_other}
+use Rattle.std.proofs.Common.{rules}
+use Rattle.walk_new.proofs.Introducing.{enters, defines}
+use Rattle.walk_new.proofs.ApplicationLaws.{app_other, app_false, app_comparison, app_ordinary}
 use Rattle.walk_new.proofs.applications.define_app.Goals as goal
 
-pub returns-then-is_nego : goal.returns-then-is_nego
-returns-then-is_nego c = c.define_nego.ensures
+pub returns-then-not-is_nego : goal.returns-then-not-is_nego
+returns-then-not-is_nego c = app_other c.is_nego.ensures c.if-not-is_nego.true c.define_ordinary.ensures
 
-pub returns : goal.returns
-returns c = app_other _ _ _ c.is_nego.ensures c.if-is_nego.false c.define_ordinary.ensures
+pub returns-in-Falsehood : goal.returns-in-Falsehood
+returns-in-Falsehood c = let v = c.view.ensures in app_false (rw (v.0, v.1, v.2) at c.negation_of.ensures) c.in-Falsehood.is (enters c.enter.ensures)
+
+pub returns-in-Comparison : goal.returns-in-Comparison
+returns-in-Comparison c = app_comparison (rw (c.view.ensures.0, c.view.ensures.1, c.view.ensures.2) at c.negation_of.ensures) c.in-Comparison.is (defines c.introduce.ensures (λ r x y s. search rules))
+
+pub returns-in-Ordinary : goal.returns-in-Ordinary
+returns-in-Ordinary c = let v = c.view.ensures in app_ordinary (rw (v.0, v.1, v.2) at c.negation_of.ensures) c.in-Ordinary.is c.define_ordinary-in-Ordinary.ensures

@@ -1,17 +1,13 @@
--- `walk_new::applications::define_ordinary` meets its contract: each operator by its arm.
+-- `walk_new::applications::define_ordinary` meets its contract: what the operator asks for, and then the definition.
 -- Assumes nothing.
-use Rattle.walk_new.proofs.OperatorLaws.{ordinary_get, ordinary_pattern, ordinary_uuf, ordinary_other}
-use borrow.Enum.Refused.{opened}
+use Rattle.std.proofs.Common.{rules}
+use Rattle.std.proofs.lemmas.Result.{err_from_is_err_and}
+use Rattle.walk_new.proofs.Introducing.{defines}
+use Rattle.walk_new.proofs.OperatorLaws.{ordinary_then, ordinary_stopped}
 use Rattle.walk_new.proofs.applications.define_ordinary.Goals as goal
 
-pub returns-in-RecordGet : goal.returns-in-RecordGet
-returns-in-RecordGet c = ordinary_get _ _ _ c.in-RecordGet.is c.part_of-name.ensures c.define_record_get.ensures
+pub returns-in_err-operator_step : goal.returns-in_err-operator_step
+returns-in_err-operator_step c = let p = err_from_is_err_and c.from_residual.result c.from_residual.ensures.1 in rw (p.1, p.2) (ordinary_stopped (rw c.in_err-operator_step.was at c.operator_step.ensures))
 
-pub returns-in-StringLike : goal.returns-in-StringLike
-returns-in-StringLike c = ordinary_pattern _ _ _ c.in-StringLike.is c.pattern_bytes-elements.ensures c.check_pattern-q.ensures c.define_applied.ensures
-
-pub returns-in-Uuf : goal.returns-in-Uuf
-returns-in-Uuf c = ordinary_uuf _ _ _ c.in-Uuf.is c.encode_uuf-q.ensures c.define_applied-in-Uuf.ensures
-
-pub returns-in_default : goal.returns-in_default
-returns-in_default c = ordinary_other _ _ _ (opened c.in_default.in_default-own.keys4) c.define_applied-in_default.ensures
+pub returns : goal.returns
+returns c = ordinary_then (rw c.in_ok-operator_step.was at c.operator_step.ensures) (defines c.introduce.ensures (λ r x y s. search rules))

@@ -1,14 +1,10 @@
 -- `walk_new::attributes::record_get` meets its contract.
 -- Assumes nothing.
-use Rattle.walk_new.proofs.Testing.{tests_refused}
 use Rattle.walk_new.proofs.AttributeLaws.{get_none, get_child}
 use Rattle.walk_new.proofs.attributes.record_get.Goals as goal
 
-pub returns-then-p-ne0 : goal.returns-then-p-ne0
-returns-then-p-ne0 c = tests_refused c.if-p-ne0.true
+pub returns-in-None : goal.returns-in-None
+returns-in-None c = get_none _ c.in-None.ensures.steps.0
 
-pub returns-then-c-eq0 : goal.returns-then-c-eq0
-returns-then-c-eq0 c = get_none _ _ _ c.if-p-ne0.false c.if-c-eq0.true c.refuse.ensures
-
-pub returns : goal.returns
-returns c = get_child _ _ _ c.if-p-ne0.false _ c.if-c-eq0.false c.take_child-child.ensures (c.wide.ensures).0 c.get-t.ensures c.check_attribute.ensures
+pub returns-in-Some : goal.returns-in-Some
+returns-in-Some c = get_child _ c.in-Some.ensures.steps c.get-t.ensures c.check_attribute.ensures

@@ -1,16 +1,17 @@
 -- `walk_new::texts::check_literal` meets its contract: a literal that has a note has passed, and one that passes gets it.
 -- Assumes nothing.
-use Rattle.walk_new.proofs.Testing.{literal_refused, literal_again, literal_passed, literal_stopped}
+use Rattle.std.proofs.lemmas.Result.{err_from_is_err_and}
+use Rattle.walk_new.proofs.Testing.{tested_ok, tested_err, literal_again, literal_passed, literal_stopped}
 use Rattle.walk_new.proofs.texts.check_literal.Goals as goal
 
-pub returns-then-p-ne0 : goal.returns-then-p-ne0
-returns-then-p-ne0 c = literal_refused c.if-p-ne0.true
+pub returns-then-get-ne0-clause-advances : goal.returns-then-get-ne0-clause-advances
+returns-then-get-ne0-clause-advances c = literal_again c.get.ensures c.if-get-ne0.true
 
-pub returns-then-get-ne0 : goal.returns-then-get-ne0
-returns-then-get-ne0 c = literal_again c.if-p-ne0.false (c.wide-at.ensures).0 c.get.ensures c.if-get-ne0.true
+pub returns-in_err-refuse_unless-clause-advances : goal.returns-in_err-refuse_unless-clause-advances
+returns-in_err-refuse_unless-clause-advances c =
+    let p = err_from_is_err_and c.from_residual.result c.from_residual.ensures.1 in
+    let q = tested_err _ _ _ c.refuse_unless.ensures c.in_err-refuse_unless.was in
+    rw (p.1, p.2, q.1) (literal_stopped c.low_enough.ensures q.0)
 
-pub returns-then-low_enough : goal.returns-then-low_enough
-returns-then-low_enough c = literal_passed 1 c.if-p-ne0.false (c.wide-at.ensures).0 c.low_enough.ensures c.if-low_enough.true c.set.ensures
-
-pub returns : goal.returns
-returns c = literal_stopped c.if-p-ne0.false c.low_enough.ensures c.if-low_enough.false c.refuse.ensures
+pub returns-clause-advances : goal.returns-clause-advances
+returns-clause-advances c = literal_passed 1 c.low_enough.ensures (tested_ok _ _ _ c.refuse_unless.ensures c.in_ok-refuse_unless.was) c.set.ensures

@@ -1,26 +1,28 @@
--- `walk_queries::lists::list_at` meets its contract.
+-- `walk_queries::lists::list_at` meets its contract: a list, or none where its rows don't fit or a place doesn't.
 -- Assumes nothing.
-use Rattle.walk_queries.proofs.FillLaws.{too_few, not_filled, list_made}
-use native.Mathlib.Omega.{arith}
+use Prim.Native.Nat.{◌+◌}
+use mathlib.Core.Path.{sym, subst}
+use Rattle.index.specs.Cells.{number}
+use Rattle.walk_queries.proofs.FillLaws.{Tried, tried_none, tried_rows, list_left, list_made}
+use Rattle.index.proofs.Held.{stays_store}
 use Rattle.walk_queries.proofs.lists.list_at.Goals as goal
+use Rattle.walk_queries.proofs.lists.list_at.Goals.{then-among-ge-ENOUGH+then-fits+else-fill_rows, else-among-ge-ENOUGH}
 
-pub returns-then-among-lt-ENOUGH : goal.returns-then-among-lt-ENOUGH
-returns-then-among-lt-ENOUGH c = too_few c.no_list.ensures
+pub returns-then-fill_rows-clause-stays : goal.returns-then-fill_rows-clause-stays
+returns-then-fill_rows-clause-stays c = stays_store _ (number c.args.column) c.args.n (c.args.next + 1) c.fill_rows.ensures.stays c.set.ensures
 
-pub fill_rows-requires : goal.fill_rows-requires
-fill_rows-requires c = let F = c.fits.ensures c.if-fits.true in omega (arith, F.room, (c.wide.ensures).0, (c.wide-then-fits.ensures).0)
+pub returns-then-fill_rows-clause-made : goal.returns-then-fill_rows-clause-made
+returns-then-fill_rows-clause-made c =
+    list_made (number c.args.column) c.args.n c.args.among c.rows_of-rows.ensures (c.fits.ensures c.if-fits.true) c.fill_rows.ensures.stays c.fill_rows.ensures.made c.if-fill_rows.true c.set.ensures
 
-pub overflow_add-next : goal.overflow_add-next
-overflow_add-next c = let F = c.fits.ensures c.if-fits.true in omega (arith, F.small)
+tried : (c : goal.After-set-2) → Tried c.args.next c.args.records.now c.if-among-ge-ENOUGH.records
+tried c = elim c.if-among-ge-ENOUGH.branch [
+  | then-among-ge-ENOUGH+then-fits+else-fill_rows w ↦ subst (Tried c.args.next c.args.records.now) (sym w.records-is) (tried_rows c.args.among (w.fits.ensures w.if-fits.true) w.fill_rows.ensures.stays w.fill_rows.ensures.made)
+  | else-among-ge-ENOUGH w ↦ subst (Tried c.args.next c.args.records.now) (sym w.records-is) (tried_none c.args.next c.args.records.now)
+]
 
-pub overflow_add-result : goal.overflow_add-result
-overflow_add-result c = let F = c.fits.ensures c.if-fits.true in omega (arith, F.small)
+pub returns-clause-stays : goal.returns-clause-stays
+returns-clause-stays c = stays_store _ (number c.args.column) c.args.n 0 (tried c).stays c.set-2.ensures
 
-pub returns-then-fill_rows : goal.returns-then-fill_rows
-returns-then-fill_rows c = list_made c.fits.ensures c.if-fits.true (c.wide.ensures).0 (c.wide-then-fits.ensures).0 c.fill_rows.ensures c.rows_of-rows.ensures c.if-fill_rows.true c.set.ensures
-
-pub returns-then-fits : goal.returns-then-fits
-returns-then-fits c = not_filled c.fits.ensures c.if-fits.true (c.wide.ensures).0 (c.wide-then-fits.ensures).0 c.fill_rows.ensures c.no_list-then-fits.ensures
-
-pub returns : goal.returns
-returns c = too_few c.no_list-2.ensures
+pub returns-clause-made : goal.returns-clause-made
+returns-clause-made c = list_left (number c.args.column) c.args.n c.args.among (tried c) c.set-2.ensures

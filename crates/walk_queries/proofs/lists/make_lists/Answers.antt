@@ -1,7 +1,8 @@
--- `walk_queries::lists::make_lists` meets its contract.
+-- `walk_queries::lists::make_lists` meets its contract: a list, or an enum, more at each turn.
 -- Assumes nothing.
-use Rattle.walk_queries.proofs.LoopLaws.{lists_made}
+use native.Mathlib.Omega.{arith}
+use Rattle.walk_queries.proofs.LoopLaws.{noting_enums}
 use Rattle.walk_queries.proofs.lists.make_lists.Goals as goal
 
-pub returns : goal.returns
-returns c = lists_made c.list_types-next.ensures c.list_enums.ensures c.note_enums.ensures
+pub loop-t-2-init : goal.loop-t-2-init
+loop-t-2-init c = noting_enums c.loop-e.invariant (omega (arith, c.loop-e.auto.e-end, c.loop-e-test.false))

@@ -1,4 +1,4 @@
--- `walk_queries::positions::find_row` meets its contract. The loop's invariant: the text can only be between the two rows.
+-- `walk_queries::positions::find_row` meets its contract: the halves of the rows.
 -- Assumes nothing.
 use Rattle.walk_queries.proofs.RowLaws.{halves_start, halves_end, halves_lower, halves_upper}
 use native.Mathlib.Omega.{arith}
@@ -8,10 +8,10 @@ pub loop-high-init : goal.loop-high-init
 loop-high-init c = halves_start c.requires
 
 pub loop-high-preserved-then-stands_before : goal.loop-high-preserved-then-stands_before
-loop-high-preserved-then-stands_before c = halves_lower c.loop-high.invariant (omega arith, omega arith) (c.wide.ensures).0 (c.wide-in-loop-high.ensures).0 c.get-at.ensures (c.wide-in-loop-high-2.ensures).0 c.stands_before.ensures c.if-stands_before.true
+loop-high-preserved-then-stands_before c = halves_lower c.loop-high.invariant (omega arith, omega arith) c.get_row-at.ensures c.stands_before.ensures c.if-stands_before.true
 
 pub loop-high-preserved : goal.loop-high-preserved
-loop-high-preserved c = halves_upper c.loop-high.invariant (omega arith, omega arith) (c.wide.ensures).0 (c.wide-in-loop-high.ensures).0 c.get-at.ensures (c.wide-in-loop-high-2.ensures).0 c.stands_before.ensures c.if-stands_before.false
+loop-high-preserved c = halves_upper c.loop-high.invariant (omega arith, omega arith) c.get_row-at.ensures c.stands_before.ensures c.if-stands_before.false
 
 pub returns : goal.returns
 returns c = halves_end c.loop-high.invariant (omega arith)

@@ -1,16 +1,30 @@
--- `walk_queries::positions::find_text` meets its contract. The loop's invariant: no text that was passed is the same.
+-- `walk_queries::positions::find_text` meets its contract.
 -- Assumes nothing.
-use Rattle.walk_queries.proofs.SearchLaws.{passed_none, passed_on, found_here, found_nowhere}
+use mathlib.Core.Path.{refl, sym, ◌∙◌}
+use mathlib.Core.Logic.{inl}
+use Prim.Native.Nat.{◌<◌}
+use native.Mathlib.Omega.{arith}
+use borrow.Author.Rules.{rules}
+use Rattle.std.proofs.lemmas.Iterator.Search.{position_from_yields_List}
+use Rattle.std.proofs.lemmas.Iterator.Consumers.{YieldsList-from_first}
+use Rattle.script_spec.specs.Base.{same}
+use Rattle.index_entry.specs.Places.{texts_in}
+use Rattle.index_entry.proofs.Places.{length_texts_in}
+use Rattle.walk_queries.proofs.SearchLaws.{decided, text_found}
 use Rattle.walk_queries.proofs.positions.find_text.Goals as goal
 
-pub loop-i-init : goal.loop-i-init
-loop-i-init c = passed_none
+pub position-requires-clause-fits : goal.position-requires-clause-fits
+position-requires-clause-fits c = inl (omega (arith, length_texts_in c.args.among, c.ranges.among))
 
-pub returns-then-same : goal.returns-then-same
-returns-then-same c = found_here c.loop-i.invariant c.loop-i-test.true c.text_at.ensures c.same.ensures c.if-same.true
+pub returns-in_err-i : goal.returns-in_err-i
+returns-in_err-i c =
+    text_found _ _ (c.from_residual.ensures ∙ sym c.in_err-i.was
+    ∙ position_from_yields_List (same c.args.name.now) _ _ c.position.result c.position.ensures.ran (YieldsList-from_first (λ x. x.now) texts_in _ refl) (λ x b q k. (search rules, decided b _ _ (search rules))))
 
-pub loop-i-preserved : goal.loop-i-preserved
-loop-i-preserved c = passed_on c.loop-i.invariant c.loop-i-test.true c.text_at.ensures c.same.ensures _ c.if-same.false c.after_text-at.ensures
+pub overflow_cast-result : goal.overflow_cast-result
+overflow_cast-result c = let few : c.in_ok-i.i < c.args.among.left = omega (arith, c.in_ok-i.ensures.bound, length_texts_in c.args.among) in search rules
 
 pub returns : goal.returns
-returns c = found_nowhere c.loop-i.invariant c.loop-i-test.false
+returns c =
+    text_found _ _ (sym c.in_ok-i.was
+    ∙ position_from_yields_List (same c.args.name.now) _ _ c.position.result c.position.ensures.ran (YieldsList-from_first (λ x. x.now) texts_in _ refl) (λ x b q k. (search rules, decided b _ _ (search rules))))

@@ -1,13 +1,13 @@
--- `walk_queries::queries::find_member` meets its contract: among the members of the enum.
+-- `walk_queries::queries::find_member` meets its contract.
 -- Assumes nothing.
 use Rattle.walk_queries.proofs.MemberLaws.{no_enum, member_at, not_member}
 use Rattle.walk_queries.proofs.queries.find_member.Goals as goal
 
-pub returns-then-sizes-e : goal.returns-then-sizes-e
-returns-then-sizes-e c = no_enum c.enum_of-e.ensures c.if-sizes-e.true
+pub returns-in_default : goal.returns-in_default
+returns-in_default c = no_enum c.enum_of.ensures c.in_default.is
 
-pub returns-in-At : goal.returns-in-At
-returns-in-At c = member_at c.enum_of-e.ensures c.if-sizes-e.false c.find_in.ensures c.in-At.is
+pub returns-in-Some-find_in : goal.returns-in-Some-find_in
+returns-in-Some-find_in c = member_at c.enum_of.ensures c.in-Some.is c.find_in.ensures c.in-Some-find_in.is
 
-pub returns-in-Nowhere : goal.returns-in-Nowhere
-returns-in-Nowhere c = not_member c.enum_of-e.ensures c.if-sizes-e.false c.find_in.ensures c.in-Nowhere.is
+pub returns-in-None : goal.returns-in-None
+returns-in-None c = not_member c.enum_of.ensures c.in-Some.is c.find_in.ensures c.in-None.is

@@ -4,8 +4,8 @@
 use Rattle.walk_types.proofs.Settling.{Follows}
 use Rattle.walk_types.proofs.settled.is_settled.Given as goal
 
-abbrev pub invariant-loop-n : goal.invariant-loop-n
-invariant-loop-n l = Follows l.file l.work l.sizes l.t l.u
+abbrev pub invariant-loop-records : goal.invariant-loop-records
+invariant-loop-records l = Follows l.records l.t l.u
 
-abbrev pub decreases-loop-n : goal.decreases-loop-n
-decreases-loop-n l = l.u
+abbrev pub decreases-loop-records : goal.decreases-loop-records
+decreases-loop-records l = l.u

@@ -1,11 +1,12 @@
 -- `write_atoms::atoms::put_entity` meets its contract.
 -- Assumes nothing.
 use Rattle.script_spec.specs.Base.{bytes}
-use Rattle.write_atoms.proofs.QueryLaws.{entity_past, entity_by_name, entity_stranger, entity_member}
+use Rattle.walk_names.proofs.Spelling.{stopped}
+use Rattle.write_atoms.proofs.QueryLaws.{entity_by_name, entity_stranger, entity_member}
 use Rattle.write_atoms.proofs.atoms.put_entity.Goals as goal
 
 pub returns-then-is_past : goal.returns-then-is_past
-returns-then-is_past c = entity_past c.is_past.ensures c.if-is_past.true
+returns-then-is_past c = stopped c.is_past.ensures c.if-is_past.true
 
 pub returns-in-NoEnum : goal.returns-in-NoEnum
 returns-in-NoEnum c = entity_by_name c.find_member.ensures c.in-NoEnum.is c.put_term_name.ensures

@@ -7,8 +7,8 @@ use Rattle.write_atoms.proofs.parts.put_bool.Goals as goal
 
 pub returns-then-b : goal.returns-then-b
 unfolding bytes truth
-returns-then-b c = says (rw c.if-b.true) c.put_at.ensures
+returns-then-b c = says (rw c.if-b.true) c.put.ensures
 
-pub returns : goal.returns
+pub returns-else-b : goal.returns-else-b
 unfolding bytes truth
-returns c = says (rw c.if-b.false) c.put_at-2.ensures
+returns-else-b c = says (rw c.if-b.false) c.put-else-b.ensures

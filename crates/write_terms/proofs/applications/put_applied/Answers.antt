@@ -6,4 +6,4 @@ use Rattle.write_terms.proofs.applications.put_applied.Goals as goal
 
 pub returns : goal.returns
 unfolding bytes
-returns c = spells_applied c.put_byte-a.ensures c.put_head-b.ensures c.put_closed.ensures
+returns c = spells_applied c.put_byte.ensures c.put_head.ensures c.put_closed.ensures

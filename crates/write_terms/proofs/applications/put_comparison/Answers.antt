@@ -6,4 +6,4 @@ use Rattle.write_terms.proofs.applications.put_comparison.Goals as goal
 
 pub returns : goal.returns
 unfolding bytes
-returns c = spells_comparison _ c.put_at-a.ensures c.put_arguments-b.ensures c.put_byte-d.ensures c.put_int_min-e.ensures c.put_byte.ensures
+returns c = spells_comparison c.args.compared c.put.ensures c.put_arguments.ensures c.put_byte.ensures c.put_int_min.ensures c.put_byte-2.ensures

@@ -6,4 +6,4 @@ use Rattle.write_terms.proofs.applications.put_like.Goals as goal
 
 pub returns : goal.returns
 unfolding bytes
-returns c = spells_like (c.args.like).pattern c.pattern_bytes-p.ensures c.put_at-a.ensures c.put_arguments-b.ensures c.put_byte-d.ensures c.put_pattern-e.ensures c.put_byte.ensures
+returns c = spells_like c.args.arguments c.args.pattern.now c.put.ensures c.put_arguments.ensures c.put_byte.ensures c.put_pattern.ensures c.put_byte-2.ensures

@@ -7,4 +7,4 @@ use Rattle.write_terms.proofs.applications.put_zero_extend.Goals as goal
 
 pub returns : goal.returns
 unfolding bytes
-returns c = says (zero_extend_pieces _) (c.put_at-a.ensures then c.put_decimal-b.ensures then c.put_byte.ensures)
+returns c = says (rw (← c.from.ensures) (zero_extend_pieces _)) (c.put.ensures then c.put_decimal.ensures then c.put_byte.ensures)

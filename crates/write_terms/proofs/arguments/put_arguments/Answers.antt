@@ -1,24 +1,18 @@
--- `write_terms::arguments::put_arguments` meets its contract. The loop's invariant: the children that are left, after those that were written, make the whole.
+-- `write_terms::arguments::put_arguments` meets its contract. The loop's invariant: what writes the children that are left writes all.
 -- Assumes nothing.
-use mathlib.Core.Path.{refl}
 use Rattle.script_spec.specs.Base.{bytes}
-use Rattle.write_terms.proofs.ArgumentLaws.{arguments_start, arguments_on, arguments_past, arguments_end}
-use native.Mathlib.Omega.{arith}
-use borrow.Author.Rules.{rules}
+use Rattle.write_terms.proofs.ArgumentLaws.{left_start, left_on, left_past, left_end}
 use Rattle.write_terms.proofs.arguments.put_arguments.Goals as goal
 
-pub loop-rest-init : goal.loop-rest-init
-loop-rest-init c = (arguments_start, refl)
+pub loop-child-init : goal.loop-child-init
+loop-child-init c = rw c.into_iter-child-iterator.ensures.into_iter_gives left_start
+
+pub loop-child-preserved : goal.loop-child-preserved
+unfolding bytes
+loop-child-preserved c = left_on (rw c.in-Some.ensures.steps at c.loop-child.invariant) c.put_byte.ensures c.put_atom.ensures
 
 pub returns-then-is_past : goal.returns-then-is_past
-returns-then-is_past c = arguments_past (c.loop-rest.invariant).0 c.is_past.ensures c.if-is_past.true
-
-pub loop-rest-smaller : goal.loop-rest-smaller
-loop-rest-smaller c = omega (arith, (c.take_child-child.ensures).fewer c.loop-rest-test.true)
-
-pub loop-rest-preserved : goal.loop-rest-preserved
-unfolding bytes
-loop-rest-preserved c = (arguments_on (c.loop-rest.invariant).0 c.loop-rest-test.true c.take_child-child.ensures c.put_byte-a.ensures c.put_atom-place.ensures, search rules)
+returns-then-is_past c = left_past c.loop-child.invariant c.is_past.ensures c.if-is_past.true
 
 pub returns : goal.returns
-returns c = arguments_end (c.loop-rest.invariant).0 c.loop-rest-test.false
+returns c = left_end (rw c.in-None.ensures.steps.0 at c.loop-child.invariant)

@@ -4,10 +4,10 @@ use Rattle.script_spec.specs.Base.{bytes}
 use Rattle.write_terms.proofs.ArgumentLaws.{closed_none, closed_some}
 use Rattle.write_terms.proofs.arguments.put_closed.Goals as goal
 
-pub returns-then-c-eq0 : goal.returns-then-c-eq0
+pub returns-then-children-eq0 : goal.returns-then-children-eq0
 unfolding bytes
-returns-then-c-eq0 c = closed_none c.if-c-eq0.true c.put_at.ensures
+returns-then-children-eq0 c = closed_none c.args.children c.if-children-eq0.true c.put.ensures
 
 pub returns : goal.returns
 unfolding bytes
-returns c = closed_some c.if-c-eq0.false c.put_arguments-a.ensures c.put_byte.ensures
+returns c = closed_some c.args.children c.if-children-eq0.false c.put_arguments.ensures c.put_byte.ensures

@@ -1,12 +1,8 @@
--- `write_terms::definitions::put_comparison` meets its contract: nothing counts, or head, term and end are a line.
+-- `write_terms::definitions::put_comparison` meets its contract.
 -- Assumes nothing.
 use Rattle.write_terms.proofs.ApplicationLaws.{spells_compared}
-use Rattle.write_terms.proofs.BodyLaws.{body_over_lem}
-use Rattle.write_terms.proofs.DefinitionLaws.{definition_past, definition_line}
+use Rattle.write_terms.proofs.DefinitionLaws.{defined}
 use Rattle.write_terms.proofs.definitions.put_comparison.Goals as goal
 
-pub returns-then-room-eq0 : goal.returns-then-room-eq0
-returns-then-room-eq0 c = definition_past c.if-room-eq0.true
-
 pub returns : goal.returns
-returns c = definition_line c.put_head-a.ensures (λ f S I N l is. body_over_lem is.is S (spells_compared c.put_comparison-b.ensures f S I N l is.is is.becomes)) c.put_end.ensures
+returns c = defined (λ x y p. spells_compared c.args.compared p.1) c.define.ensures

@@ -6,4 +6,4 @@ use Rattle.write_terms.proofs.lines.put_constructed.Goals as goal
 
 pub returns : goal.returns
 unfolding bytes
-returns c = spells_constructed c.put_byte-a.ensures c.put_sort-b.ensures c.put_byte-c.ensures c.put_literal-d.ensures c.put_byte.ensures
+returns c = spells_constructed c.args.id.now c.put_byte.ensures c.put_sort.ensures c.put_byte-2.ensures c.put_literal.ensures c.put_byte-3.ensures

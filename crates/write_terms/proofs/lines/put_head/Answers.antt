@@ -7,4 +7,4 @@ use Rattle.write_terms.proofs.lines.put_head.Goals as goal
 
 pub returns : goal.returns
 unfolding bytes opened
-returns c = spells_head c.put_define_fun-a.ensures c.put_term_name-b.ensures c.put_at-c.ensures c.put_term_sort-d.ensures c.put_byte.ensures
+returns c = spells_head c.put_define_fun.ensures c.put_term_name.ensures c.put.ensures c.put_term_sort.ensures c.put_byte.ensures

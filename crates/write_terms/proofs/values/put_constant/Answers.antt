@@ -6,4 +6,4 @@ use Rattle.write_terms.proofs.values.put_constant.Goals as goal
 
 pub returns : goal.returns
 unfolding bytes
-returns c = spells_constant c.put_at-a.ensures c.put_at-b.ensures c.put_byte-c.ensures c.put_term_sort-d.ensures c.put_byte.ensures
+returns c = spells_constant c.put.ensures c.put-2.ensures c.put_byte.ensures c.put_term_sort.ensures c.put_byte-2.ensures

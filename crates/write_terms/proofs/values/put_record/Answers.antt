@@ -4,10 +4,9 @@ use Rattle.script_spec.specs.Base.{bytes}
 use Rattle.write_terms.proofs.ValueLaws.{record_none, spells_record}
 use Rattle.write_terms.proofs.values.put_record.Goals as goal
 
-pub returns-then-c-eq0 : goal.returns-then-c-eq0
-unfolding bytes
-returns-then-c-eq0 c = record_none c.if-c-eq0.true c.put_term_sort.ensures
+pub returns-then-term-eq0 : goal.returns-then-term-eq0
+returns-then-term-eq0 c = record_none c.if-term-eq0.true c.put_term_sort.ensures
 
 pub returns : goal.returns
 unfolding bytes
-returns c = spells_record c.if-c-eq0.false c.put_byte-a.ensures c.put_term_sort-b.ensures c.put_arguments-d.ensures c.put_byte.ensures
+returns c = spells_record c.if-term-eq0.false c.put_byte.ensures c.put_term_sort-2.ensures c.put_arguments.ensures c.put_byte-2.ensures

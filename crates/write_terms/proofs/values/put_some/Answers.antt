@@ -6,4 +6,4 @@ use Rattle.write_terms.proofs.values.put_some.Goals as goal
 
 pub returns : goal.returns
 unfolding bytes
-returns c = spells_some c.put_at-a.ensures c.put_atom-b.ensures c.put_byte.ensures
+returns c = spells_some c.put.ensures c.put_atom.ensures c.put_byte.ensures

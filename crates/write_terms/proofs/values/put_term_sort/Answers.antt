@@ -1,8 +1,7 @@
 -- `write_terms::values::put_term_sort` meets its contract.
 -- Assumes nothing.
-use mathlib.Core.Path.{◌∙◌}
 use Rattle.write_terms.proofs.ValueLaws.{term_sort}
 use Rattle.write_terms.proofs.values.put_term_sort.Goals as goal
 
 pub returns : goal.returns
-returns c = term_sort (c.get-t.ensures ∙ (rw (c.wide.ensures).0)) c.put_sort.ensures
+returns c = term_sort c.get.ensures c.put_sort.ensures

@@ -1,20 +1,17 @@
--- `write_types::datatype_comments::put_enum_comment` meets its contract: nothing with no room, and else piece by piece.
--- Assumes nothing.
-use mathlib.Core.Path.{refl, ◌∙◌}
+-- `write_types::datatype_comments::put_enum_comment` meets its contract: the comment's text, piece by piece, between its two bytes and the end of
+-- the line. Assumes nothing.
+use mathlib.Core.Path.{refl, sym}
+use Rattle.std.proofs.Common.{rules}
 use Rattle.script_spec.specs.Base.{bytes}
-use Rattle.smtlib_script.specs.Opened.{opened}
 use Rattle.script_spec.specs.Spelling.{entity_comment}
-use Rattle.smtlib_script.proofs.Lines.{comment_written}
-use Rattle.write_bytes.proofs.Laws.{line_past, line_some}
-use Rattle.write_text.proofs.CommentLaws.{◌also◌}
+use Rattle.write_bytes.proofs.Laws.{says}
+use Rattle.write_text.proofs.CommentLaws.{◌also◌, reached, comment_written}
+use Rattle.smtlib_script.specs.Opened.{opened}
+use Rattle.smtlib_script.proofs.Lines.{line_comment}
 use Rattle.write_types.proofs.datatype_comments.put_enum_comment.Goals as goal
-
-pub returns-then-room-eq0 : goal.returns-then-room-eq0
-returns-then-room-eq0 c = rw c.if-room-eq0.true (line_past (line_some _))
-
-pub shape_of-rest : goal.shape_of-rest
-shape_of-rest c = c.put_byte.auto.out ∙ c.put_comment_text-e.auto.out ∙ c.put_texts-d.auto.out ∙ c.put_comment_text-c.auto.out ∙ c.put_comment_text-b.auto.out ∙ c.put_word-a.auto.out
 
 pub returns : goal.returns
 unfolding opened bytes entity_comment
-returns c = comment_written refl c.put_word-a.ensures (c.put_comment_text-b.ensures also c.put_comment_text-c.ensures also c.put_texts-d.ensures also c.put_comment_text-e.ensures) c.put_byte.ensures
+returns c =
+    let text = c.put.ensures also c.put-2.ensures also c.put_texts.ensures also c.put-3.ensures in
+    says (line_comment _) (comment_written c.put_word.ensures refl refl text (reached (sym text.lent) (λ a. grind rules)) c.put_byte.ensures)

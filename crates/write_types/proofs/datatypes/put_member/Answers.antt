@@ -8,4 +8,4 @@ use Rattle.write_types.proofs.datatypes.put_member.Goals as goal
 
 pub returns : goal.returns
 unfolding bytes entity_symbol
-returns c = says (member_pieces _ _) (c.put_at-a.ensures then c.put_name-b.ensures then c.put_at-c.ensures then c.put_decimal-d.ensures then c.put_byte.ensures)
+returns c = says (member_pieces _ _) (c.put.ensures then c.put_name.ensures then c.put-2.ensures then (rw (← c.from.ensures) c.put_decimal.ensures) then c.put_byte.ensures)

@@ -3,8 +3,8 @@
 use Rattle.write_types.proofs.LineLaws.{entity_found, entity_plain}
 use Rattle.write_types.proofs.lines.declare_entity_type.Goals as goal
 
-pub returns-then-i-sizes : goal.returns-then-i-sizes
-returns-then-i-sizes c = entity_found c.find-i.ensures c.if-i-sizes.true c.declare_enum_type.ensures
+pub returns-in-Some : goal.returns-in-Some
+returns-in-Some c = entity_found _ c.find.ensures c.in-Some.is c.declare_enum_type.ensures
 
-pub returns : goal.returns
-returns c = entity_plain c.find-i.ensures c.if-i-sizes.false c.declare_plain_type.ensures
+pub returns-in-None : goal.returns-in-None
+returns-in-None c = entity_plain _ c.find.ensures c.in-None.is c.declare_plain_type.ensures

@@ -1,8 +1,9 @@
--- `write_types::lines::declare_enum_type` meets its contract: a line, and a line in the rest after it.
+-- `write_types::lines::declare_enum_type` meets its contract: a line, and a line after it.
 -- Assumes nothing.
-use mathlib.Core.Path.{◌∙◌}
 use Rattle.write_types.proofs.LineLaws.{enum_lines}
+use Rattle.std.proofs.Common.{rules}
+use Rattle.write_types.proofs.MemberLaws.{enum_lent}
 use Rattle.write_types.proofs.lines.declare_enum_type.Goals as goal
 
 pub returns : goal.returns
-returns c = enum_lines (c.get-offset.ensures ∙ (rw (c.wide.ensures).0)) c.enum_at-e.ensures c.body_at-body.ensures c.put_enum_comment-at.ensures c.rest_from-from.ensures c.room-left.ensures c.put_enum_declaration-length.ensures c.past_line.ensures
+returns c = enum_lines _ c.get.ensures c.enum_at-members.ensures c.put_enum_comment.ensures (enum_lent (λ x y s. search rules) c.lend.ensures)

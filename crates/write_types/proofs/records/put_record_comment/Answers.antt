@@ -1,16 +1,18 @@
--- `write_types::records::put_record_comment` meets its contract: nothing with no room, and else piece by piece.
+-- `write_types::records::put_record_comment` meets its contract: the comment's text, piece by piece, between its two bytes and the end of the line.
 -- Assumes nothing.
-use mathlib.Core.Path.{refl}
+use mathlib.Core.Path.{refl, sym}
+use Rattle.std.proofs.Common.{rules}
 use Rattle.script_spec.specs.Base.{bytes}
+use Rattle.write_bytes.proofs.Laws.{says}
+use Rattle.write_text.proofs.CommentLaws.{◌also◌, reached, comment_written}
 use Rattle.smtlib_script.specs.Opened.{opened}
-use Rattle.smtlib_script.proofs.Lines.{comment_written}
-use Rattle.write_bytes.proofs.Laws.{line_past, line_some}
-use Rattle.write_text.proofs.CommentLaws.{◌also◌}
+use Rattle.smtlib_script.proofs.Lines.{line_comment}
+use Rattle.index_entry.proofs.Places.{names_are}
 use Rattle.write_types.proofs.records.put_record_comment.Goals as goal
-
-pub returns-then-room-eq0 : goal.returns-then-room-eq0
-returns-then-room-eq0 c = rw c.if-room-eq0.true (line_past (line_some _))
 
 pub returns : goal.returns
 unfolding opened bytes
-returns c = comment_written refl c.put_word-a.ensures (c.put_comment_text-b.ensures also c.put_texts-c.ensures also c.put_comment_text-d.ensures) c.put_byte.ensures
+returns c =
+    let names = rw (c.names.ensures, names_are (c.args.attributes)) at c.put_texts.ensures in
+    let text = c.put.ensures also names also c.put-2.ensures in
+    says (line_comment _) (comment_written c.put_word.ensures refl refl text (reached (sym text.lent) (λ a. grind rules)) c.put_byte.ensures)

@@ -5,10 +5,10 @@ use Rattle.write_bytes.proofs.Laws.{says}
 use Rattle.write_types.specs.Sorts.{opened_part}
 use Rattle.write_types.proofs.sorts.put_opened.Goals as goal
 
-pub returns-then-set : goal.returns-then-set
+pub returns-in-Option : goal.returns-in-Option
 unfolding bytes opened_part
-returns-then-set c = says (rw c.if-set.true) c.put_at.ensures
+returns-in-Option c = says (rw c.in-Option.is) c.put.ensures
 
-pub returns : goal.returns
+pub returns-in-Set : goal.returns-in-Set
 unfolding bytes opened_part
-returns c = says (rw c.if-set.false) c.put_at-2.ensures
+returns-in-Set c = says (rw c.in-Set.is) c.put-in-Set.ensures

@@ -1,0 +1,7 @@
+-- The hash of the type, scaled.
+-- Assumes nothing.
+use Rattle.check_types.proofs.Hashes.{home_found}
+use Rattle.check_types.proofs.Sought.home.Goals as goal
+
+pub returns : goal.returns
+returns c = λ W. home_found (c.hash.ensures W) c.scale.ensures

@@ -1,0 +1,35 @@
+-- The numbers of the refusals, and what a call answers in the terms of the definitions: its value, or a refusal's number and place.
+-- Assumes nothing.
+use Rattle.std.specs.Prelude.{ℕ, Result, Ok, Err}
+use Rattle.script_spec.specs.Base.{Answer, accepted, refused}
+use Rattle.refusal.specs.declared.Refusal.{Refusal}
+use Rattle.refusal.specs.declared.Refusal.TheVariants.{FileTooLong, MemoryTooSmall, CutShort, UnknownMark, Misfit, NotUtf8, OutOfRange, NoSuchRecord, NotAscending, NothingGiven, SecondEnum, TypeNotListed, TooMany, NotMember, HighCodePoint, NoAttribute, NotRecord, TypeNotDeclared, NoArgument, NoRoom}
+use Rattle.refusal.specs.declared.Refused.{Refused}
+
+-- the number of a refusal
+unfoldable pub number : Refusal → ℕ
+number FileTooLong = 1
+number MemoryTooSmall = 2
+number CutShort = 3
+number UnknownMark = 4
+number Misfit = 5
+number NotUtf8 = 6
+number OutOfRange = 7
+number NoSuchRecord = 8
+number NotAscending = 9
+number NothingGiven = 10
+number SecondEnum = 11
+number TypeNotListed = 12
+number TooMany = 13
+number NotMember = 14
+number HighCodePoint = 15
+number NoAttribute = 16
+number NotRecord = 17
+number TypeNotDeclared = 18
+number NoArgument = 19
+number NoRoom = 20
+
+-- an answer, with its value in other terms
+unfoldable pub answered : {A B : Type 0} → (A → B) → Result A Refused → Answer B
+answered f (Ok a) = accepted (f a)
+answered f (Err r) = refused (number r.refusal) r.place

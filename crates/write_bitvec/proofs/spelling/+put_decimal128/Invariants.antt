@@ -1,0 +1,6 @@
+-- `write_bitvec::spelling::put_decimal128` ends: the tenth of a number is smaller.
+-- Assumes nothing.
+use Rattle.write_bitvec.proofs.spelling.+put_decimal128.Given as goal
+
+abbrev pub decreases-put_decimal128 : goal.decreases-put_decimal128
+decreases-put_decimal128 a = a.n
