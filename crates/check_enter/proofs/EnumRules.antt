@@ -6,7 +6,6 @@ use native.Mathlib.Omega.{arith}
 use mathlib.Core.Bool.{Bool, true, false, not}
 use mathlib.Core.List.{List, [], ◌∷◌}
 use mathlib.Core.Option.{some}
-use lib.ListN.{length}
 use Rattle.std.specs.Prelude as rust
 use Rattle.std.specs.Prelude.{Option, Some, None, Ok, Err}
 use Rattle.script_spec.specs.Base.{Bytes, is_some, lookup, ascending, empty}

@@ -1,6 +1,6 @@
 -- A term is entered: the rules by its numbers, its type among those that are listed, and its row.
 -- Assumes nothing.
-use mathlib.Core.Path.{◌≡◌, refl, sym, ap, ◌∙◌, subst}
+use mathlib.Core.Path.{◌≡◌, refl, sym, ap, ◌∙◌}
 use Prim.Native.Nat.{ℕ, suc, ◌+◌, ◌≤◌, ◌<◌, min}
 use Rattle.std.specs.Prelude as rust
 use Rattle.std.specs.Prelude.{Result, Ok, Err}

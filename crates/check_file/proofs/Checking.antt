@@ -9,7 +9,7 @@ use Rattle.script_spec.specs.Base.{Bytes}
 use Rattle.index.specs.declared.Sizes.{Sizes}
 use Rattle.refusal.specs.Numbers.{answered}
 use Rattle.refusal.specs.declared.Refused.{Refused}
-use Rattle.check_file.specs.Promise.{checked_as, without_records, Checks, Accepts, Refuses, Fills}
+use Rattle.check_file.specs.Promise.{checked_as, without_records, Checks, Fills}
 
 module _ (file : Bytes) (work : List ℕ) where
   pub check_refused : {work' : List ℕ} {r : Refused} → Fills file work work' (Err r) → Checks file work work' (Err r)

@@ -1,6 +1,6 @@
 -- Filling the index: each way out of it.
 -- Assumes nothing.
-use mathlib.Core.Path.{◌≡◌, refl, sym, ap, ◌∙◌}
+use mathlib.Core.Path.{◌≡◌, ap, ◌∙◌}
 use Prim.Native.Nat.{ℕ, ◌*◌, ◌/◌, ◌≤◌, ◌<◌}
 use native.Mathlib.Omega.{arith}
 use mathlib.Core.List.{List}
@@ -19,6 +19,10 @@ use Rattle.check_file.specs.Stepping.{EntersAll}
 use Rattle.check_file.proofs.Over.{placed_at}
 use Rattle.check_file.proofs.Records.{checked_long, checked_narrow, checked_records}
 
+-- what is behind a reference, by its ghost name
+pub reached : {A : Type 0} {y z : A} {m n : ℕ} → m ≡ n → (m ≡ n → y ≡ z) → y ≡ z
+reached e f = f e
+
 -- ---- refusals before the first record
 
 module _ (file : Bytes) {work work' : List ℕ} {r : Refused} where
@@ -33,25 +37,26 @@ module _ (file : Bytes) {work work' : List ℕ} {r : Refused} where
 -- ---- after the records
 
 module _ (file : Bytes) (work : List ℕ) {v w : RecordsMut} (is : v.file.now ≡ file) (short : length file ≤ 1048576) (room : 2 * length file ≤ length work) where
-  pub fills_done : EntersAll v w (Ok tt) → v.sizes.rows ≡ length file / 6 → Fills file work w.work.now (Ok w.sizes)
+  pub fills_done : {work' : List ℕ} → EntersAll v w (Ok tt) → v.sizes.rows ≡ length file / 6 → work' ≡ w.work.now → Fills file work work' (Ok w.sizes)
   unfolding answered
-  fills_done E rows =
+  fills_done E rows left =
       let A = E.told in
       let I = rw (E.kept.file_is, is) at A.counted.indexed in
-      record {
+      rw left (record {
         records = A.records;
         accepts = checked_records file (length work) short room ∙ (rw is at A.is);
         rows_are = E.kept.rows_are ∙ rows;
         index = record { rows = I.index; sizes_are = A.counted.sizes_are; small = omega (arith, E.kept.rows_are, rows, short, capacity_fits (length file)) };
         unnamed = I.depths.unnamed;
-      }
+      })
 
-  pub fills_broken : {e : Refusal} {place : ℕ} {work' : List ℕ} {r : Refused} → EntersAll v w (Err e) → (together w.sizes < 4294967296 → place ≡ together w.sizes) → Refusing w.work.now work' e place r → length v.work.now ≡ length work → Fills file work work' (Err r)
+  pub fills_broken : {e : Refusal} {place : ℕ} {work' work'' : List ℕ} {r : Refused} → EntersAll v w (Err e) → (together w.sizes < 4294967296 → place ≡ together w.sizes) → Refusing w.work.now work'' e place r → length v.work.now ≡ length work
+      → work' ≡ work'' → Fills file work work' (Err r)
   unfolding answered
-  fills_broken {e} {place} E p Z same =
+  fills_broken {e} {place} E p Z same left =
       let A = E.told in
       let here : place ≡ length A.records = placed_at A.records A.sizes_are A.few p in
       record {
         refuses = rw (Z.refusal_is, Z.place_is, here) (checked_records file (length work) short room ∙ (rw is at A.is));
-        cleared = Z.cleared ∙ ap (λ (m : ℕ). replicate m 0) (E.kept.size ∙ same);
+        cleared = left ∙ Z.cleared ∙ ap (λ (m : ℕ). replicate m 0) (E.kept.size ∙ same);
       }

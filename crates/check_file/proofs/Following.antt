@@ -3,11 +3,10 @@
 use mathlib.Core.Path.{◌≡◌, subst}
 use Prim.Native.Nat.{ℕ}
 use mathlib.Core.List.{List}
-use Rattle.script_spec.specs.Base.{Bytes}
 use Rattle.script_spec.specs.Fields.{Earlier}
 use Rattle.script_spec.specs.File.{earlier}
 use Rattle.index.specs.Cells.{type_offsets}
-use Rattle.index.specs.declared.Sizes.{Sizes}
+use Rattle.index.specs.declared.Records.{Records}
 use Rattle.read_record.specs.Bodies.{earlier_with}
 use Rattle.read_record.specs.Records.{NextRecord}
 use Rattle.read_record.specs.declared.Record.{Record}
@@ -16,11 +15,11 @@ use Rattle.std.specs.Prelude.{Result}
 use Rattle.check_file.specs.Reading.{ReadsNext}
 use Rattle.check_file.proofs.Entities.{after_earlier}
 
-module _ (file : Bytes) (work : List ℕ) (at : ℕ) (sizes : Sizes) {r : Result Record Refusal} where
-  pub reads_next : {offsets : List ℕ} → offsets ≡ type_offsets work sizes.types → NextRecord (earlier_with sizes.types sizes.funs sizes.terms file offsets) file at r → ReadsNext file work at sizes r
+module _ (c : Records) (at : ℕ) {r : Result Record Refusal} where
+  pub reads_next : {offsets : List ℕ} → offsets ≡ type_offsets c.work.now c.sizes.types → NextRecord (earlier_with c.sizes.types c.sizes.funs c.sizes.terms c.file.now offsets) c.file.now at r → ReadsNext c at r
   reads_next {offsets} is N =
       record {
         go = λ f I S.
-            let same : earlier_with sizes.types sizes.funs sizes.terms file offsets ≡ earlier f = rw (is, S.types_are, S.funs_are, S.terms_are) (after_earlier I) in
-            subst (λ (x : Earlier). NextRecord x file at r) same N;
+            let same : earlier_with c.sizes.types c.sizes.funs c.sizes.terms c.file.now offsets ≡ earlier f = rw (is, S.types_are, S.funs_are, S.terms_are) (after_earlier I) in
+            subst (λ (x : Earlier). NextRecord x c.file.now at r) same N;
       }

@@ -1,18 +1,11 @@
 -- A step of the loop by the rule that the next record breaks, or that it breaks none.
 -- Assumes nothing.
-use mathlib.Core.Path.{◌≡◌, sym, ap, ◌∙◌}
-use Prim.Native.Nat.{ℕ, suc}
-use mathlib.Core.List.{List, [], ◌∷◌, ◌++◌}
+use mathlib.Core.Path.{◌≡◌, ◌∙◌}
+use Prim.Native.Nat.{ℕ}
 use mathlib.Core.Option.{none, some}
-use native.Mathlib.Numerals.{add-one}
-use lib.ListN.{length, length-append}
 use Rattle.script_spec.specs.Base.{Bytes}
-use Rattle.script_spec.specs.Tree.{Ty, Fun, Tm}
 use Rattle.script_spec.specs.Fields.{got, bad, Entry}
-use Rattle.script_spec.specs.File.{TermFile, type, enum, func, term, input, types, funs, terms, enums, inputs, named, earlier, rules, broken, kept, next_record}
-use Rattle.index.specs.Meaning.{SizesOf}
-use Rattle.index.specs.declared.Sizes.{Sizes}
-use Rattle.index.proofs.Growth.{lists_type, lists_enum, lists_func, lists_term, lists_input}
+use Rattle.script_spec.specs.File.{TermFile, named, earlier, rules, broken, kept, next_record}
 use Rattle.read_record.specs.Records.{read_record}
 use Rattle.check_file.proofs.Reading.{next_got}
 

@@ -1,10 +1,10 @@
 -- The loop over the records: what is reached at a place of the file, from the start to the answer.
 -- Assumes nothing.
-use mathlib.Core.Path.{◌≡◌, refl, ap, ◌∙◌}
+use mathlib.Core.Path.{◌≡◌, ap, ◌∙◌}
 use Prim.Native.Nat.{ℕ, ◌*◌, ◌/◌, ◌≤◌, ◌<◌}
 use native.Mathlib.Omega.{arith}
 use mathlib.Core.List.{List, [], ◌∷◌, ◌++◌}
-use lib.ListN.{length, drop, length-append, length-take, length-drop, length-replicate}
+use lib.ListN.{length, length-append, length-take, length-drop, length-replicate}
 use native.Mathlib.Decide.{dec_le}
 use borrow.Author.Tests.{le-leb, lt-leb}
 use Rattle.std.specs.Prelude.{Ok, Err}
@@ -12,14 +12,13 @@ use Rattle.script_spec.specs.Base.{collect}
 use Rattle.script_spec.specs.File.{TermFile, types, funs, terms, enums, inputs}
 use Rattle.index.specs.Cells.{cell, emptied, zeroed, hash}
 use Rattle.index.specs.Held.{Becomes}
-use Rattle.index.specs.Meaning.{SizesOf}
 use Rattle.index.specs.declared.Sizes.{Sizes}
 use Rattle.index.specs.declared.RecordsMut.{RecordsMut}
 use Rattle.index.proofs.Cells.{capacity_fits}
 use Rattle.index.proofs.Columns.{cell_emptied}
 use Rattle.index_search.proofs.Entered.{indexed_none}
 use Rattle.refusal.specs.declared.Refusal.{Refusal}
-use Rattle.check_enter.specs.Entering.{Keeps, Counted}
+use Rattle.check_enter.specs.Entering.{Keeps}
 use Rattle.check_enter.proofs.Rewritten.{keeps_same, keeps_then}
 use Rattle.check_file.specs.Stepping.{Before, Stepped, TurnedBack, Steps, EntersAll}
 use Rattle.check_file.proofs.Records.{Rest, rest_start, rest_end, rest_bad, rest_got}

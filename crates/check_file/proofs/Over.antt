@@ -1,21 +1,20 @@
 -- A record that was read is entered by its kind: the step over it from what entering it promises.
 -- Assumes nothing.
-use mathlib.Core.Path.{◌≡◌, refl, ap, ◌∙◌, subst}
+use mathlib.Core.Path.{◌≡◌, ap, ◌∙◌, subst}
 use Prim.Native.Nat.{ℕ, suc, ◌≤◌, ◌<◌}
 use native.Mathlib.Omega.{arith}
-use mathlib.Core.List.{[], ◌∷◌, ◌++◌, map}
+use mathlib.Core.List.{map}
 use lib.ListN.{length, drop}
 use Rattle.std.specs.Prelude.{Result, Ok, Err, Some}
 use Rattle.script_spec.specs.Tree.{uuf, node, forest}
 use Rattle.script_spec.specs.Fields.{got, Entry}
-use Rattle.script_spec.specs.File.{TermFile, Named, type, enum, func, term, input, type_at, term_at, named_mark, named, earlier, rules, broken}
+use Rattle.script_spec.specs.File.{TermFile, Named, type, func, term, input, type_at, term_at, named_mark, named, earlier, rules, broken}
 use Rattle.index.specs.Standing.{mark_at, body_at, entry_at}
 use Rattle.index.specs.Meaning.{Stands, SizesOf}
 use Rattle.index.specs.declared.Sizes.{Sizes}
 use Rattle.index.specs.declared.RecordsMut.{RecordsMut}
 use Rattle.index.proofs.Cells.{below_capacity}
 use Rattle.index.proofs.Growth.{counts_fewer, counts_together}
-use Rattle.refusal.specs.Numbers.{number}
 use Rattle.refusal.specs.declared.Refusal.{Refusal}
 use Rattle.read_record.specs.Marks.{MarkedAs, Marked}
 use Rattle.read_record.specs.declared.mark.Kind.{Kind}

@@ -8,7 +8,7 @@ use mathlib.Core.Option.{Option, none, some}
 use lib.Dec.{leb}
 use lib.ListN.{length, take, drop}
 use lib.Seq.{drop-drop}
-use Rattle.script_spec.specs.Base.{Bytes, lookup, is_some}
+use Rattle.script_spec.specs.Base.{Bytes, lookup}
 use Rattle.script_spec.specs.Fields.{Read, got, bad, Reader, Entry, Earlier, low, marks, whole}
 use Rattle.script_spec.specs.File.{TermFile, types, funs, terms, named, earlier, kept, next_record}
 use Rattle.script_spec.proofs.Laws.{never}
@@ -72,11 +72,6 @@ read_record_reads e s x rest h = six (leb 6 (length s)) h
         → ReadAs e (take 2 s) body x
     six false k = never cc
     six true k = middle (lookup (take 2 s) (marks e)) refl k
-
--- its mark is in the table
-pub read_marked : (e : Earlier) (s : Bytes) (x : Entry) (rest : Bytes) → read_record e s ≡ got x rest → is_some (lookup (take 2 s) (marks e)) ≡ true
-unfolding is_some
-read_marked e s x rest h = ap is_some (read_record_reads e s x rest h).found
 
 module _ (file : Bytes) (f : TermFile) (at : ℕ) (x : Entry) (rest : Bytes) (ty : length (types f) ≤ 2 ^ 32) (fn : length (funs f) ≤ 2 ^ 32) (tm : length (terms f) ≤ 2 ^ 32) (read : read_record (earlier f) (drop at file) ≡ got x rest) where
   read_there : ReadAs (earlier f) (mark_at file at) (body_at file at) x

@@ -8,12 +8,12 @@ use Rattle.std.specs.Prelude.{Result, Ok, Err}
 use Rattle.script_spec.specs.Fields.{Entry}
 use Rattle.script_spec.specs.File.{TermFile, earlier}
 use Rattle.index.specs.Standing.{mark_at}
+use Rattle.index.specs.declared.Records.{Records}
 use Rattle.index.specs.declared.RecordsMut.{RecordsMut}
 use Rattle.refusal.specs.declared.Refusal.{Refusal}
-use Rattle.read_record.specs.Marks.{mark, MarkedAs}
+use Rattle.read_record.specs.Marks.{MarkedAs}
 use Rattle.read_record.specs.Records.{Said, IsRecord}
 use Rattle.read_record.specs.declared.Record.{Record}
-use Rattle.check_rules.specs.Marks.{mark_of}
 use Rattle.check_enter.proofs.Rewritten.{keeps_same, unchanged}
 use Rattle.check_file.specs.Reading.{ReadsNext}
 use Rattle.check_file.specs.Stepping.{Before, ReadUpTo, HasMark, EnterTells, StepsOver, Steps}
@@ -28,9 +28,11 @@ over_as same S = record { kept = S.kept; go = λ f B to x R b. S.go f B to x R (
 
 -- ---- the step
 
-module _ {v : RecordsMut} {at : ℕ} {r : Result Record Refusal} (N : ReadsNext v.file.now v.work.now at v.sizes r) where
+module _ {v : RecordsMut} {c : Records} (viewed : (c.file.now ≡ v.file.now) × (c.work.now ≡ v.work.now) × (c.sizes ≡ v.sizes)) {at : ℕ} {r : Result Record Refusal} (N : ReadsNext c at r) where
   said : {s : Result Record Refusal} → r ≡ s → (f : TermFile) → Before f v at → Said (earlier f) v.file.now at s
-  said e f B = subst (λ (r : Result Record Refusal). Said (earlier f) v.file.now at r) e (N.go f B.counted.indexed.index B.counted.sizes_are).is
+  said e f B =
+      let read = rw (viewed.0, viewed.1, viewed.2) at N.go in
+      subst (λ (r : Result Record Refusal). Said (earlier f) v.file.now at r) e (read f B.counted.indexed.index B.counted.sizes_are).is
 
   pub step_bad : {e : Refusal} → r ≡ Err e → Steps v v at (Err e)
   unfolding Said

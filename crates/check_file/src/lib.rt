@@ -27,18 +27,11 @@ pub fn together(sizes: Sizes) -> u32
         .saturating_add(sizes.inputs)
 }
 
-// Clears the memory.
-fn clear(work: &mut [u32])
-    ensures { work.new ≡ replicate (length work.old) 0 }
-{
-    work.fill(0);
-}
-
 // Refuses: clears the memory.
 fn refuse(work: &mut [u32], refusal: Refusal, place: u32) -> Refused
     ensures { Refusing work.old work.new refusal place result }
 {
-    clear(work);
+    work.fill(0);
     Refused { refusal, place }
 }
 
@@ -89,6 +82,6 @@ pub fn check(file: &[u8], work: &mut [u32]) -> Result<(), Refused>
     ensures { Checks file.now work.old work.new result }
 {
     fill(file, work)?;
-    clear(work);
+    work.fill(0);
     Ok(())
 }

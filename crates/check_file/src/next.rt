@@ -2,21 +2,20 @@
 ghost use Rattle.check_file.specs.Reading.{ReadsNext};
 
 use index::Records;
-use read_record::Record;
+use read_record::{Earlier, Record};
 use refusal::Refusal;
 
 // The record at a place, after the records that are there.
 pub fn read_next(records: Records<'_>, at: usize) -> Result<Record, Refusal>
-    ensures { ReadsNext records.entry.file.now records.entry.work.now at records.entry.sizes result }
+    ensures { ReadsNext records.entry at result }
 {
     let sizes = records.sizes;
-    let offsets = records.type_offsets(sizes.types);
-    read_record::next_record(
-        records.file,
-        at,
-        sizes.types,
-        sizes.funs,
-        sizes.terms,
-        offsets,
-    )
+    let earlier = Earlier {
+        file: records.file,
+        offsets: records.type_offsets(sizes.types),
+        types: sizes.types,
+        funs: sizes.funs,
+        terms: sizes.terms,
+    };
+    read_record::next_record(earlier, at)
 }

@@ -14,10 +14,12 @@ use Rattle.script_spec.specs.Fields.{got, text, u32, times, list, enum}
 use Rattle.script_spec.proofs.Laws.{never}
 use Rattle.script_spec.proofs.Readers.{bind_inverse, pure_inverse}
 use denote.Ref.{Bor}
+use Rattle.std.specs.Prelude.{Result, Ok, Err}
+use Rattle.std.specs.Result.{result_unwrap_or}
 use Rattle.refusal.specs.declared.Refusal.{Refusal}
 use Rattle.read_field.specs.Reads.{as_read}
 use Rattle.read_field.specs.declared.Cursor.{Cursor}
-use Rattle.read_field.specs.Takes.{TakesTo, RefusesAt}
+use Rattle.read_field.specs.Takes.{TakesTo, RefusesAt, Takes, bytes_of}
 use Rattle.index.specs.Standing.{entry_at, mark_at, body_at}
 use Rattle.check_rules.specs.Decided.{DecidesList}
 use Rattle.check_rules.specs.Tests.{item_text, any_given}
@@ -32,22 +34,27 @@ here : {body : Bor Bytes} {c : Cursor} → (c.body ≡ body) × (c.at ≡ 0) →
 here {c = c} starts = ap (λ (n : ℕ). drop n c.body.now) starts.1 ∙ ap (λ (b : Bor Bytes). b.now) starts.0
 
 module _ {body : Bor Bytes} {c : Cursor} (starts : (c.body ≡ body) × (c.at ≡ 0)) where
-  pub name_is_read : {d : Cursor} {t : Bytes} → TakesTo text c d t → NameRead body.now t
+  name_is_read : {d : Cursor} {t : Bytes} → TakesTo text c d t → NameRead body.now t
   unfolding as_read
   name_is_read h = let r = rw (here starts) at h.reads.is in record { go = λ u left e. cc (r, e) }
 
-  pub name_bad : {x : Refusal} (name : Bytes) → RefusesAt text c x → NameRead body.now name
+  name_bad : {x : Refusal} (name : Bytes) → RefusesAt text c x → NameRead body.now name
   unfolding as_read
   name_bad name h = let r = rw (here starts) at h.reads.is in record { go = λ u left e. never (cc (r, e)) }
 
   -- the members stand after the name, if it can be read
-  pub members_after : {d : Cursor} {t : Bytes} → TakesTo text c d t → (d.body ≡ body) × MembersFrom body.now d.at
+  members_after : {d : Cursor} {t : Bytes} → TakesTo text c d t → (d.body ≡ body) × MembersFrom body.now d.at
   unfolding as_read
   members_after h = let r = rw (here starts) at h.reads.is in let b = ap (λ (b : Bor Bytes). b.now) starts.0 in (h.body ∙ starts.0, record { go = λ u left e. rw (← b) (cc (r, e)) })
 
-  pub members_bad : {x : Refusal} (at : ℕ) → RefusesAt text c x → MembersFrom body.now at
+  members_bad : {x : Refusal} (at : ℕ) → RefusesAt text c x → MembersFrom body.now at
   unfolding as_read
   members_bad at h = let r = rw (here starts) at h.reads.is in record { go = λ u left e. never (cc (r, e)) }
+
+  pub parts_read : (x : Result (Bor Bytes × Cursor) Refusal) → Takes text c (bytes_of x)
+      → NameRead body.now (result_unwrap_or x (body, c)).0.now × ((result_unwrap_or x (body, c)).1.body ≡ body) × MembersFrom body.now (result_unwrap_or x (body, c)).1.at
+  parts_read (Ok v) h = let m = members_after h in (name_is_read h, m.0, m.1)
+  parts_read (Err e) h = (name_bad _ h, starts.0, members_bad _ h)
 
 -- a list has items where its count is not 0
 times_given : (n : ℕ) (s rest : Bytes) (ts : List Bytes) → times n text s ≡ got ts rest → ltb 0 n ≡ any_given ts
@@ -72,13 +79,13 @@ module _ (file : Bytes) (o : ℕ) (body : Bor Bytes) (is : body.now ≡ body_at 
       let x = enum_read (mark_at file o) (body_at file o) e in
       D.go members [] (subst (λ (s : Bytes). list text s ≡ got members []) (M.go name x.left (ap text is ∙ x.name_is_read)) x.members_read)
 
-  pub enum_ascends : {c : Cursor} {b : Bool} → (c.body ≡ body) × MembersFrom body.now c.at → DecidesList (item_text false) ascending c.body.now c.at b → EnumAscends file o b
+  pub enum_ascends : {c : Cursor} {b : Bool} → c.body ≡ body → MembersFrom body.now c.at → DecidesList (item_text false) ascending c.body.now c.at b → EnumAscends file o b
   unfolding item_text
-  enum_ascends M D = record { go = members_test ascending M.1 (rw M.0 at D) }
+  enum_ascends e M D = record { go = members_test ascending M (rw e at D) }
 
-  pub enum_given : {c : Cursor} {b : Bool} → (c.body ≡ body) × MembersFrom body.now c.at → DecidesList text any_given c.body.now c.at b → EnumGiven file o b
+  pub enum_given : {c : Cursor} {b : Bool} → c.body ≡ body → MembersFrom body.now c.at → DecidesList text any_given c.body.now c.at b → EnumGiven file o b
   unfolding any_given
-  enum_given M D = record { go = members_test any_given M.1 (rw M.0 at D) }
+  enum_given e M D = record { go = members_test any_given M (rw e at D) }
 
   name_is : {t : Bytes} → NameRead body.now t → (name : Bytes) (members : List Bytes) → entry_at file o ≡ some (enum name members) → t ≡ name
   unfolding entry_at

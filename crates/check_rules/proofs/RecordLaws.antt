@@ -6,6 +6,7 @@ use mathlib.Core.Bool.{Bool, true}
 use mathlib.Core.List.{List, [], ◌∷◌}
 use mathlib.Core.Option.{some}
 use types.Run.{OneOf, miss}
+use borrow.Enum.Refused.{Among, opened}
 use denote.Ref.{Bor}
 use Rattle.std.specs.Prelude.{Option as Optional, None, Some}
 use Rattle.read_field.specs.declared.Cursor.{Cursor}
@@ -60,8 +61,8 @@ module _ (file : Bytes) (o : ℕ) {k : Optional Kind} (marked : Marked (mark_at 
   kind_of_entry e = entry_marked file o marked e
 
   -- of another kind
-  pub ascends_other : {l : Kind} → k ≡ Some l → OneOf other_tags (tag_of the_type l) → TypeAscends file o true
-  ascends_other {l} q h = record { go = λ m rs e. let same : l ≡ type_kind m = cc (q, kind_of_entry e) in no_attributes m (subst (λ (x : Kind). OneOf other_tags (tag_of the_type x)) same h) }
+  pub ascends_other : {l : Kind} → k ≡ Some l → Among other_tags (tag_of the_type l) → TypeAscends file o true
+  ascends_other {l} q h = record { go = λ m rs e. let same : l ≡ type_kind m = cc (q, kind_of_entry e) in no_attributes m (subst (λ (x : Kind). OneOf other_tags (tag_of the_type x)) same (opened h)) }
 
   -- of no kind
   pub ascends_none : k ≡ None → TypeAscends file o true

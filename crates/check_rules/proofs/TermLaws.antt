@@ -7,6 +7,7 @@ use mathlib.Core.Bool.{Bool, true, false, not, ◌&&◌}
 use mathlib.Core.List.{List, [], ◌∷◌, map}
 use mathlib.Core.Option.{none, some}
 use types.Run.{OneOf, miss}
+use borrow.Enum.Refused.{Among, opened}
 use mathlib.Core.Logic.{◌⊎◌, inl, inr}
 use denote.Ref.{Bor}
 use denote.Enum.Declared.{tag_of}
@@ -120,8 +121,8 @@ module _ (v : RecordsMut) (o depth : ℕ) {l : Kind} (marked : Marked (mark_at v
   unfolding kind_of
   kind_of_entry e = entry_kind v.file.now o marked e
 
-  pub no_rule : OneOf other_tags (tag_of the_type l) → TermRule v o depth (Ok tt)
-  no_rule h = record { go = λ f m rs δ p g e. other_kind f (cell v.work.now v.sizes.rows term_first) m rs (subst (λ (x : Kind). OneOf other_tags (tag_of the_type x)) (kind_of_entry e) h) }
+  pub no_rule : Among other_tags (tag_of the_type l) → TermRule v o depth (Ok tt)
+  no_rule h = record { go = λ f m rs δ p g e. other_kind f (cell v.work.now v.sizes.rows term_first) m rs (subst (λ (x : Kind). OneOf other_tags (tag_of the_type x)) (kind_of_entry e) (opened h)) }
 
   module _ (body : Bor Bytes) {b : Bool} (is : body.now ≡ body_at v.file.now o) where
     set_decided : l ≡ kind.XC → DecidesList u32 (different_terms v.work.now v.sizes.rows) body.now 4 b → (f : TermFile) (m : TermMark ℕ ℕ) (rs : List ℕ) → entry_at v.file.now o ≡ some (term m rs) → (r : Result (Unit {0}) Refusal) → broken_rule r ≡ broken ((9, b) ∷ []) → Tells f (cell v.work.now v.sizes.rows term_first) m rs r

@@ -29,7 +29,7 @@ fn ascend_after<'a, const NAMED: bool>(rest: Cursor<'a>, first: &'a [u8], count:
         let Ok((next, after)) = item_text::<NAMED>(c) else {
             return true;
         };
-        if !crate::text::before(previous, next) {
+        if !(previous < next) {
             return false;
         }
         previous = next;

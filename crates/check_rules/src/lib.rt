@@ -7,4 +7,3 @@ pub mod members;
 pub mod record;
 pub mod repeats;
 pub mod terms;
-pub mod text;

@@ -9,24 +9,12 @@ use crate::record::list_ascends;
 use index_compare::record::body_at;
 use read_field::Cursor;
 
-// The text at the start of a body.
-fn name_of<'a>(body: &'a [u8]) -> &'a [u8]
-    ensures { NameRead body.now result.now }
+// The text at the start of a body, and what stands after it: an enum's name, and its members.
+fn parts_of<'a>(body: &'a [u8]) -> (&'a [u8], Cursor<'a>)
+    ensures { NameRead body.now result.0.now × (result.1.body ≡ body.entry) × MembersFrom body.now result.1.at }
 {
-    match Cursor::new(body).text() {
-        Ok((name, _)) => name,
-        Err(_) => body,
-    }
-}
-
-// The members in an enum's body.
-fn members_of<'a>(body: &'a [u8]) -> Cursor<'a>
-    ensures { (result.body ≡ body.entry) × MembersFrom body.now result.at }
-{
-    match Cursor::new(body).text() {
-        Ok((_, rest)) => rest,
-        Err(_) => Cursor::new(body),
-    }
+    let start = Cursor::new(body);
+    start.text().unwrap_or((body, start))
 }
 
 // Whether a list has any items.
@@ -43,19 +31,19 @@ fn list_given(list: Cursor<'_>) -> bool
 pub fn members_ascend(file: &[u8], offset: u32) -> bool
     ensures { EnumAscends file.now offset result }
 {
-    list_ascends::<false>(members_of(body_at(file, offset)))
+    list_ascends::<false>(parts_of(body_at(file, offset)).1)
 }
 
 // Rule 10 of an enum: it has members.
 pub fn members_given(file: &[u8], offset: u32) -> bool
     ensures { EnumGiven file.now offset result }
 {
-    list_given(members_of(body_at(file, offset)))
+    list_given(parts_of(body_at(file, offset)).1)
 }
 
 // The name of an enum.
 pub fn name_at<'a>(file: &'a [u8], offset: u32) -> &'a [u8]
     ensures { NameAt file.now offset result.now }
 {
-    name_of(body_at(file, offset))
+    parts_of(body_at(file, offset)).0
 }

@@ -10,13 +10,10 @@ use read_field::Cursor;
 fn ref_at(list: Cursor<'_>, i: u32) -> u32
     ensures { result ≡ ref_at list.entry.body.now list.entry.at i }
 {
-    let step = 4 * (i as usize);
-    if list.left() < step {
+    let Ok((_, here)) = list.part(4 * (i as usize)) else {
         return 0;
-    }
-    let at = list.at + step;
-    let body = list.body;
-    match (Cursor { body, at }).u32_le() {
+    };
+    match here.u32_le() {
         Ok((n, _)) => n,
         Err(_) => 0,
     }

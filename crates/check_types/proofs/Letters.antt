@@ -3,10 +3,8 @@
 use mathlib.Core.Path.{◌≡◌, refl, sym, ap, ◌∙◌, subst}
 use Prim.Native.Nat.{ℕ}
 use native.Mathlib.Omega.{arith}
-use mathlib.Core.List.{List, [], ◌∷◌}
+use mathlib.Core.List.{List, []}
 use mathlib.Core.Option.{some}
-use types.Run.{OneOf, miss}
-use denote.Enum.Declared.{tag_of}
 use lib.ListN.{length, get_or}
 use Rattle.script_spec.specs.Base.{Bytes}
 use Rattle.script_spec.specs.Tree.{TypeMark, Bool·, String·, Option·, Set·, BitVec·, Declared, entity, extension, record_of}
@@ -19,14 +17,10 @@ use Rattle.index.specs.Standing.{loose, mark_at, body_at, entry_at}
 use Rattle.index.proofs.Readers.{◌&◌}
 use Rattle.index_compare.proofs.Standing.{entry_of_inverse}
 use Rattle.index_compare.proofs.Agreement.{lookup_all}
-use Rattle.read_record.specs.Marks.{mark}
-use Rattle.read_record.specs.declared.mark.Kind.{Kind}
-use Rattle.read_record.specs.declared.mark.Kind.TheVariants as kind
-use Rattle.read_record.specs.contracts.mark.Kind.{the_type}
 use Rattle.check_rules.specs.Marks.{datatype_bytes, type_bytes, mark_of}
 use Rattle.check_rules.proofs.Marks.{entry_mark, Yields, yields_pure, yields_after}
-use Rattle.index_entry.proofs.Letters.{type_bytes_lem}
-use Rattle.check_types.specs.Sought.{type_letter, KindSought}
+use Rattle.check_types.specs.declared.Sought.{Sought}
+use Rattle.check_types.specs.Sought.{kind_sought, mark_letter, KindSought}
 
 -- P holds of the mark and the parts of a type, unless it is referred to
 unfoldable pub Over : (TypeMark → List ℕ → Type 0) → TypeBy → Type 0
@@ -47,42 +41,15 @@ letter_of t = get_or (type_bytes t) 1 0
 letter_from : {s r : Bytes} → s ≡ r → get_or s 1 0 ≡ get_or r 1 0
 letter_from e = ap (λ (m : Bytes). get_or m 1 0) e
 
-not_type : {s : Bytes} (t : TypeMark) → s ≡ type_bytes t → (get_or s 0 0 ≡ 84 → ⊥) → ⊥
-not_type t e h = h (ap (λ (m : Bytes). get_or m 0 0) (e ∙ sym (type_bytes_lem t)))
-
--- the letter of a type's kind
-kind_letter : (k : Kind) (t : TypeMark) → mark k ≡ type_bytes t → type_letter k ≡ letter_of t
-unfolding mark type_letter Computes.base
-kind_letter kind.TB t e = letter_from e
-kind_letter kind.TS t e = letter_from e
-kind_letter kind.TV t e = letter_from e
-kind_letter kind.TO t e = letter_from e
-kind_letter kind.TC t e = letter_from e
-kind_letter kind.TE t e = letter_from e
-kind_letter kind.TX t e = letter_from e
-kind_letter kind.TR t e = letter_from e
-kind_letter kind.EN t e = absurd (not_type t e (λ q. omega arith))
-kind_letter kind.UF t e = absurd (not_type t e (λ q. omega arith))
-kind_letter kind.XV t e = absurd (not_type t e (λ q. omega arith))
-kind_letter kind.XB t e = absurd (not_type t e (λ q. omega arith))
-kind_letter kind.XN t e = absurd (not_type t e (λ q. omega arith))
-kind_letter kind.XS t e = absurd (not_type t e (λ q. omega arith))
-kind_letter kind.XE t e = absurd (not_type t e (λ q. omega arith))
-kind_letter kind.XX t e = absurd (not_type t e (λ q. omega arith))
-kind_letter kind.X0 t e = absurd (not_type t e (λ q. omega arith))
-kind_letter kind.X1 t e = absurd (not_type t e (λ q. omega arith))
-kind_letter kind.XC t e = absurd (not_type t e (λ q. omega arith))
-kind_letter kind.XR t e = absurd (not_type t e (λ q. omega arith))
-kind_letter kind.XA t e = absurd (not_type t e (λ q. omega arith))
-kind_letter kind.IN t e = absurd (not_type t e (λ q. omega arith))
-
 -- the second byte of the mark of a type that stands at an offset
 pub type_letter_lem : (file : Bytes) (o : ℕ) {l : ℕ} → l ≡ get_or (mark_at file o) 1 0 → {t : TypeMark} {rs : List ℕ} → entry_at file o ≡ some (type t rs) → l ≡ letter_of t
 unfolding entry_at mark_of
 type_letter_lem file o q e = q ∙ letter_from (entry_mark (mark_at file o) (body_at file o) e)
 
-pub sought_kind_letter : (file : Bytes) (o : ℕ) {k : Kind} → KindSought file o k → {m : TermMark ℕ ℕ} {rs : List ℕ} → entry_at file o ≡ some (term m rs) → (τ : ℕ → ℕ) {t : TypeMark} {ps : List ℕ} → type_by τ m rs ≡ listed t ps → letter_of t ≡ type_letter k
-sought_kind_letter file o {k} K {m} {rs} e τ {t} {ps} by = sym (kind_letter k t (K.go m rs e τ t ps by))
+-- the letter of what is sought is that of the type of the term
+pub sought_kind_letter : (file : Bytes) (o : ℕ) (s : Sought) → KindSought file o (kind_sought s) → {m : TermMark ℕ ℕ} {rs : List ℕ} → entry_at file o ≡ some (term m rs) → (τ : ℕ → ℕ) {t : TypeMark} {ps : List ℕ} → type_by τ m rs ≡ listed t ps → letter_of t ≡ mark_letter s
+unfolding mark_letter
+sought_kind_letter file o s K {m} {rs} e τ {t} {ps} by = sym (letter_from (K.go m rs e τ t ps by))
 
 -- a term that does not refer to its type has no entity type
 pub no_entity : (τ : ℕ → ℕ) (m : TermMark ℕ ℕ) (rs : List ℕ) → Over (λ t parts. letter_of t ≡ 69 → ⊥) (type_by τ m rs)
@@ -98,35 +65,6 @@ no_entity τ Some rs = λ h. omega arith
 no_entity τ (Set n) rs = λ h. omega arith
 no_entity τ (Record names) rs = λ h. omega arith
 no_entity τ (App n op) rs = tt
-
--- the kinds that no type of such a term has: the kind of entity types, and those of records that are no types
-abbrev pub other_tags : List ℕ
-other_tags = 5 ∷ 8 ∷ 9 ∷ 10 ∷ 11 ∷ 12 ∷ 13 ∷ 14 ∷ 15 ∷ 16 ∷ 17 ∷ 18 ∷ 19 ∷ 20 ∷ 21 ∷ []
-
-pub other_kind : (k : Kind) → OneOf other_tags (tag_of the_type k) → (t : TypeMark) → mark k ≡ type_bytes t → (letter_of t ≡ 69 → ⊥) → ⊥
-unfolding mark Computes.base
-other_kind kind.TB h t e n = miss other_tags 0 tt h
-other_kind kind.TS h t e n = miss other_tags 1 tt h
-other_kind kind.TV h t e n = miss other_tags 2 tt h
-other_kind kind.TO h t e n = miss other_tags 3 tt h
-other_kind kind.TC h t e n = miss other_tags 4 tt h
-other_kind kind.TE h t e n = n (sym (letter_from e))
-other_kind kind.TX h t e n = miss other_tags 6 tt h
-other_kind kind.TR h t e n = miss other_tags 7 tt h
-other_kind kind.EN h t e n = not_type t e (λ q. omega arith)
-other_kind kind.UF h t e n = not_type t e (λ q. omega arith)
-other_kind kind.XV h t e n = not_type t e (λ q. omega arith)
-other_kind kind.XB h t e n = not_type t e (λ q. omega arith)
-other_kind kind.XN h t e n = not_type t e (λ q. omega arith)
-other_kind kind.XS h t e n = not_type t e (λ q. omega arith)
-other_kind kind.XE h t e n = not_type t e (λ q. omega arith)
-other_kind kind.XX h t e n = not_type t e (λ q. omega arith)
-other_kind kind.X0 h t e n = not_type t e (λ q. omega arith)
-other_kind kind.X1 h t e n = not_type t e (λ q. omega arith)
-other_kind kind.XC h t e n = not_type t e (λ q. omega arith)
-other_kind kind.XR h t e n = not_type t e (λ q. omega arith)
-other_kind kind.XA h t e n = not_type t e (λ q. omega arith)
-other_kind kind.IN h t e n = not_type t e (λ q. omega arith)
 
 -- ---- how many parts
 

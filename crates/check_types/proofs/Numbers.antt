@@ -3,7 +3,7 @@
 use mathlib.Core.Path.{◌≡◌, refl, sym, ap, ◌∙◌}
 use Prim.Native.Nat.{ℕ}
 use native.Mathlib.Omega.{arith}
-use mathlib.Core.Bool.{true, false}
+use mathlib.Core.Bool.{Bool, true, false, true≢false}
 use mathlib.Core.List.{List, [], ◌∷◌}
 use lib.Dec.{eqb}
 use lib.ListN.{length, get_or}
@@ -74,14 +74,17 @@ same_number t u ns ms h h' l r e q =
     let same : ◌≡◌ {A = TypeMark × List ℕ} (t, ns) (u, ms) = sym (known t ns h (λ z. r (sym l ∙ z)) (λ z. e (sym l ∙ z))) ∙ (λ i. from_number (l i) (q i)) ∙ known u ms h' r e in
     (ap (λ (p : TypeMark × List ℕ). p.0) same, ap (λ (p : TypeMark × List ℕ). p.1) same)
 
--- no field but the mark
-pub no_number : (t : TypeMark) (ns : List ℕ) → (letter_of t ≡ 88 → ⊥) → (letter_of t ≡ 86 → ⊥) → (letter_of t ≡ 79 → ⊥) → (letter_of t ≡ 67 → ⊥) → 0 ≡ type_number t ns
-unfolding type_number type_bytes datatype_bytes Computes.base
-no_number Bool· ns x v o c = refl
-no_number String· ns x v o c = refl
-no_number Option· ns x v o c = absurd (o refl)
-no_number Set· ns x v o c = absurd (c refl)
-no_number (BitVec· n) ns x v o c = absurd (v refl)
-no_number (Declared (entity a)) ns x v o c = refl
-no_number (Declared (extension y)) ns x v o c = absurd (x refl)
-no_number (Declared (record_of names)) ns x v o c = refl
+-- whether types of a letter have no number: no width, no code and no part
+unfoldable pub numberless : ℕ → Bool
+numberless l = elim (eqb l 88) [ true ↦ false | false ↦ elim (eqb l 86) [ true ↦ false | false ↦ elim (eqb l 79) [ true ↦ false | false ↦ elim (eqb l 67) [ true ↦ false | false ↦ true ] ] ] ]
+
+pub no_number : (t : TypeMark) (ns : List ℕ) → numberless (letter_of t) ≡ true → 0 ≡ type_number t ns
+unfolding numberless type_number type_bytes datatype_bytes Computes.base
+no_number Bool· ns e = refl
+no_number String· ns e = refl
+no_number Option· ns e = absurd (true≢false (sym e))
+no_number Set· ns e = absurd (true≢false (sym e))
+no_number (BitVec· n) ns e = absurd (true≢false (sym e))
+no_number (Declared (entity a)) ns e = refl
+no_number (Declared (extension y)) ns e = absurd (true≢false (sym e))
+no_number (Declared (record_of names)) ns e = refl

@@ -3,11 +3,10 @@
 use mathlib.Core.Path.{◌≡◌, refl, sym, ap, ◌∙◌}
 use mathlib.Core.Option.{some}
 use Rattle.std.specs.Prelude.{Result, Ok, Err, Some, None}
-use Prim.Native.Nat.{ℕ, ◌+◌, ◌-◌, ◌/◌, ◌≤◌, ◌<◌}
+use Prim.Native.Nat.{ℕ, ◌<◌}
 use native.Mathlib.Omega.{arith}
 use mathlib.Core.Bool.{Bool}
 use mathlib.Core.List.{List}
-use lib.Dec.{eqb}
 use lib.ListN.{length}
 use Rattle.std.specs.Result.{result_ok}
 use Rattle.script_spec.specs.Base.{Bytes, place}
@@ -16,7 +15,7 @@ use Rattle.script_spec.specs.Fields.{type}
 use Rattle.script_spec.specs.File as record-file
 use Rattle.script_spec.specs.File.{TermFile, types, named, earlier}
 use Rattle.index.proofs.Later.{below_more}
-use Rattle.index.specs.Cells.{cell, type_offset, type_first, term_type}
+use Rattle.index.specs.Cells.{cell, type_offset, type_first}
 use Rattle.index.specs.First.{canonical, first_type, Below, InRange}
 use Rattle.index.specs.Rules.{listed, type_named}
 use Rattle.index.specs.Meaning.{counted, Rows}
@@ -29,12 +28,9 @@ use Rattle.index_search.specs.Slots.{entries}
 use Rattle.index_search.specs.Probed.{Probes}
 use Rattle.index_search.proofs.Probing.{met_equal, unmet_none}
 use Rattle.index_search.proofs.Numbers.{entries_read, type_at_lem}
-use Rattle.read_record.specs.Marks.{Marked}
-use Rattle.read_record.specs.declared.mark.Kind.{Kind}
-use Rattle.index.specs.Standing.{mark_at}
-use Rattle.check_types.specs.Sought.{sought_of, Wanted, SameType}
+use Rattle.check_types.specs.declared.Sought.{Sought}
+use Rattle.check_types.specs.Sought.{Wanted, SameType}
 use Rattle.check_types.specs.Probed.{TypeHome, LooksForType, ListedSought}
-use Rattle.check_types.proofs.TermTypes.{sought_some}
 use Rattle.check_types.proofs.Same.{type_value, seeks_below, decides_same}
 
 -- ---- one type
@@ -49,13 +45,13 @@ same_canonical f t u rs ss b b' =
       from = λ e. canonical_equal f (type t rs) (type u ss) (ap record-file.type e);
     }
 
--- a test of a number says whether the type with that number is the one of a term
-pub record TestsType (file : Bytes) (work : List ℕ) (rows o : ℕ) (sought : Kind) (part : ℕ) (test : ℕ → Bool → Type 0) : Type 0 where
-  pub same : (n : ℕ) (r : Bool) → test n r → Wanted file work rows o sought part → SameType file work rows (cell work rows type_offset n) o r
+-- the test of a type by its number: whether it is the one of each term by which this is sought
+abbrev IsSought : Bytes → List ℕ → ℕ → Sought → ℕ → Bool → Type 0
+IsSought file work rows s n r = (o : ℕ) → Wanted file work rows o s → SameType file work rows (cell work rows type_offset n) o r
 
-module _ {file : Bytes} {work : List ℕ} {k count o part : ℕ} {sought : Kind} {test : ℕ → Bool → Type 0} (W : Wanted file work k o sought part) (T : TestsType file work k o sought part test) {f : TermFile} {t : TypeMark} {ps : List ℕ} (L : LooksForType file work k count o f t ps) where
+module _ {file : Bytes} {work : List ℕ} {k count o : ℕ} {s : Sought} (W : Wanted file work k o s) {f : TermFile} {t : TypeMark} {ps : List ℕ} (L : LooksForType file work k count o f t ps) where
   -- the type n is the one that is sought
-  decides : (n : ℕ) (r : Bool) → n < count → test n r → Decides r (canonical f (entries file work k type_offset n) ≡ canonical f (type t ps))
+  decides : (n : ℕ) (r : Bool) → n < count → IsSought file work k s n r → Decides r (canonical f (entries file work k type_offset n) ≡ canonical f (type t ps))
   unfolding counted
   decides n r below x =
       let S = L.seeks in
@@ -63,7 +59,7 @@ module _ {file : Bytes} {work : List ℕ} {k count o part : ℕ} {sought : Kind}
       type_stands (S.index.type_row n h).stands
       (λ m rs reads b names.
       let b' = below_more _ _ (omega arith) rs b in
-      rw (entries_read file work k type_offset n reads) (decides_same (same_canonical f m t rs ps b' (seeks_below S)) ((T.same n r x W).go f t ps S m rs reads b')))
+      rw (entries_read file work k type_offset n reads) (decides_same (same_canonical f m t rs ps b' (seeks_below S)) ((x o W).go f t ps S m rs reads b')))
 
 -- ---- the number that was found
 
@@ -78,35 +74,31 @@ rows_searched {file} {f} {work} {k} I =
 
 -- ---- the search
 
-module _ {file : Bytes} {work : List ℕ} {k count o b part : ℕ} {sought : Kind} {test : ℕ → Bool → Type 0} (W : Wanted file work k o sought part) (H : TypeHome file work k o b) where
+module _ {file : Bytes} {work : List ℕ} {k count o b : ℕ} {s : Sought} (W : Wanted file work k o s) (H : TypeHome file work k o b) where
   -- a type was met
-  pub type_found : (r : Result ℕ ℕ) {n w : ℕ} → Probes work k 0 count test b r → TestsType file work k o sought part test → result_ok r ≡ Some n → w ≡ cell work k type_first n → ListedSought file work k count o (Some w)
+  pub type_found : (r : Result ℕ ℕ) {n w : ℕ} → Probes work k 0 count (IsSought file work k s) b r → result_ok r ≡ Some n → w ≡ cell work k type_first n → ListedSought file work k count o (Some w)
   unfolding type_named named InRange earlier
-  type_found (Err d) P T e q = let z : ⊥ = cc in absurd z
-  type_found (Ok m) {n} P T e q =
+  type_found (Err d) P e q = let z : ⊥ = cc in absurd z
+  type_found (Ok m) {n} P e q =
       let same : m ≡ n = cc in
       record {
         go = λ f t ps L.
             let I = L.seeks.index in
             let l : m < length (types f) = omega (arith, P.told.below, L.count_is) in
             ap some (q ∙ ap (cell work k type_first) (sym same) ∙ (I.type_row m l).first)
-            ∙ sym ((rows_searched I).found (type t ps) (type_named f (listed t ps)) (seeks_below L.seeks) refl m l (met_equal (λ m. canonical f (entries file work k type_offset m)) (canonical f (type t ps)) (decides W T L) P.told));
+            ∙ sym ((rows_searched I).found (type t ps) (type_named f (listed t ps)) (seeks_below L.seeks) refl m l (met_equal (λ m. canonical f (entries file work k type_offset m)) (canonical f (type t ps)) (decides W L) P.told));
       }
 
   -- none was met
-  pub type_missed : (r : Result ℕ ℕ) → Probes work k 0 count test b r → TestsType file work k o sought part test → result_ok r ≡ None → ListedSought file work k count o None
+  pub type_missed : (r : Result ℕ ℕ) → Probes work k 0 count (IsSought file work k s) b r → result_ok r ≡ None → ListedSought file work k count o None
   unfolding type_named named InRange earlier
-  type_missed (Ok m) P T e = let z : ⊥ = cc in absurd z
-  type_missed (Err d) P T e =
+  type_missed (Ok m) P e = let z : ⊥ = cc in absurd z
+  type_missed (Err d) P e =
       record {
         go = λ f t ps L.
             sym
             ((rows_searched L.seeks.index).absent (type t ps) (type_named f (listed t ps)) refl
             (λ n l q.
             let g : n < count = omega (arith, L.count_is) in
-            unmet_none (λ m. canonical f (entries file work k type_offset m)) (canonical f (type t ps)) (decides W T L) P.told (H.go f t ps L.seeks) n q (L.reached n g)));
+            unmet_none (λ m. canonical f (entries file work k type_offset m)) (canonical f (type t ps)) (decides W L) P.told (H.go f t ps L.seeks) n q (L.reached n g)));
       }
-
--- what refers to its type has none that is sought
-pub type_unsought : (file : Bytes) (work : List ℕ) (k count o : ℕ) {l : Kind} → Marked (mark_at file o) (Some l) → sought_of l ≡ None → ListedSought file work k count o None
-type_unsought file work k count o M e = record { go = λ f t ps L. absurd (sought_some file o M L.seeks.reads (cell work k term_type) L.seeks.by e) }

@@ -1,7 +1,7 @@
--- Whether a type is that of a term: by its kind and its number, and for a record type by the segments.
+-- Whether a type is that of a term: by its letter and its number, and for a record type by the segments.
 -- Assumes nothing.
 use mathlib.Core.Path.{◌≡◌, refl, sym, ap, ◌∙◌, subst}
-use mathlib.Core.Logic.{◌⊎◌, inl, inr, ⊎_elim}
+use mathlib.Core.Logic.{◌⊎◌, inl, inr}
 use Prim.Native.Nat.{ℕ}
 use native.Mathlib.Omega.{arith}
 use mathlib.Core.Bool.{Bool, true, false}
@@ -9,8 +9,6 @@ use mathlib.Core.List.{List, map, map-map}
 use mathlib.Core.Option.{some}
 use lib.Dec.{eqb, eqb→eq}
 use borrow.Author.Tests.{eq-eqb}
-use package.types.Run.{OneOf}
-use denote.Enum.Declared.{tag_of}
 use lib.ListN.{length, get_or, length-map}
 use Rattle.script_spec.specs.Base.{Bytes}
 use Rattle.script_spec.specs.Tree.{Ty, TypeMark, Bool·, String·, Option·, Set·, BitVec·, Declared, entity, extension, record_of}
@@ -33,12 +31,12 @@ use Rattle.index_compare.specs.declared.compare.View.TheVariants.{First, Listed}
 use Rattle.index_compare.proofs.Compared.{Same, decides_not}
 use Rattle.index_compare.proofs.Listed.{same_listed}
 use Rattle.check_rules.specs.Marks.{datatype_bytes, type_bytes}
-use Rattle.read_record.specs.declared.mark.Kind.{Kind}
-use Rattle.read_record.specs.declared.mark.Kind.TheVariants as kind
-use Rattle.read_record.specs.contracts.mark.Kind.{the_type}
-use Rattle.check_types.specs.Sought.{type_letter, width_at, code_at, value_code, part_at, KindSought, Wanted, Seeks, SameType}
-use Rattle.check_types.proofs.Letters.{Over, over, letter_of, type_letter_lem, sought_kind_letter, no_entity, other_tags, other_kind, Sized, SizedEntry, entry_sized}
-use Rattle.check_types.proofs.Numbers.{type_number, same_number, no_number}
+use Rattle.read_record.specs.Marks.{mark}
+use Rattle.check_types.specs.declared.Sought.{Sought}
+use Rattle.check_types.specs.declared.Sought.TheVariants as sought
+use Rattle.check_types.specs.Sought.{width_at, code_at, value_code, part_at, mark_letter, FieldsOf, Wanted, Seeks, SameType}
+use Rattle.check_types.proofs.Letters.{Over, over, letter_of, type_letter_lem, sought_kind_letter, no_entity, Sized, SizedEntry, entry_sized}
+use Rattle.check_types.proofs.Numbers.{type_number, same_number, numberless, no_number}
 use Rattle.check_types.proofs.Read.{type_width, type_code, type_part, term_width, term_code, term_part}
 
 -- ---- equal types
@@ -80,11 +78,8 @@ module _ {file : Bytes} {work : List ℕ} {k o : ℕ} {f : TermFile} {t : TypeMa
   seeks_no_entity = over (λ u rs. letter_of u ≡ 69 → ⊥) S.by (no_entity (cell work k term_type) S.mark S.refs)
 
   -- by the kind of the type
-  pub sought_letter : {sought : Kind} → KindSought file o sought → letter_of t ≡ type_letter sought
-  sought_letter K = sought_kind_letter file o K S.reads (cell work k term_type) S.by
-
-  pub sought_other : (sought : Kind) → KindSought file o sought → OneOf other_tags (tag_of the_type sought) → ⊥
-  sought_other sought K h = other_kind sought h t (K.go S.mark S.refs S.reads (cell work k term_type) t ps S.by) seeks_no_entity
+  pub sought_letter : {s : Sought} → Wanted file work k o s → letter_of t ≡ mark_letter s
+  sought_letter {s} W = sought_kind_letter file o s W.kind_is S.reads (cell work k term_type) S.by
 
   pub seeks_sized : Sized t (length ps)
   unfolding SizedEntry
@@ -134,101 +129,111 @@ record_term τ (App n op) rs = tt
 names_of : {a b : List Bytes} → Declared (record_of a) ≡ Declared (record_of b) → a ≡ b
 names_of e = cc
 
+-- ---- the number of the type
+
+-- the number of what is sought: its width, its code or its part
+unfoldable pub sought_number : Sought → ℕ
+sought_number sought.Bool = 0
+sought_number sought.String = 0
+sought_number (sought.BitVec n) = n
+sought_number (sought.Extension c) = c
+sought_number (sought.Option n) = n
+sought_number (sought.Set n) = n
+sought_number (sought.Record p) = 0
+
+-- the part of the type that a term has
+part_sought : {file : Bytes} {work : List ℕ} {k o : ℕ} → Octets file → {f : TermFile} {t : TypeMark} {ps : List ℕ} → Seeks file work k o f t ps → (letter_of t ≡ 67) ⊎ (letter_of t ≡ 79) → part_at file work k o ≡ type_number t (map (cell work k type_first) ps)
+part_sought {file} {work} {k} {o} octets S h = over (λ u rs. (letter_of u ≡ 67) ⊎ (letter_of u ≡ 79) → part_at file work k o ≡ type_number u (map (cell work k type_first) rs)) S.by (term_part file octets work k o S.mark S.refs S.reads (seeks_settled S)) h
+
+-- it is the number of the type of the term
+pub number_sought : {file : Bytes} {work : List ℕ} {k o : ℕ} → Octets file → {f : TermFile} {t : TypeMark} {ps : List ℕ} → Seeks file work k o f t ps → (s : Sought) → Wanted file work k o s → sought_number s ≡ type_number t (map (cell work k type_first) ps)
+unfolding sought_number numberless mark_letter mark Computes.base
+number_sought octets {t = t} S sought.Bool W = no_number t _ (ap numberless (sought_letter S W))
+number_sought octets {t = t} S sought.String W = no_number t _ (ap numberless (sought_letter S W))
+number_sought {file} {work} {k} {o} octets S (sought.BitVec n) W = W.fields_are ∙ over (λ u rs. letter_of u ≡ 86 → width_at file o ≡ type_number u (map (cell work k type_first) rs)) S.by (term_width file octets work k o S.mark S.refs S.reads) (sought_letter S W)
+number_sought {file} {work} {k} {o} octets S (sought.Extension c) W = W.fields_are ∙ over (λ u rs. letter_of u ≡ 88 → value_code file o ≡ type_number u (map (cell work k type_first) rs)) S.by (term_code file octets work k o S.mark S.refs S.reads) (sought_letter S W)
+number_sought octets S (sought.Option n) W = W.fields_are ∙ part_sought octets S (inr (sought_letter S W))
+number_sought octets S (sought.Set n) W = W.fields_are ∙ part_sought octets S (inl (sought_letter S W))
+number_sought octets {t = t} S (sought.Record p) W = no_number t _ (ap numberless (sought_letter S W))
+
 -- ---- the test
 
 pub decides_same : {P Q : Type 0} {r : Bool} → Same P Q → Decides r Q → Decides r P
 decides_same s d = record { true_of = λ p. d.true_of (s.to p); of_true = λ h. s.from (d.of_true h) }
 
-module _ {file : Bytes} {work : List ℕ} {k p o part : ℕ} {sought : Kind} (W : Wanted file work k o sought part) {letter : ℕ} (M : letter ≡ get_or (mark_at file p) 1 0) where
+-- the fields of what is sought
+pub fields : {file : Bytes} {work : List ℕ} {k o : ℕ} {s x : Sought} → Wanted file work k o s → s ≡ x → FieldsOf file work k o x
+fields {file} {work} {k} {o} W m = subst (FieldsOf file work k o) m W.fields_are
+
+module _ {file : Bytes} {work : List ℕ} {k p o : ℕ} {s : Sought} (octets : Octets file) (W : Wanted file work k o s) {letter : ℕ} (M : letter ≡ get_or (mark_at file p) 1 0) where
   -- other letters
-  pub other_letter : (letter ≡ type_letter sought → ⊥) → SameType file work k p o false
+  pub other_letter : (letter ≡ mark_letter s → ⊥) → SameType file work k p o false
   other_letter h =
       record {
         go = λ f t ps S u rs e b.
-            decides_not (λ q. h (type_letter_lem file p M e ∙ ap letter_of ((equal_types S.index u t rs ps b (seeks_below S)).to q).0 ∙ sought_letter S W.kind_is));
+            decides_not (λ q. h (type_letter_lem file p M e ∙ ap letter_of ((equal_types S.index u t rs ps b (seeks_below S)).to q).0 ∙ sought_letter S W));
       }
 
-  -- no term has a type of this kind, unless it refers to it
-  pub no_such : {r : Bool} → OneOf other_tags (tag_of the_type sought) → SameType file work k p o r
-  no_such h = record { go = λ f t ps S u rs e b. absurd (sought_other S sought W.kind_is h) }
-
-  module _ (same : letter ≡ type_letter sought) where
-    -- the same letter, and what is read are the numbers of the types
-    by_number : {l : ℕ} → type_letter sought ≡ l → (l ≡ 82 → ⊥) → {a b : ℕ} {r : Bool} → r ≡ eqb a b
-        → ((u : TypeMark) (rs : List ℕ) → entry_at file p ≡ some (type u rs) → letter_of u ≡ l → a ≡ type_number u (map (cell work k type_first) rs))
-        → ((f : TermFile) (t : TypeMark) (ps : List ℕ) → Seeks file work k o f t ps → letter_of t ≡ l → b ≡ type_number t (map (cell work k type_first) ps))
-        → SameType file work k p o r
+  module _ (same : letter ≡ mark_letter s) where
+    -- the same letter, and what is read is the number of the type
+    by_number : {x : Sought} → s ≡ x → (mark_letter x ≡ 82 → ⊥) → {a : ℕ} → ((u : TypeMark) (rs : List ℕ) → entry_at file p ≡ some (type u rs) → letter_of u ≡ mark_letter x → a ≡ type_number u (map (cell work k type_first) rs))
+        → SameType file work k p o (eqb a (sought_number x))
     unfolding SizedEntry
-    by_number {l} is no_record {a} {b} {r} test number number' =
+    by_number {x} m no_record {a} number =
         record {
           go = λ f t ps S u rs e below.
               let φ = cell work k type_first in
-              let letter : letter_of u ≡ l = sym (type_letter_lem file p M e) ∙ same ∙ is in
-              let letter' : letter_of t ≡ l = sought_letter S W.kind_is ∙ is in
+              let b = sought_number x in
+              let number' : b ≡ type_number t (map φ ps) = rw (← m) (number_sought octets S s W) in
+              let letter : letter_of u ≡ mark_letter x = sym (type_letter_lem file p M e) ∙ same ∙ ap mark_letter m in
+              let letter' : letter_of t ≡ mark_letter x = sought_letter S W ∙ ap mark_letter m in
               let sized : Sized u (length (map φ rs)) = rw (length-map rs φ) (entry_sized file p e) in
               let sized' : Sized t (length (map φ ps)) = rw (length-map ps φ) (seeks_sized S) in
               decides_same (equal_types S.index u t rs ps below (seeks_below S))
               (record {
-                true_of = λ s. test ∙ eq-eqb a b (number u rs e letter ∙ (λ i. type_number (s.0 i) (s.1 i)) ∙ sym (number' f t ps S letter'));
+                true_of = λ z. eq-eqb a b (number u rs e letter ∙ (λ i. type_number (z.0 i) (z.1 i)) ∙ sym number');
                 of_true = λ h.
-                    let q : a ≡ b = eqb→eq a b (rw (← test, h) tt) in
-                    same_number u t (map φ rs) (map φ ps) sized sized' (letter ∙ sym letter') (λ z. no_record (sym letter' ∙ z)) (seeks_no_entity S)
-                    (sym (number u rs e letter) ∙ q ∙ number' f t ps S letter');
+                    let q : a ≡ b = eqb→eq a b (rw h tt) in
+                    same_number u t (map φ rs) (map φ ps) sized sized' (letter ∙ sym letter') (λ z. no_record (sym letter' ∙ z)) (seeks_no_entity S) (sym (number u rs e letter) ∙ q ∙ number');
               });
         }
 
-    module _ (octets : Octets file) where
-      pub same_codes : {r : Bool} → sought ≡ kind.TX → r ≡ eqb (code_at file p) (value_code file o) → SameType file work k p o r
-      unfolding type_letter
-      same_codes m test =
-          by_number {l = 88} (ap type_letter m) (λ z. omega arith) test (λ u rs e h. type_code file octets work k p u rs e h)
-          (λ f t ps S h. over (λ u rs. letter_of u ≡ 88 → value_code file o ≡ type_number u (map (cell work k type_first) rs)) S.by (term_code file octets work k o S.mark S.refs S.reads) h)
+    pub same_bools : s ≡ sought.Bool → SameType file work k p o true
+    unfolding sought_number numberless mark_letter mark Computes.base
+    same_bools m = by_number m (λ z. omega arith) {a = 0} (λ u rs e h. no_number u _ (ap numberless h))
 
-      pub same_widths : {r : Bool} → sought ≡ kind.TV → r ≡ eqb (width_at file p) (width_at file o) → SameType file work k p o r
-      unfolding type_letter
-      same_widths m test =
-          by_number {l = 86} (ap type_letter m) (λ z. omega arith) test (λ u rs e h. type_width file octets work k p u rs e h)
-          (λ f t ps S h. over (λ u rs. letter_of u ≡ 86 → width_at file o ≡ type_number u (map (cell work k type_first) rs)) S.by (term_width file octets work k o S.mark S.refs S.reads) h)
+    pub same_strings : s ≡ sought.String → SameType file work k p o true
+    unfolding sought_number numberless mark_letter mark Computes.base
+    same_strings m = by_number m (λ z. omega arith) {a = 0} (λ u rs e h. no_number u _ (ap numberless h))
 
-      -- by the part
-      by_part : {l : ℕ} → type_letter sought ≡ l → (sought ≡ kind.TC) ⊎ (sought ≡ kind.TO) → (l ≡ 67) ⊎ (l ≡ 79) → {r : Bool} → r ≡ eqb (part_at file work k p) part → SameType file work k p o r
-      by_part is m c test =
-          by_number is (λ z. ⊎_elim (λ h. omega arith) (λ h. omega arith) c) test (λ u rs e h. type_part file octets work k p u rs e (rw h c))
-          (λ f t ps S h. W.part_is.go m ∙ over (λ u rs. (letter_of u ≡ 67) ⊎ (letter_of u ≡ 79) → part_at file work k o ≡ type_number u (map (cell work k type_first) rs)) S.by (term_part file octets work k o S.mark S.refs S.reads (seeks_settled S)) (rw h c))
+    pub same_widths : {a n : ℕ} → s ≡ sought.BitVec n → a ≡ width_at file p → SameType file work k p o (eqb a n)
+    unfolding sought_number mark_letter mark Computes.base
+    same_widths m q = by_number m (λ z. omega arith) (λ u rs e h. q ∙ type_width file octets work k p u rs e h)
 
-      pub same_options : {r : Bool} → sought ≡ kind.TO → r ≡ eqb (part_at file work k p) part → SameType file work k p o r
-      unfolding type_letter
-      same_options m test = by_part {l = 79} (ap type_letter m) (inr m) (inr refl) test
+    pub same_codes : {a c : ℕ} → s ≡ sought.Extension c → a ≡ code_at file p → SameType file work k p o (eqb a c)
+    unfolding sought_number mark_letter mark Computes.base
+    same_codes m q = by_number m (λ z. omega arith) (λ u rs e h. q ∙ type_code file octets work k p u rs e h)
 
-      pub same_sets : {r : Bool} → sought ≡ kind.TC → r ≡ eqb (part_at file work k p) part → SameType file work k p o r
-      unfolding type_letter
-      same_sets m test = by_part {l = 67} (ap type_letter m) (inl m) (inl refl) test
+    pub same_options : {a n : ℕ} → s ≡ sought.Option n → a ≡ part_at file work k p → SameType file work k p o (eqb a n)
+    unfolding sought_number mark_letter mark Computes.base
+    same_options m q = by_number m (λ z. omega arith) (λ u rs e h. q ∙ type_part file octets work k p u rs e (inr h))
 
-    -- no fields
-    bare : {l : ℕ} → type_letter sought ≡ l → (l ≡ 82 → ⊥) → (l ≡ 88 → ⊥) → (l ≡ 86 → ⊥) → (l ≡ 79 → ⊥) → (l ≡ 67 → ⊥) → SameType file work k p o true
-    bare is r x v o c =
-        by_number is r {a = 0} {b = 0} refl (λ u rs e h. no_number u _ (λ q. x (sym h ∙ q)) (λ q. v (sym h ∙ q)) (λ q. o (sym h ∙ q)) (λ q. c (sym h ∙ q)))
-        (λ f t ps S h. no_number t _ (λ q. x (sym h ∙ q)) (λ q. v (sym h ∙ q)) (λ q. o (sym h ∙ q)) (λ q. c (sym h ∙ q)))
-
-    pub same_bools : sought ≡ kind.TB → SameType file work k p o true
-    unfolding type_letter
-    same_bools m = bare {l = 66} (ap type_letter m) (λ z. omega arith) (λ z. omega arith) (λ z. omega arith) (λ z. omega arith) (λ z. omega arith)
-
-    pub same_strings : sought ≡ kind.TS → SameType file work k p o true
-    unfolding type_letter
-    same_strings m = bare {l = 83} (ap type_letter m) (λ z. omega arith) (λ z. omega arith) (λ z. omega arith) (λ z. omega arith) (λ z. omega arith)
+    pub same_sets : {a n : ℕ} → s ≡ sought.Set n → a ≡ part_at file work k p → SameType file work k p o (eqb a n)
+    unfolding sought_number mark_letter mark Computes.base
+    same_sets m q = by_number m (λ z. omega arith) (λ u rs e h. q ∙ type_part file octets work k p u rs e (inl h))
 
     -- records
-    pub same_records : {r : Bool} → Octets file → sought ≡ kind.TR → Decides r (SameSegments file (viewed work k First) p (viewed work k Listed) o) → SameType file work k p o r
-    unfolding type_letter
-    same_records {r} octets m D =
+    pub same_records : {q : ℕ} {r : Bool} → s ≡ sought.Record q → Decides r (SameSegments file (viewed work k First) p (viewed work k Listed) q) → SameType file work k p o r
+    unfolding mark_letter mark Computes.base
+    same_records {q} {r} m C =
+        let D = subst (λ (x : ℕ). Decides r (SameSegments file (viewed work k First) p (viewed work k Listed) x)) (fields W m) C in
         record {
           go = λ f t ps S u rs e below.
               let φ = cell work k type_first in
               let τ = cell work k term_type in
-              let is : type_letter sought ≡ 82 = ap type_letter m in
+              let is : mark_letter s ≡ 82 = ap mark_letter m in
               let x = record_type u (sym (type_letter_lem file p M e) ∙ same ∙ is) in
-              let y = over (λ v qs. letter_of v ≡ 82 → RecordTerm τ S.mark S.refs v qs) S.by (record_term τ S.mark S.refs) (sought_letter S W.kind_is ∙ is) in
+              let y = over (λ v qs. letter_of v ≡ 82 → RecordTerm τ S.mark S.refs v qs) S.by (record_term τ S.mark S.refs) (sought_letter S W ∙ is) in
               let reads : entry_at file p ≡ some (type (Declared (record_of x.0)) rs) = e ∙ ap (λ (v : TypeMark). some (type v rs)) x.1 in
               let reads' : entry_at file o ≡ some (term (Record y.names) S.refs) = S.reads ∙ ap (λ (v : TermMark ℕ ℕ). some (term v S.refs)) y.mark in
               let L = same_listed work k file octets p o reads reads' in

@@ -1,13 +1,10 @@
 -- The kind of a term's type by the term's kind, and whether the term refers to its type.
 -- Assumes nothing.
 use mathlib.Core.Path.{◌≡◌, refl, sym, ap, ◌∙◌, subst}
-use mathlib.Core.Logic.{⊎_elim}
 use Prim.Native.Nat.{ℕ}
-use mathlib.Core.List.{List, [], ◌∷◌}
+use mathlib.Core.List.{List}
 use mathlib.Core.Option.{some}
-use types.Run.{OneOf, miss}
 use Rattle.std.specs.Prelude as rust
-use denote.Enum.Declared.{tag_of}
 use Rattle.script_spec.specs.Base.{Bytes}
 use Rattle.script_spec.specs.Tree.{TypeMark, TermMark, Var, BoolLit, BitVecLit, StringLit, Entity, ExtLit, None, Some, Set, Record, App}
 use Rattle.script_spec.specs.Fields.{term}
@@ -16,10 +13,10 @@ use Rattle.index.specs.Standing.{mark_at, entry_at}
 use Rattle.read_record.specs.Marks.{mark, Marked}
 use Rattle.read_record.specs.declared.mark.Kind.{Kind}
 use Rattle.read_record.specs.declared.mark.Kind.TheVariants as kind
-use Rattle.read_record.specs.contracts.mark.Kind.{the_type}
 use Rattle.check_rules.specs.Marks.{datatype_bytes, type_bytes}
 use Rattle.check_rules.proofs.EntryKinds.{term_kind, kind_of, entry_kind}
-use Rattle.check_types.specs.Sought.{type_letter, sought_of, KindSought, PartSought}
+use Rattle.check_types.specs.declared.Sought.{Sought}
+use Rattle.check_types.specs.Sought.{kind_sought, FieldsOf, Wanted, Refers, Unreferred}
 use Rattle.check_types.proofs.Letters.{Over, over}
 
 -- the kind of a term at an offset
@@ -28,6 +25,31 @@ unfolding kind_of
 term_kind_lem file o M e = entry_kind file o M e
 
 -- ---- the kind of its type
+
+-- the kind of the type of a term of this kind; none for a term that refers to its type, and for what is no term
+unfoldable pub sought_of : Kind → rust.Option Kind
+sought_of kind.TB = rust.None
+sought_of kind.TS = rust.None
+sought_of kind.TV = rust.None
+sought_of kind.TO = rust.None
+sought_of kind.TC = rust.None
+sought_of kind.TE = rust.None
+sought_of kind.TX = rust.None
+sought_of kind.TR = rust.None
+sought_of kind.EN = rust.None
+sought_of kind.UF = rust.None
+sought_of kind.XV = rust.None
+sought_of kind.XB = rust.Some kind.TB
+sought_of kind.XN = rust.Some kind.TV
+sought_of kind.XS = rust.Some kind.TS
+sought_of kind.XE = rust.None
+sought_of kind.XX = rust.Some kind.TX
+sought_of kind.X0 = rust.Some kind.TO
+sought_of kind.X1 = rust.Some kind.TO
+sought_of kind.XC = rust.Some kind.TC
+sought_of kind.XR = rust.Some kind.TR
+sought_of kind.XA = rust.None
+sought_of kind.IN = rust.None
 
 -- the mark of the kind that is sought, if one is
 abbrev MarkSought : rust.Option Kind → Bytes → Type 0
@@ -54,81 +76,43 @@ module _ (file : Bytes) (o : ℕ) {k : Kind} (M : Marked (mark_at file o) (rust.
       subst (λ (r : rust.Option Kind). MarkSought r (type_bytes t)) (ap sought_of (sym (term_kind_lem file o M e)) ∙ q)
       (over (λ u us. MarkSought (sought_of (term_kind m)) (type_bytes u)) by (sought_mark τ m rs))
 
-  -- a term that does not refer to its type has a kind of type
-  pub sought_some : sought_of k ≡ rust.None → ⊥
-  sought_some q = sought_told q
+-- a term that has a kind of type does not refer to it
+unreferred : (τ : ℕ → ℕ) (m : TermMark ℕ ℕ) (rs : List ℕ) {r : Kind} → sought_of (term_kind m) ≡ rust.Some r → (t : TypeMark) × (ps : List ℕ) × (type_by τ m rs ≡ listed t ps)
+unfolding sought_of term_kind type_by
+unreferred τ (Var id n) rs q = let z : ⊥ = cc in absurd z
+unreferred τ (BoolLit x) rs q = (_, _, refl)
+unreferred τ (BitVecLit n v) rs q = (_, _, refl)
+unreferred τ (StringLit s) rs q = (_, _, refl)
+unreferred τ (Entity n id) rs q = let z : ⊥ = cc in absurd z
+unreferred τ (ExtLit v) rs q = (_, _, refl)
+unreferred τ (None n) rs q = (_, _, refl)
+unreferred τ Some rs q = (_, _, refl)
+unreferred τ (Set n) rs q = (_, _, refl)
+unreferred τ (Record names) rs q = (_, _, refl)
+unreferred τ (App n op) rs q = let z : ⊥ = cc in absurd z
 
-pub kind_sought : (file : Bytes) (o : ℕ) {k r : Kind} → Marked (mark_at file o) (rust.Some k) → sought_of k ≡ rust.Some r → KindSought file o r
-kind_sought file o M q = record { go = λ m rs e τ t ps by. sought_told file o M e τ by q }
+-- what is sought, with the fields of the term
+pub sought_some : (file : Bytes) (work : List ℕ) (i o : ℕ) {k : Kind} → Marked (mark_at file o) (rust.Some k) → {s : Sought} → sought_of k ≡ rust.Some (kind_sought s) → FieldsOf file work i o s → Wanted file work i o s × Unreferred file o
+sought_some file work i o M q fields = (
+  record { kind_is = record { go = λ m rs e τ t ps by. sought_told file o M e τ by q }; fields_are = fields },
+  record { go = λ m rs e τ. unreferred τ m rs (ap sought_of (sym (term_kind_lem file o M e)) ∙ q) },
+)
 
--- the places of the kinds that have no such type
-abbrev none_tags : List ℕ
-none_tags = 0 ∷ 1 ∷ 2 ∷ 3 ∷ 4 ∷ 5 ∷ 6 ∷ 7 ∷ 8 ∷ 9 ∷ 10 ∷ 14 ∷ 20 ∷ 21 ∷ []
+-- a term of none of the kinds that have such a type refers to it
+module _ {k : Kind} (xb : k ≡ kind.XB → ⊥) (xs : k ≡ kind.XS → ⊥) (xn : k ≡ kind.XN → ⊥) (xx : k ≡ kind.XX → ⊥) (x0 : k ≡ kind.X0 → ⊥) (x1 : k ≡ kind.X1 → ⊥) (xc : k ≡ kind.XC → ⊥) (xr : k ≡ kind.XR → ⊥) where
+  unlisted : (m : TermMark ℕ ℕ) (rs : List ℕ) (τ : ℕ → ℕ) → k ≡ term_kind m → Over (λ t ps. ⊥) (type_by τ m rs)
+  unfolding Over type_by term_kind
+  unlisted (Var id n) rs τ e = tt
+  unlisted (BoolLit b) rs τ e = absurd (xb e)
+  unlisted (BitVecLit n v) rs τ e = absurd (xn e)
+  unlisted (StringLit s) rs τ e = absurd (xs e)
+  unlisted (Entity n id) rs τ e = tt
+  unlisted (ExtLit v) rs τ e = absurd (xx e)
+  unlisted (None n) rs τ e = absurd (x0 e)
+  unlisted Some rs τ e = absurd (x1 e)
+  unlisted (Set n) rs τ e = absurd (xc e)
+  unlisted (Record names) rs τ e = absurd (xr e)
+  unlisted (App n op) rs τ e = tt
 
-pub sought_none : (k : Kind) → OneOf none_tags (tag_of the_type k) → rust.None ≡ sought_of k
-unfolding sought_of
-sought_none kind.TB h = refl
-sought_none kind.TS h = refl
-sought_none kind.TV h = refl
-sought_none kind.TO h = refl
-sought_none kind.TC h = refl
-sought_none kind.TE h = refl
-sought_none kind.TX h = refl
-sought_none kind.TR h = refl
-sought_none kind.EN h = refl
-sought_none kind.UF h = refl
-sought_none kind.XV h = refl
-sought_none kind.XB h = absurd (miss none_tags 11 tt h)
-sought_none kind.XN h = absurd (miss none_tags 12 tt h)
-sought_none kind.XS h = absurd (miss none_tags 13 tt h)
-sought_none kind.XE h = refl
-sought_none kind.XX h = absurd (miss none_tags 15 tt h)
-sought_none kind.X0 h = absurd (miss none_tags 16 tt h)
-sought_none kind.X1 h = absurd (miss none_tags 17 tt h)
-sought_none kind.XC h = absurd (miss none_tags 18 tt h)
-sought_none kind.XR h = absurd (miss none_tags 19 tt h)
-sought_none kind.XA h = refl
-sought_none kind.IN h = refl
-
--- ---- the letter of a kind
-
--- the places of the kinds of records that are no types
-abbrev bare_tags : List ℕ
-bare_tags = 8 ∷ 9 ∷ 10 ∷ 11 ∷ 12 ∷ 13 ∷ 14 ∷ 15 ∷ 16 ∷ 17 ∷ 18 ∷ 19 ∷ 20 ∷ 21 ∷ []
-
-pub letter_none : (k : Kind) → OneOf bare_tags (tag_of the_type k) → 0 ≡ type_letter k
-unfolding type_letter
-letter_none kind.TB h = absurd (miss bare_tags 0 tt h)
-letter_none kind.TS h = absurd (miss bare_tags 1 tt h)
-letter_none kind.TV h = absurd (miss bare_tags 2 tt h)
-letter_none kind.TO h = absurd (miss bare_tags 3 tt h)
-letter_none kind.TC h = absurd (miss bare_tags 4 tt h)
-letter_none kind.TE h = absurd (miss bare_tags 5 tt h)
-letter_none kind.TX h = absurd (miss bare_tags 6 tt h)
-letter_none kind.TR h = absurd (miss bare_tags 7 tt h)
-letter_none kind.EN h = refl
-letter_none kind.UF h = refl
-letter_none kind.XV h = refl
-letter_none kind.XB h = refl
-letter_none kind.XN h = refl
-letter_none kind.XS h = refl
-letter_none kind.XE h = refl
-letter_none kind.XX h = refl
-letter_none kind.X0 h = refl
-letter_none kind.X1 h = refl
-letter_none kind.XC h = refl
-letter_none kind.XR h = refl
-letter_none kind.XA h = refl
-letter_none kind.IN h = refl
-
--- ---- the part
-
--- the places of the kinds that are neither an option nor a set
-abbrev partless : List ℕ
-partless = 0 ∷ 1 ∷ 2 ∷ 5 ∷ 6 ∷ 7 ∷ 8 ∷ 9 ∷ 10 ∷ 11 ∷ 12 ∷ 13 ∷ 14 ∷ 15 ∷ 16 ∷ 17 ∷ 18 ∷ 19 ∷ 20 ∷ 21 ∷ []
-
-partless_as : {k j : Kind} → k ≡ j → OneOf partless (tag_of the_type k) → OneOf partless (tag_of the_type j)
-partless_as e h = subst (λ (x : Kind). OneOf partless (tag_of the_type x)) e h
-
-pub part_none : {file : Bytes} {work : List ℕ} {i o n : ℕ} (k : Kind) → OneOf partless (tag_of the_type k) → PartSought file work i o k n
-part_none k h = record { go = λ e. absurd (⊎_elim (λ q. miss partless 4 tt (partless_as q h)) (λ q. miss partless 3 tt (partless_as q h)) e) }
+  pub sought_nothing : (file : Bytes) (o : ℕ) → Marked (mark_at file o) (rust.Some k) → Refers file o
+  sought_nothing file o M = record { go = λ m rs e τ t ps by. over (λ u us. ⊥) by (unlisted m rs τ (term_kind_lem file o M e)) }

@@ -3,7 +3,7 @@
 use Rattle.std.specs.Prelude.{◌≡◌, ℕ, ◌<◌, List, map, length, Option}
 use Rattle.script_spec.specs.Base.{Bytes, place}
 use Rattle.script_spec.specs.Tree.{TypeMark, eq_ty}
-use Rattle.script_spec.specs.Fields.{Entry, type}
+use Rattle.script_spec.specs.Fields.{type}
 use Rattle.script_spec.specs.File.{TermFile, types}
 use Rattle.index.specs.Cells.{cell, type_offset, type_first}
 use Rattle.index.specs.First.{canonical}

@@ -1,6 +1,6 @@
 -- The type of a term among the types that are listed, by the term's record and by the index.
 -- Assumes nothing.
-use Rattle.std.specs.Prelude.{◌≡◌, ◌⊎◌, ℕ, ◌-◌, Bool, List, map, length, get_or}
+use Rattle.std.specs.Prelude.{◌≡◌, ℕ, ◌-◌, Bool, List, map, length, get_or}
 use Rattle.std.proofs.Math.Option.{some}
 use Rattle.std.specs.Prelude as rust
 use Rattle.script_spec.specs.Base.{Bytes, place}
@@ -22,6 +22,8 @@ use Rattle.check_rules.specs.Marks.{type_bytes}
 use Rattle.read_record.specs.Marks.{mark}
 use Rattle.read_record.specs.declared.mark.Kind.{Kind}
 use Rattle.read_record.specs.declared.mark.Kind.TheVariants as kind
+use Rattle.check_types.specs.declared.Sought.{Sought}
+use Rattle.check_types.specs.declared.Sought.TheVariants as sought
 
 -- r says the first type that is equal to the type of the term at an offset
 pub record TypeSought (file : Bytes) (work : List ℕ) (sizes : Sizes) (o : ℕ) (r : rust.Option ℕ) : Type 0 where
@@ -29,31 +31,6 @@ pub record TypeSought (file : Bytes) (work : List ℕ) (sizes : Sizes) (o : ℕ)
       → found_place r ≡ place (eq_ty (type_named f (type_by (cell work sizes.rows term_type) m rs))) (types f)
 
 -- ---- fields of records
-
--- the second byte of the mark of a kind of types, 0 for any other kind
-unfoldable pub type_letter : Kind → ℕ
-type_letter kind.TB = 66
-type_letter kind.TS = 83
-type_letter kind.TV = 86
-type_letter kind.TO = 79
-type_letter kind.TC = 67
-type_letter kind.TE = 69
-type_letter kind.TX = 88
-type_letter kind.TR = 82
-type_letter kind.EN = 0
-type_letter kind.UF = 0
-type_letter kind.XV = 0
-type_letter kind.XB = 0
-type_letter kind.XN = 0
-type_letter kind.XS = 0
-type_letter kind.XE = 0
-type_letter kind.XX = 0
-type_letter kind.X0 = 0
-type_letter kind.X1 = 0
-type_letter kind.XC = 0
-type_letter kind.XR = 0
-type_letter kind.XA = 0
-type_letter kind.IN = 0
 
 -- the width of a bit-vector type or value
 unfoldable pub width_at : Bytes → ℕ → ℕ
@@ -73,43 +50,51 @@ part_at file work rows o = get_or (reference_numbers 2 (map (viewed work rows Li
 
 -- ---- what is sought
 
--- the kind of the type of a term of this kind; none for a term that refers to its type, and for what is no term
-unfoldable pub sought_of : Kind → rust.Option Kind
-sought_of kind.TB = rust.None
-sought_of kind.TS = rust.None
-sought_of kind.TV = rust.None
-sought_of kind.TO = rust.None
-sought_of kind.TC = rust.None
-sought_of kind.TE = rust.None
-sought_of kind.TX = rust.None
-sought_of kind.TR = rust.None
-sought_of kind.EN = rust.None
-sought_of kind.UF = rust.None
-sought_of kind.XV = rust.None
-sought_of kind.XB = rust.Some kind.TB
-sought_of kind.XN = rust.Some kind.TV
-sought_of kind.XS = rust.Some kind.TS
-sought_of kind.XE = rust.None
-sought_of kind.XX = rust.Some kind.TX
-sought_of kind.X0 = rust.Some kind.TO
-sought_of kind.X1 = rust.Some kind.TO
-sought_of kind.XC = rust.Some kind.TC
-sought_of kind.XR = rust.Some kind.TR
-sought_of kind.XA = rust.None
-sought_of kind.IN = rust.None
+-- the kind of the type that is sought
+abbrev pub kind_sought : Sought → Kind
+kind_sought sought.Bool = kind.TB
+kind_sought sought.String = kind.TS
+kind_sought (sought.BitVec n) = kind.TV
+kind_sought (sought.Extension c) = kind.TX
+kind_sought (sought.Option n) = kind.TO
+kind_sought (sought.Set n) = kind.TC
+kind_sought (sought.Record p) = kind.TR
+
+-- the second byte of its mark
+unfoldable pub mark_letter : Sought → ℕ
+mark_letter s = get_or (mark (kind_sought s)) 1 0
+
+-- what is beside the kind is of the term at an offset: its width, the code of its type, the type that it first refers to, or the offset itself
+abbrev pub FieldsOf : Bytes → List ℕ → ℕ → ℕ → Sought → Type 0
+FieldsOf file work rows o sought.Bool = Unit {0}
+FieldsOf file work rows o sought.String = Unit {0}
+FieldsOf file work rows o (sought.BitVec n) = n ≡ width_at file o
+FieldsOf file work rows o (sought.Extension c) = c ≡ value_code file o
+FieldsOf file work rows o (sought.Option n) = n ≡ part_at file work rows o
+FieldsOf file work rows o (sought.Set n) = n ≡ part_at file work rows o
+FieldsOf file work rows o (sought.Record p) = p ≡ o
 
 -- the kind is that of the type of the term at an offset, where the term does not refer to it
 pub record KindSought (file : Bytes) (o : ℕ) (sought : Kind) : Type 0 where
   pub go : (m : TermMark ℕ ℕ) (rs : List ℕ) → entry_at file o ≡ some (term m rs) → (τ : ℕ → ℕ) (t : TypeMark) (parts : List ℕ) → type_by τ m rs ≡ listed t parts → mark sought ≡ type_bytes t
 
--- n is the first type that the term at an offset refers to, where its own type, of this kind, is an option or a set over it
-pub record PartSought (file : Bytes) (work : List ℕ) (rows o : ℕ) (sought : Kind) (n : ℕ) : Type 0 where
-  pub go : (sought ≡ kind.TC) ⊎ (sought ≡ kind.TO) → n ≡ part_at file work rows o
+-- what is sought is the type of the term at an offset, where the term does not refer to it
+pub record Wanted (file : Bytes) (work : List ℕ) (rows o : ℕ) (s : Sought) : Type 0 where
+  pub kind_is : KindSought file o (kind_sought s)
+  pub fields_are : FieldsOf file work rows o s
 
--- the kind of the type of the term at an offset, and its part
-pub record Wanted (file : Bytes) (work : List ℕ) (rows o : ℕ) (sought : Kind) (n : ℕ) : Type 0 where
-  pub kind_is : KindSought file o sought
-  pub part_is : PartSought file work rows o sought n
+-- the term at an offset refers to its type
+pub record Refers (file : Bytes) (o : ℕ) : Type 0 where
+  pub go : (m : TermMark ℕ ℕ) (rs : List ℕ) → entry_at file o ≡ some (term m rs) → (τ : ℕ → ℕ) (t : TypeMark) (parts : List ℕ) → type_by τ m rs ≡ listed t parts → ⊥
+
+-- the term at an offset does not refer to its type
+pub record Unreferred (file : Bytes) (o : ℕ) : Type 0 where
+  pub go : (m : TermMark ℕ ℕ) (rs : List ℕ) → entry_at file o ≡ some (term m rs) → (τ : ℕ → ℕ) → (t : TypeMark) × (parts : List ℕ) × (type_by τ m rs ≡ listed t parts)
+
+-- what is sought by the term at an offset; none where the term refers to its type
+abbrev pub SoughtBy : Bytes → List ℕ → ℕ → ℕ → rust.Option Sought → Type 0
+SoughtBy file work rows o (rust.Some s) = Wanted file work rows o s × Unreferred file o
+SoughtBy file work rows o rust.None = Refers file o
 
 -- a term stands at an offset whose type is to be listed, by this mark and these parts
 pub record Seeks (file : Bytes) (work : List ℕ) (rows o : ℕ) (f : TermFile) (t : TypeMark) (parts : List ℕ) : Type 0 where

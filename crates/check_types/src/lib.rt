@@ -1,61 +1,32 @@
 // The type of a term among the types that are listed before it, by the slots of the hash table.
 #![tactic(auto)]
 
-ghost use Rattle.std.specs.Prelude.{◌≡◌, Some};
+ghost use Rattle.std.specs.Prelude.{◌≡◌, ℕ, Some};
 ghost use Rattle.index.specs.Cells.{cell, type_offset};
 ghost use Rattle.index.specs.Standing.{mark_at};
 ghost use Rattle.read_record.specs.Marks.{Marked};
-ghost use Rattle.check_types.specs.Sought.{sought_of, type_letter, width_at, code_at, value_code, PartSought, Wanted, TypeSought, SameType};
+ghost use Rattle.check_types.specs.Sought.{width_at, code_at, value_code, mark_letter, Wanted, SoughtBy, TypeSought, SameType};
 ghost use Rattle.check_types.specs.Probed.{TypeHash, TypeHome, ListedSought};
 
 use index::{Column, Records};
 use index_compare::compare::{byte_at, first_reference, same_listed_type};
 use index_compare::record::body_at;
+use index_compare::segments::{Referent, Segment};
 use index_entry::records::{letter_at, number_at};
-use index_search::slots::Table;
+use index_search::slots::{Table, Test};
 use index_search::{hash, slots};
 use read_record::mark::Kind;
 
-// A term whose type is looked for: its offset, the kind of its type, and the type that this is over where it is an option or a set.
+// The type of a term that does not refer to it: its width, its code, the number of the type that it is over, or the offset of the record term.
 #[derive(Clone, Copy)]
-struct Sought {
-    offset: u32,
-    kind: Kind,
-    part: u32,
-}
-
-// The kind of the type of a term of this kind; none where the term refers to its type, and for what is no term.
-fn kind_sought(kind: Kind) -> Option<Kind>
-    ensures { result ≡ sought_of kind }
-{
-    match kind {
-        Kind::XB => Some(Kind::TB),
-        Kind::XN => Some(Kind::TV),
-        Kind::XS => Some(Kind::TS),
-        Kind::XX => Some(Kind::TX),
-        Kind::X0 => Some(Kind::TO),
-        Kind::X1 => Some(Kind::TO),
-        Kind::XC => Some(Kind::TC),
-        Kind::XR => Some(Kind::TR),
-        _ => None,
-    }
-}
-
-// The second byte of the mark of a kind of types, 0 for any other kind.
-fn letter_of(kind: Kind) -> u8
-    ensures { result ≡ type_letter kind }
-{
-    match kind {
-        Kind::TB => b'B',
-        Kind::TS => b'S',
-        Kind::TV => b'V',
-        Kind::TO => b'O',
-        Kind::TC => b'C',
-        Kind::TE => b'E',
-        Kind::TX => b'X',
-        Kind::TR => b'R',
-        _ => 0,
-    }
+enum Sought {
+    Bool,
+    String,
+    BitVec(u32),
+    Extension(u8),
+    Option(u32),
+    Set(u32),
+    Record(u32),
 }
 
 // The code of the extension type or value at an offset: the first byte of its body, 0 where there is none.
@@ -79,84 +50,107 @@ fn width_at(file: &[u8], offset: u32) -> u32
     number_at(body_at(file, offset), 0)
 }
 
-// The type that the term at an offset first refers to, where its own type is an option or a set over it; else 0.
-fn part_sought(records: Records<'_>, offset: u32, kind: Kind) -> u32
-    ensures { PartSought records.entry.file.now records.entry.work.now records.entry.sizes.rows offset kind result }
+// What is sought as the type of the term at an offset, of this kind; none where the term refers to its type, and for what is no term.
+fn sought_by(records: Records<'_>, offset: u32, kind: Kind) -> Option<Sought>
+    ensures { Marked (mark_at records.entry.file.now offset) (Some kind) → SoughtBy records.entry.file.now records.entry.work.now records.entry.sizes.rows offset result }
 {
     match kind {
-        Kind::TO | Kind::TC => first_reference(records, offset),
-        _ => 0,
+        Kind::XB => Some(Sought::Bool),
+        Kind::XS => Some(Sought::String),
+        Kind::XN => Some(Sought::BitVec(width_at(records.file, offset))),
+        Kind::XX => Some(Sought::Extension(value_code(records.file, offset))),
+        Kind::X0 => Some(Sought::Option(first_reference(records, offset))),
+        Kind::X1 => Some(Sought::Option(first_reference(records, offset))),
+        Kind::XC => Some(Sought::Set(first_reference(records, offset))),
+        Kind::XR => Some(Sought::Record(offset)),
+        _ => None,
     }
 }
 
 impl Sought {
-    // Whether the type with number n is the one that is looked for.
-    fn is_type(self, records: Records<'_>, n: u32) -> bool
-        ensures { Wanted records.entry.file.now records.entry.work.now records.entry.sizes.rows self.offset self.kind self.part → SameType records.entry.file.now records.entry.work.now records.entry.sizes.rows (cell records.entry.work.now records.entry.sizes.rows type_offset n) self.offset result }
+    // The second byte of its mark.
+    #[tactic(auto, unfolding(crate::specs::Sought::mark_letter, read_record::specs::Marks::mark, script_spec::proofs::Computes::base))]
+    fn letter(self) -> u8
+        ensures { result ≡ mark_letter self }
     {
-        self.is_at(records, records.get(Column::TypeOffset, n))
+        match self {
+            Sought::Bool => b'B',
+            Sought::String => b'S',
+            Sought::BitVec(_) => b'V',
+            Sought::Extension(_) => b'X',
+            Sought::Option(_) => b'O',
+            Sought::Set(_) => b'C',
+            Sought::Record(_) => b'R',
+        }
     }
 
-    // Whether the type at an offset is.
+    // Whether the type at an offset is the one that is sought.
     fn is_at(self, records: Records<'_>, other: u32) -> bool
-        ensures { Wanted records.entry.file.now records.entry.work.now records.entry.sizes.rows self.offset self.kind self.part → SameType records.entry.file.now records.entry.work.now records.entry.sizes.rows other self.offset result }
+        ensures { (o : ℕ) → Wanted records.entry.file.now records.entry.work.now records.entry.sizes.rows o self → SameType records.entry.file.now records.entry.work.now records.entry.sizes.rows other o result }
     {
         index_search::octets(records.file);
-        if letter_at(records.file, other) != letter_of(self.kind) {
+        if letter_at(records.file, other) != self.letter() {
             return false;
         }
-        match self.kind {
-            Kind::TB => true,
-            Kind::TS => true,
-            Kind::TV => width_at(records.file, other) == width_at(records.file, self.offset),
-            Kind::TX => code_at(records.file, other) == value_code(records.file, self.offset),
-            Kind::TO => first_reference(records, other) == self.part,
-            Kind::TC => first_reference(records, other) == self.part,
-            Kind::TR => same_listed_type(records, other, self.offset),
-            _ => false,
+        match self {
+            Sought::Bool => true,
+            Sought::String => true,
+            Sought::BitVec(width) => width_at(records.file, other) == width,
+            Sought::Extension(code) => code_at(records.file, other) == code,
+            Sought::Option(part) => first_reference(records, other) == part,
+            Sought::Set(part) => first_reference(records, other) == part,
+            Sought::Record(offset) => same_listed_type(records, other, offset),
         }
     }
 
-    // Its hash; 0 where no type is of that kind.
+    // Its hash.
     fn hash(self, records: Records<'_>) -> u32
-        ensures { Wanted records.entry.file.now records.entry.work.now records.entry.sizes.rows self.offset self.kind self.part → TypeHash records.entry.file.now records.entry.work.now records.entry.sizes.rows self.offset result }
+        ensures { (o : ℕ) → Wanted records.entry.file.now records.entry.work.now records.entry.sizes.rows o self → TypeHash records.entry.file.now records.entry.work.now records.entry.sizes.rows o result }
     {
         index_search::octets(records.file);
-        match self.kind {
-            Kind::TB => hash::bare_hash(b'B'),
-            Kind::TS => hash::bare_hash(b'S'),
-            Kind::TV => hash::number_hash(b'V', width_at(records.file, self.offset)),
-            Kind::TX => hash::code_hash(b'X', value_code(records.file, self.offset)),
-            Kind::TO => hash::part_hash(b'O', self.part),
-            Kind::TC => hash::part_hash(b'C', self.part),
-            Kind::TR => hash::listed_hash(records, self.offset),
-            _ => 0,
+        let letter = self.letter();
+        match self {
+            Sought::Bool => hash::segment_hash(letter, Segment::Plain(&[])),
+            Sought::String => hash::segment_hash(letter, Segment::Plain(&[])),
+            Sought::BitVec(width) => hash::segment_hash(
+                letter,
+                Segment::Plain(&width.to_le_bytes()),
+            ),
+            Sought::Extension(code) => hash::segment_hash(letter, Segment::Plain(&[code])),
+            Sought::Option(part) => hash::segment_hash(
+                letter,
+                Segment::Reference(Referent::Type, part),
+            ),
+            Sought::Set(part) => hash::segment_hash(
+                letter,
+                Segment::Reference(Referent::Type, part),
+            ),
+            Sought::Record(offset) => hash::listed_hash(records, offset),
         }
     }
 
     // The slot from which it is looked for.
     fn home(self, records: Records<'_>) -> usize
-        ensures { Wanted records.entry.file.now records.entry.work.now records.entry.sizes.rows self.offset self.kind self.part → TypeHome records.entry.file.now records.entry.work.now records.entry.sizes.rows self.offset result }
+        ensures { (o : ℕ) → Wanted records.entry.file.now records.entry.work.now records.entry.sizes.rows o self → TypeHome records.entry.file.now records.entry.work.now records.entry.sizes.rows o result }
     {
         slots::scale(records.sizes.rows, self.hash(records))
     }
 }
 
-// The number of the first type that is that of the term at an offset, of this kind, which does not refer to it.
-fn find(records: Records<'_>, offset: u32, kind: Kind) -> Option<u32>
-    ensures { Marked (mark_at records.entry.file.now offset) (Some kind) → ListedSought records.entry.file.now records.entry.work.now records.entry.sizes.rows records.entry.sizes.types offset result }
+impl Test for Sought {
+    ghost tells = { λ sought records n r. (o : ℕ) → Wanted records.file.now records.work.now records.sizes.rows o sought → SameType records.file.now records.work.now records.sizes.rows (cell records.work.now records.sizes.rows type_offset n) o r };
+
+    fn is(&self, records: Records<'_>, n: u32) -> bool {
+        self.is_at(records, records.get(Column::TypeOffset, n))
+    }
+}
+
+// The number of the first type that is what is sought.
+fn find(records: Records<'_>, sought: Sought) -> Option<u32>
+    ensures { (o : ℕ) → Wanted records.entry.file.now records.entry.work.now records.entry.sizes.rows o sought → ListedSought records.entry.file.now records.entry.work.now records.entry.sizes.rows records.entry.sizes.types o result }
 {
-    let kind = kind_sought(kind)?;
-    let part = part_sought(records, offset, kind);
-    let sought = Sought { offset, kind, part };
     let b = sought.home(records);
-    let found = slots::probe(
-        records,
-        Table::Types,
-        records.sizes.types,
-        b,
-        |records, n| { sought.is_type(records, n) },
-    );
+    let found = slots::probe(records, Table::Types, records.sizes.types, b, &sought);
     Some(records.get(Column::TypeFirst, found.ok()?))
 }
 
@@ -165,8 +159,8 @@ pub fn type_of(records: Records<'_>, offset: u32, kind: Kind) -> Option<u32>
     ensures { Marked (mark_at records.entry.file.now offset) (Some kind) → TypeSought records.entry.file.now records.entry.work.now records.entry.sizes offset result }
 {
     index_search::octets(records.file);
-    match kind {
-        Kind::XV | Kind::XE | Kind::XA => Some(first_reference(records, offset)),
-        _ => find(records, offset, kind),
+    match sought_by(records, offset, kind) {
+        Some(sought) => find(records, sought),
+        None => Some(first_reference(records, offset)),
     }
 }

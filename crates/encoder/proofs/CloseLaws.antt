@@ -1,44 +1,39 @@
 -- Encode from its parts: the end of the walk, the script of an accepted file, and the whole.
 -- Assumes nothing.
-use mathlib.Core.Path.{◌≡◌, refl, sym, ap, ◌∙◌, subst}
-use mathlib.Core.Bool.{Bool, true, false}
+use mathlib.Core.Path.{◌≡◌, refl, sym, ap, ◌∙◌}
 use Prim.Native.Nat.{ℕ, ◌<◌, ◌≤◌}
-use native.Mathlib.Omega.{arith}
-use mathlib.Core.List.{List, ◌++◌}
-use lib.Dec.{ltb}
+use mathlib.Core.List.{List}
 use lib.ListN.{length}
-use borrow.Author.Tests.{ltb-false, ltb-true}
 use Rattle.std.specs.Prelude.{Result, Ok, Err}
-use Rattle.script_spec.specs.Base.{Bytes, Answer, refused}
-use Rattle.script_spec.specs.File.{TermFile, members, inputs, terms, term_at, checked}
+use Rattle.script_spec.specs.Base.{Bytes}
+use Rattle.script_spec.specs.File.{TermFile, members, inputs, terms, term_at}
 use Rattle.script_spec.specs.Command.{script}
-use Rattle.script_spec.specs.Walk.{State, Step, went, stopped, start, names, encode_inputs, assertions, first_equal, encoded}
+use Rattle.script_spec.specs.Walk.{Step, went, stopped, start, names, encode_inputs, assertions, first_equal, encoded}
 use Rattle.refusal.specs.Numbers.{number, answered}
 use Rattle.refusal.specs.declared.Refused.{Refused}
-use Rattle.write_bytes.specs.Writing.{longest, ceiling, Wrote}
+use Rattle.write_bytes.specs.Writing.{longest, Wrote}
 use Rattle.write_bytes.specs.Writers.{Writes}
 use Rattle.write_bytes.specs.declared.writer.Writer.{Writer}
 use Rattle.write_bytes.proofs.Laws.{from_start}
 use Rattle.index.specs.Cells.{cell, term_first, term_place}
 use Rattle.index.specs.First.{first_term}
-use Rattle.index.specs.Meaning.{CheckedIndex, Unnamed}
+use Rattle.index.specs.Meaning.{Unnamed}
 use Rattle.index.specs.declared.Records.{Records}
 use Rattle.index.specs.Held.{Stays}
-use Rattle.index.specs.declared.Sizes.{Sizes}
 use Rattle.index.proofs.Firsts.{first_terms, first_below, first_first}
 use Rattle.index.proofs.Places.{place_first_equal}
 use Rattle.walk_names.specs.Naming.{IndexOf}
-use Rattle.walk_names.specs.Progress.{Indexed, Went, Holds, Remains, Advances}
+use Rattle.walk_names.specs.Progress.{Indexed, Went, Holds, Advances}
 use Rattle.walk_names.specs.declared.walk.Stopped.{Stopped}
 use Rattle.walk_names.specs.declared.walk.Walk.{Walk}
 use Rattle.walk_names.proofs.Names.{numbers_start}
 use Rattle.walk_names.proofs.Advancing.{script_append, remains_trans, remains_writes, indexed_remains, rewritten}
-use Rattle.walk_queries.specs.Made.{Ascends, MakesLists}
+use Rattle.walk_queries.specs.Made.{MakesLists}
 use Rattle.walk_queries.proofs.Ascending.{accepted_ascends}
 use Rattle.check_file.specs.Promise.{Fills}
 use Rattle.encoder.specs.Inputs.{any_ready, inputs_walk, SpellsAssertions}
-use Rattle.encoder.specs.Ending.{RefusedAt, Ended, WritesRecords, Gives, walked, Checked, Starts, WritesScript, Written}
-use Rattle.encoder.proofs.EndLaws.{gives_length, gives_no_room, gives_refused, encoded_walked, encoded_refused}
+use Rattle.encoder.specs.Ending.{RefusedAt, Ended, WritesRecords, Gives, walked, Checked, Starts, WritesScript}
+use Rattle.encoder.proofs.EndLaws.{gives_length, gives_no_room, gives_refused, encoded_walked}
 
 -- ---- the end of the walk
 
@@ -155,17 +150,12 @@ module _ {v u w : Walk} {r : Result (Unit {0}) Refused} (held : Stays v.records.
 
 -- ---- the whole
 
--- a file that is refused before its script is written
-pub written_refused : (file : Bytes) (work work₁ : List ℕ) (x : Bytes) {y : Bytes} {e : Refused} → Fills file work work₁ (Err e) → Written file work x y (Err e)
-unfolding answered
-written_refused file work work₁ x {e = e} F = rw (encoded_refused file (length work) (number e.refusal) e.place (length x) F.refuses) (gives_refused refl refl)
-
--- its script after a walk from its start
-pub written_accepted : {file : Bytes} (work work₁ : List ℕ) {x y : Bytes} {r : Result ℕ Refused} {v w : Walk} → WritesScript v w r → Fills file work work₁ (Ok v.records.now.sizes) → v.records.now.file.now ≡ file
+-- the script of an accepted file after a walk from its start
+pub script_given : {file : Bytes} (work : List ℕ) {work₁ : List ℕ} {x y : Bytes} {r : Result ℕ Refused} {v w : Walk} → WritesScript v w r → Fills file work work₁ (Ok v.records.now.sizes) → v.records.now.file.now ≡ file
     → v.records.now.work.now ≡ work₁ → v.types ≡ 0 → v.funs ≡ 0 → v.terms ≡ 0 → v.script.now.limit ≡ length x → v.script.now.at ≡ 0 → v.script.now.out.now ≡ x → y ≡ w.script.now.out.now
-    → Written file work x y r
+    → Gives y r (encoded file (length work) (length x))
 unfolding answered
-written_accepted {file} work work₁ {x = x} {v = v} W F hf hw a b c hl ha hx hy =
+script_given {file} work {x = x} {v = v} W F hf hw a b c hl ha hx hy =
     let B : Starts F.records v =
     record {
       ascends = accepted_ascends file (length work) F.records F.accepts;

@@ -1,16 +1,14 @@
 -- The end of a script: one that fits is given by its length, one that does not is refused, and encode's answer is that of the walk.
 -- Assumes nothing.
 use mathlib.Core.Path.{◌≡◌, refl, sym, ap, ◌∙◌}
-use mathlib.Core.Bool.{Bool, true, false}
-use Prim.Native.Nat.{ℕ, ◌-◌, ◌≤◌, ◌<◌}
+use Prim.Native.Nat.{ℕ, ◌≤◌, ◌<◌}
 use native.Mathlib.Numerals.{unary_clauses}
 use native.Mathlib.Omega.{arith}
 use mathlib.Core.List.{List, ◌++◌}
-use lib.Dec.{ltb}
-use lib.ListN.{length, take, drop, replicate, length-append, length-take}
+use lib.ListN.{length, take, replicate, length-take}
 use lib.Seq.{take_at}
-use borrow.Author.Tests.{ltb-false, ltb-true}
 use Rattle.std.specs.Prelude.{Result, Ok, Err}
+use Rattle.std.specs.Result.{result_unwrap_or}
 use Rattle.script_spec.specs.Base.{Bytes, Answer, accepted, refused}
 use Rattle.script_spec.specs.File.{TermFile, members, inputs, checked}
 use Rattle.script_spec.specs.Command.{Command, script, fitting, left}
@@ -19,14 +17,11 @@ use Rattle.script_spec.proofs.Demand.{encoded_faithful}
 use Rattle.script_spec.proofs.Laws.{never}
 use Rattle.refusal.specs.Numbers.{answered, number}
 use Rattle.refusal.specs.declared.Refused.{Refused}
-use Rattle.write_bytes.specs.Writing.{cleared, longest, ceiling, Wrote, length_of}
+use Rattle.write_bytes.specs.Writing.{cleared, longest, Wrote, length_of}
 use Rattle.write_bytes.proofs.Laws.{wrote_within, wrote_fits, wrote_past, fitting_within, fitting_past}
+use Rattle.check_file.specs.Promise.{Fills}
 use Rattle.encoder.specs.Promise.{encoded_as, Encodes}
 use Rattle.encoder.specs.Ending.{Gives, walked}
-
--- what is behind a reference, by its ghost name
-pub reached : {A : Type 0} {y z : A} {m n : ℕ} → m ≡ n → (m ≡ n → y ≡ z) → y ≡ z
-reached e f = f e
 
 -- ---- the end of a script
 
@@ -70,7 +65,7 @@ module _ (file : Bytes) (w : ℕ) (f : TermFile) (e : checked file w ≡ accepte
       go (stopped n t) = refl
 
 -- the answer of a file that is refused
-pub encoded_refused : (file : Bytes) (w n p room : ℕ) → checked file w ≡ refused n p → encoded file w room ≡ refused n p
+encoded_refused : (file : Bytes) (w n p room : ℕ) → checked file w ≡ refused n p → encoded file w room ≡ refused n p
 unfolding encoded
 encoded_refused file w n p room e = rw (e, encoded)
 
@@ -91,7 +86,7 @@ given_size (refused m p) G = let e : accepted _ ≡ refused m p = G.says in neve
 
 module _ (file : Bytes) (work work₁ : List ℕ) (x : Bytes) {work' : List ℕ} {y z : Bytes} (same : length y ≡ length x) (c : work' ≡ replicate (length work₁) 0) (kept : length work₁ ≡ length work) where
   -- zeros stand past a script
-  pub encodes_script : {n : ℕ} → Gives y (Ok n) (encoded file (length work) (length x)) → z ≡ cleared y n → Encodes file work x work' z (Ok n)
+  encodes_script : {n : ℕ} → Gives y (Ok n) (encoded file (length work) (length x)) → z ≡ cleared y n → Encodes file work x work' z (Ok n)
   unfolding left cleared
   encodes_script {n} G e =
       let w = encoded file (length work) (length x) in
@@ -106,10 +101,20 @@ module _ (file : Bytes) (work work₁ : List ℕ) (x : Bytes) {work' : List ℕ}
       }
 
   -- a refusal leaves zeros alone
-  pub encodes_refusal : {r : Refused} → Gives y (Err r) (encoded file (length work) (length x)) → z ≡ cleared y 0 → Encodes file work x work' z (Err r)
+  encodes_refusal : {r : Refused} → Gives y (Err r) (encoded file (length work) (length x)) → z ≡ cleared y 0 → Encodes file work x work' z (Err r)
   unfolding answered length_of left cleared
   encodes_refusal {r} G e = record { answer = G.says; script_is = zeros (encoded file (length work) (length x)) G.says; cleared = rw kept at c; faithful = λ f m d q. never cc }
     where
       zeros : (w : Answer Bytes) → encoded_as (Err r) ≡ length_of w → z ≡ left w (length x)
       zeros (accepted s) h = never cc
       zeros (refused n p) h = rw (sym same) (simp unary_clauses at e)
+
+  -- what follows the script is cleared, or all of the buffer
+  pub encodes : (r : Result ℕ Refused) → Gives y r (encoded file (length work) (length x)) → z ≡ cleared y (result_unwrap_or r 0) → Encodes file work x work' z r
+  encodes (Ok n) G e = encodes_script G e
+  encodes (Err r) G e = encodes_refusal G e
+
+-- a file that is refused before its script is written, when the memory has been cleared
+pub encodes_refused : (file : Bytes) (work : List ℕ) (x : Bytes) {work' : List ℕ} {z : Bytes} {r : Refused} → Fills file work work' (Err r) → z ≡ cleared x 0 → Encodes file work x work' z (Err r)
+unfolding answered
+encodes_refused file work x {r = r} F e = encodes file work work x refl F.cleared refl (Err r) (rw (encoded_refused file (length work) (number r.refusal) r.place (length x) F.refuses) (gives_refused refl refl)) e

@@ -13,7 +13,7 @@ use Rattle.script_spec.specs.Tree.{Tm, Enums}
 use Rattle.script_spec.specs.File.{TermFile, members, inputs, term_at}
 use Rattle.script_spec.specs.Walk.{State, Step, went, stopped, encode_term, encode_inputs, ◌>>◌}
 use Rattle.index.specs.Cells.{cell, input_term}
-use Rattle.index.specs.Meaning.{Index, input_at}
+use Rattle.index.specs.Meaning.{input_at}
 use Rattle.walk_names.specs.Progress.{memory, rows, Indexed, Went, Holds, Remains, Advances}
 use Rattle.walk_names.specs.declared.walk.Walk.{Walk}
 use Rattle.walk_names.specs.declared.walk.Stopped.{Stopped}

@@ -78,26 +78,31 @@ number_short NoRoom = omega arith
 
 -- ---- a refusal's line
 
+-- how many bytes of a line are written
+line_length : (e : Result ℕ Refusal) → result_unwrap_or e 0 ≡ written (answer e)
+unfolding written answer
+line_length (Ok m) = refl
+line_length (Err q) = refl
+
 -- a line that was written from the start of a buffer, and ended
-pub refusal_shown : (q : Refusal) {x z : Bytes} {p r : ℕ} {u v w : Writer} {e : Result ℕ Refusal} → p < 2 ^ 32 → u.out.now ≡ x → u.limit ≡ length x → u.at ≡ 0
-    → Writes u v (printed (refused (number q) p)) → Finishes v w e → z ≡ w.out.now → r ≡ result_unwrap_or e 0 → PrintsRefusal x (number q) p z r
-unfolding written length_of left answer
-refusal_shown q {x} {z} {p} {r} {e = e} k hx hl ha A F hz hr =
+pub refusal_printed : (q : Refusal) {x z : Bytes} {p : ℕ} {u v w : Writer} {e : Result ℕ Refusal} → p < 2 ^ 32 → u.out.now ≡ x → u.limit ≡ length x → u.at ≡ 0
+    → Writes u v (printed (refused (number q) p)) → Finishes v w e → z ≡ w.out.now → PrintsRefusal x (number q) p z e
+unfolding written length_of left
+refusal_printed q {x} {z} {p} {e = e} k hx hl ha A F hz =
     let n = number q in
     let h : n < 2 ^ 32 = omega (arith, number_short q) in
     let L : Leaves x z (answer e) (fitting (printed (refused n p)) (length x)) = rw hz (rw hx at (finished (rw hx hl) ha A F)) in
-    let size : r ≡ written (length_of (fitting (printed (refused n p)) (length x))) = hr ∙ answered_length e ∙ ap written L.says in
     record {
-      shows = record { holds = L.holds; size = size };
+      leaves = L;
       is = λ room.
           let fits : fitting (printed (refused n p)) (length x) ≡ accepted (printed (refused n p)) = fitting_within (printed (refused n p)) (length x) (omega (arith, refusal_length n p h k)) in
-          rw (size ∙ ap (λ (a : Answer Bytes). written (length_of a)) fits, L.holds ∙ ap (λ (a : Answer Bytes). left a (length x)) fits)
+          rw (line_length e ∙ ap written L.says ∙ ap (λ (a : Answer Bytes). written (length_of a)) fits, L.holds ∙ ap (λ (a : Answer Bytes). left a (length x)) fits)
           (take_at (printed (refused n p)) _ (length (printed (refused n p))) refl);
     }
-  where
-    answered_length : (e : Result ℕ Refusal) → result_unwrap_or e 0 ≡ written (answer e)
-    answered_length (Ok m) = refl
-    answered_length (Err q) = refl
+
+-- such a line is shown
+shown : {x y : Bytes} {n p : ℕ} {e : Result ℕ Refusal} → PrintsRefusal x n p y e → Shows x (printed (refused n p)) y (result_unwrap_or e 0)
+shown {e = e} R = record { holds = R.leaves.holds; size = line_length e ∙ ap written R.leaves.says }
 
 -- ---- the answer
 
@@ -124,8 +129,8 @@ prints_as file work x {work'} {y} {r} w e S t c =
     }
 
 module _ (file : Bytes) (work : List ℕ) (x : Bytes) {work' : List ℕ} where
-  pub prints_long : {y : Bytes} {r : ℕ} → 8192 < length file → work' ≡ replicate (length work) 0 → PrintsRefusal x 1 0 y r → Prints file work x work' y r
-  prints_long h c R = prints_as file work x (refused 1 0) (answered_long file (length work) (length x) h) R.shows (λ b. R.is (omega arith)) c
+  pub prints_long : {y : Bytes} {e : Result ℕ Refusal} {r : ℕ} → 8192 < length file → work' ≡ replicate (length work) 0 → PrintsRefusal x 1 0 y e → r ≡ result_unwrap_or e 0 → Prints file work x work' y r
+  prints_long h c R q = rw q (prints_as file work x (refused 1 0) (answered_long file (length work) (length x) h) (shown R) (λ b. R.is (omega arith)) c)
 
   module _ {y : Bytes} {v : Result ℕ Refused} (h : length file ≤ 8192) (same : length y ≡ length x) (E : Encodes file work x work' y v) where
     -- a script
@@ -153,9 +158,10 @@ module _ (file : Bytes) (work : List ℕ) (x : Bytes) {work' : List ℕ} where
     refusal_given (accepted s) e = never cc
     refusal_given (refused m q) e = cc
 
-    pub prints_refused : {e : Refused} {r : ℕ} {z : Bytes} → v ≡ Err e → PrintsRefusal y (number e.refusal) e.place z r → Prints file work x work' z r
+    pub prints_refused : {e : Refused} {l : Result ℕ Refusal} {r : ℕ} {z : Bytes} → v ≡ Err e → PrintsRefusal y (number e.refusal) e.place z l → r ≡ result_unwrap_or l 0 → Prints file work x work' z r
     unfolding numbers.answered
-    prints_refused {e} {r} {z} h' R =
+    prints_refused {e} {z = z} h' R q =
         let g = refusal_given (encoded file (length work) (length x)) {n = number e.refusal} {p = e.place} (ap encoded_as (sym h') ∙ E.answer) in
-        prints_as file work x (refused (number e.refusal) e.place) (answered_short file (length work) (length x) h ∙ g)
-        (record { holds = rw same at R.shows.holds; size = rw same at R.shows.size }) (λ b. R.is (omega arith)) E.cleared
+        let S = shown R in
+        rw q (prints_as file work x (refused (number e.refusal) e.place) (answered_short file (length work) (length x) h ∙ g)
+        (record { holds = rw same at S.holds; size = rw same at S.size }) (λ b. R.is (omega arith)) E.cleared)

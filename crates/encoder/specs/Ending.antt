@@ -16,6 +16,7 @@ use Rattle.walk_names.specs.Progress.{Indexed, Went, Remains}
 use Rattle.walk_names.specs.declared.walk.Stopped.{Stopped}
 use Rattle.walk_names.specs.declared.walk.Walk.{Walk}
 use Rattle.walk_queries.specs.Made.{Ascends}
+use Rattle.check_file.specs.Promise.{Fills}
 use Rattle.encoder.specs.Promise.{encoded_as}
 
 -- a walk that stops at a term is refused at the first record that is equal to it
@@ -65,6 +66,6 @@ pub record WritesScript (v w : Walk) (r : Result ℕ Refused) : Type 0 where
   pub same : w.script.now.out.ghost_name ≡ v.script.now.out.ghost_name
   pub go : (f : TermFile) → Checked f v → Starts f v → Gives w.script.now.out.now r (walked f (length v.script.now.out.now) (encode_inputs (members f) (inputs f) start))
 
--- a file's script is written into a buffer x, or the file is refused
-abbrev pub Written : Bytes → List ℕ → Bytes → Bytes → Result ℕ Refused → Type 0
-Written file work x y r = Gives y r (encoded file (length work) (length x))
+-- the script of a file that fill has accepted, with an index of these sizes, is written into a buffer x, or the file is refused
+pub record Written (file : Bytes) (work : List ℕ) (sizes : Sizes) (x y : Bytes) (r : Result ℕ Refused) : Type 0 where
+  pub go : (given : List ℕ) → Fills file given work (Ok sizes) → Gives y r (encoded file (length given) (length x))

@@ -1,10 +1,12 @@
 -- What printing promises: what `termscript` writes, in a buffer.
 -- Assumes nothing.
-use Rattle.std.specs.Prelude.{◌≡◌, true, false, ℕ, ◌≤◌, List, leb, length, take, replicate}
+use Rattle.std.specs.Prelude.{◌≡◌, true, false, ℕ, ◌≤◌, List, leb, length, take, replicate, Result}
+use Rattle.std.specs.Result.{result_unwrap_or}
 use Rattle.script_spec.specs.Base.{Bytes, Answer, accepted, refused}
 use Rattle.script_spec.specs.Command.{fitting, left}
 use Rattle.script_spec.specs.Walk.{encoded, printed, termscript}
-use Rattle.write_bytes.specs.Writing.{length_of}
+use Rattle.refusal.specs.declared.Refusal.{Refusal}
+use Rattle.write_bytes.specs.Writing.{answer, length_of, Leaves}
 
 -- the answer to a file of at most 8,192 bytes; a longer one is refused by 1
 unfoldable pub answered : Bytes → ℕ → ℕ → Answer Bytes
@@ -20,10 +22,10 @@ pub record Shows (x : Bytes) (s y : Bytes) (r : ℕ) : Type 0 where
   pub holds : y ≡ left (fitting s (length x)) (length x)
   pub size : r ≡ written (length_of (fitting s (length x)))
 
--- the line of a refusal is printed; a buffer of 37 bytes has room for each
-pub record PrintsRefusal (x : Bytes) (n p : ℕ) (y : Bytes) (r : ℕ) : Type 0 where
-  pub shows : Shows x (printed (refused n p)) y r
-  pub is : 37 ≤ length x → take r y ≡ printed (refused n p)
+-- the line of a refusal is printed, or does not fit; a buffer of 37 bytes has room for each
+pub record PrintsRefusal (x : Bytes) (n p : ℕ) (y : Bytes) (r : Result ℕ Refusal) : Type 0 where
+  pub leaves : Leaves x y (answer r) (fitting (printed (refused n p)) (length x))
+  pub is : 37 ≤ length x → take (result_unwrap_or r 0) y ≡ printed (refused n p)
 
 -- The answer to a file is printed into the script's buffer, and the working memory is all zero afterwards. With 16,384 entries of
 -- working memory and 65,536 bytes for the script that is what `termscript` writes.

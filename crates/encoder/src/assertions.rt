@@ -3,6 +3,7 @@ ghost use Rattle.encoder.specs.Inputs.{SpellsAssertions};
 
 use index::{Column, Records};
 use write_bytes::writer::Writer;
+use write_terms::lines::Assertion;
 
 // Writes the assertions of an accepted file, each as a line in the rest of the script, as far as the limit.
 pub fn put_assertions(records: Records<'_>, w: &mut Writer<'_>)
@@ -12,7 +13,7 @@ pub fn put_assertions(records: Records<'_>, w: &mut Writer<'_>)
         if w.is_past() {
             return;
         }
-        let n = records.get(Column::InputTerm, i);
-        w.lend(records, n, write_terms::lines::put_assertion);
+        let number = records.get(Column::InputTerm, i);
+        w.lend(Assertion { records, number });
     }
 }

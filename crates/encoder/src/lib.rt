@@ -9,7 +9,7 @@ pub mod start;
 ghost use Rattle.encoder.specs.Promise.{Encodes};
 ghost use Rattle.encoder.specs.Ending.{RefusedAt, WritesRecords, WritesScript, Written};
 
-use index::{Column, Records, RecordsMut};
+use index::{Column, Records, RecordsMut, Sizes};
 use refusal::{Refusal, Refused};
 use walk_names::walk::{Stopped, Walk};
 use write_bytes::writer::Writer;
@@ -54,11 +54,10 @@ fn write_script(walk: &mut Walk) -> Result<usize, Refused>
     Ok(walk.script.at)
 }
 
-// Writes the script of a term file into its buffer, and answers its length; or refuses the file.
-fn written(file: &[u8], work: &mut [u32], script: &mut [u8]) -> Result<usize, Refused>
-    ensures { Written file.now work.old script.old script.new result }
+// Writes the script of an accepted file, whose index of these sizes is in the memory, into its buffer, and answers its length; or refuses it.
+fn written(file: &[u8], work: &mut [u32], sizes: Sizes, script: &mut [u8]) -> Result<usize, Refused>
+    ensures { Written file.now work.old sizes script.old script.new result }
 {
-    let sizes = check_file::fill(file, work)?;
     let mut walk = Walk {
         records: &mut RecordsMut { file, work, sizes },
         script: &mut Writer::new(script),
@@ -73,16 +72,16 @@ fn written(file: &[u8], work: &mut [u32], script: &mut [u8]) -> Result<usize, Re
 pub fn encode(file: &[u8], work: &mut [u32], script: &mut [u8]) -> Result<usize, Refused>
     ensures { Encodes file.now work.old script.old work.new script.new result }
 {
-    let answer = written(file, work, script);
-    write_bytes::clear_words(work);
-    match answer {
-        Ok(n) => {
-            write_bytes::clear(script, n);
-            Ok(n)
-        }
+    match check_file::fill(file, work) {
         Err(refused) => {
             write_bytes::clear(script, 0);
             Err(refused)
+        }
+        Ok(sizes) => {
+            let answer = written(file, work, sizes, script);
+            write_bytes::clear_words(work);
+            write_bytes::clear(script, answer.unwrap_or(0));
+            answer
         }
     }
 }

@@ -22,31 +22,29 @@ fn put_refusal(w: &mut Writer<'_>, why: Refused)
     w.put_byte(b'\n');
 }
 
-// Prints the line of a refusal into a buffer, and answers its length; 0 where it does not fit.
-fn print_refusal(script: &mut [u8], why: Refused) -> usize
+// Prints the line of a refusal into a buffer, and answers its length; or refuses where it does not fit.
+fn print_refusal(script: &mut [u8], why: Refused) -> Result<usize, Refusal>
     ensures { PrintsRefusal script.old (number why.refusal) why.place script.new result }
 {
     let mut w = Writer::new(script);
     put_refusal(&mut w, why);
-    w.finish().unwrap_or(0)
+    w.finish()
 }
 
-// Prints what `termscript` writes for a file into the script's buffer, and answers its length.
+// Prints what `termscript` writes for a file into the script's buffer, and answers how many bytes; 0 where they do not fit.
 pub fn print(file: &[u8], work: &mut [u32], script: &mut [u8]) -> usize
     ensures { Prints file.now work.old script.old work.new script.new result }
 {
     if LONGEST < file.len() {
         write_bytes::clear_words(work);
-        return print_refusal(
-            script,
-            Refused {
-                refusal: Refusal::FileTooLong,
-                place: 0,
-            },
-        );
+        let why = Refused {
+            refusal: Refusal::FileTooLong,
+            place: 0,
+        };
+        return print_refusal(script, why).unwrap_or(0);
     }
     match crate::encode(file, work, script) {
         Ok(n) => n,
-        Err(why) => print_refusal(script, why),
+        Err(why) => print_refusal(script, why).unwrap_or(0),
     }
 }

@@ -6,8 +6,8 @@ use mathlib.Core.Path.{◌≡◌, refl, sym, ap, ◌∙◌, subst}
 use mathlib.Core.Bool.{false}
 use mathlib.Core.List.{[], ◌∷◌}
 use lib.Dec.{leb, nleb→lt}
-use lib.ListN.{length, take, drop, get_or, length-take, length-drop, drop_of_length-le, get_or-eq_default}
-use lib.Seq.{get_or-take, get_or-drop, take-nil}
+use lib.ListN.{length, take, drop, get_or, length-take, length-drop, drop_of_length-le}
+use lib.Seq.{get_or-drop, take-nil}
 use Rattle.std.specs.Prelude.{Option, None}
 use Rattle.script_spec.specs.Base.{Bytes, bytes, same, any}
 use Rattle.script_spec.specs.Fields.{low}
@@ -52,12 +52,3 @@ module _ (file : Bytes) (o : ℕ) where
       let first : get_or (drop o file) 0 0 ≡ get_or file o 0 = get_or-drop o file 0 0 ∙ ap (λ (n : ℕ). get_or file n 0) zero-on in
       let second = get_or-drop o file 1 0 in
       subst (λ (s : Bytes). Marked s k) (two_bytes (drop o file) (rw length-drop (omega arith))) (rw (first, second) g)
-
-  -- the second byte of a mark
-  pub letter_short : length file < o + 2 → 0 ≡ get_or (mark_at file o) 1 0
-  unfolding mark_at
-  letter_short h = sym (get_or-eq_default (take 2 (drop o file)) 0 (simp (length-take, length-drop) (omega arith)))
-
-  pub letter_read : get_or file (o + 1) 0 ≡ get_or (mark_at file o) 1 0
-  unfolding mark_at
-  letter_read = sym (get_or-take 2 (drop o file) 1 0 (omega arith) ∙ get_or-drop o file 1 0)

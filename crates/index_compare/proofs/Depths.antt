@@ -21,7 +21,7 @@ use Rattle.index_compare.specs.declared.compare.View.TheVariants.{Depth}
 
 -- ---- one number more
 
-pub larger_kind : (b : Bool) (number most : ℕ) (ns : List ℕ) → max (greatest (of_kind b number (most ∷ []))) (greatest ns) ≡ max most (greatest (of_kind b number ns))
+larger_kind : (b : Bool) (number most : ℕ) (ns : List ℕ) → max (greatest (of_kind b number (most ∷ []))) (greatest ns) ≡ max most (greatest (of_kind b number ns))
 unfolding of_kind greatest
 larger_kind true number most ns = omega arith
 larger_kind false number most ns = omega arith

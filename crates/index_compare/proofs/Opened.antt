@@ -21,7 +21,9 @@ use Rattle.index_compare.proofs.Steps.{reference_short, reference_at}
 use Rattle.index_compare.specs.View.{kind_of, reference_number, of_kind, reference_numbers, larger, viewed, term_as}
 use Rattle.index_compare.specs.Shape.{Opens, first_cell}
 use Rattle.index_compare.specs.declared.compare.View.TheVariants.{Listed, Depth}
-use Rattle.index_compare.proofs.Depths.{larger_kind}
+use Rattle.index_compare.specs.declared.segments.Referent.TheVariants as referent
+use Rattle.index_compare.proofs.Compared.{led_map}
+use Rattle.index_compare.proofs.Depths.{greatest_end, greatest_next}
 
 -- ---- the reference at the start of a body
 
@@ -78,17 +80,11 @@ first_named work k q e = rw (q, e)
 
 module _ (work : List ℕ) (k kind : ℕ) where
   -- with one reference more
-  pub greatest_term : (r most : ℕ) (l : List Segment)
-      → max (larger 4 (cell work k term_depth r) kind most) (greatest (reference_numbers kind (map (viewed work k Depth) l)))
-      ≡ max most (greatest (reference_numbers kind (map (viewed work k Depth) (term_ref r ∷ l))))
-  unfolding larger reference_numbers viewed term_as kind_of reference_number
-  greatest_term r most l = larger_kind (eqb 4 kind) (cell work k term_depth r) most (reference_numbers kind (map (viewed work k Depth) l))
-
-  greatest_type : (r most : ℕ) (l : List Segment)
-      → max (larger 2 (cell work k type_depth r) kind most) (greatest (reference_numbers kind (map (viewed work k Depth) l)))
-      ≡ max most (greatest (reference_numbers kind (map (viewed work k Depth) (type_ref r ∷ l))))
-  unfolding larger reference_numbers viewed kind_of reference_number
-  greatest_type r most l = larger_kind (eqb 2 kind) (cell work k type_depth r) most (reference_numbers kind (map (viewed work k Depth) l))
+  greatest_type : (t most : ℕ) (l : List Segment)
+      → max (larger 2 (cell work k type_depth t) kind most) (greatest (reference_numbers kind (map (viewed work k Depth) l)))
+      ≡ max most (greatest (reference_numbers kind (map (viewed work k Depth) (type_ref t ∷ l))))
+  unfolding viewed
+  greatest_type t most l = greatest_next kind most referent.Type (cell work k type_depth t) refl
 
   -- bytes have no depth
   greatest_zero : (b : Bool) (ns : List ℕ) → greatest (of_kind b 0 ns) ≡ greatest ns
@@ -101,12 +97,12 @@ module _ (work : List ℕ) (k kind : ℕ) where
   greatest_plain p l = greatest_zero (eqb 1 kind) (reference_numbers kind (map (viewed work k Depth) l))
 
   pub greatest_none : (most : ℕ) {l : List Segment} → l ≡ [] → most ≡ max most (greatest (reference_numbers kind (map (viewed work k Depth) l)))
-  unfolding reference_numbers greatest
-  greatest_none most e = rw e (omega arith)
+  greatest_none most e = greatest_end kind most (rw e)
 
   pub greatest_turn : (most : ℕ) {r found number : ℕ} {l m : List Segment} → found ≡ larger 4 number kind most → number ≡ cell work k term_depth r → l ≡ term_ref r ∷ m
       → max found (greatest (reference_numbers kind (map (viewed work k Depth) m))) ≡ max most (greatest (reference_numbers kind (map (viewed work k Depth) l)))
-  greatest_turn most {r} {l = l} {m = m} e q h = rw (e, q, h) (greatest_term r most m)
+  unfolding viewed term_as
+  greatest_turn most {number = number} e q h = rw e (greatest_next kind most referent.Term number (led_map _ h (rw q)))
 
   pub greatest_sole : {n found number : ℕ} {l : List Segment} → found ≡ larger 4 number kind 0 → number ≡ cell work k term_depth n → l ≡ term_ref n ∷ []
       → found ≡ greatest (reference_numbers kind (map (viewed work k Depth) l))

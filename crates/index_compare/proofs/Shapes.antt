@@ -17,12 +17,18 @@ use Rattle.index_compare.specs.Segment.{Segment, plain, type_ref, term_ref}
 use Rattle.index_compare.specs.Machine.{operand_of, coded_then, operator_then, field_then, item_then, items, count_then, reference, text_then, counted_size, last, walk_start, start_term, start_list, remaining, segments}
 use Rattle.index_compare.specs.Step.{WordRead}
 use Rattle.index_compare.specs.declared.segments.Item.TheVariants.{Term}
+use Rattle.index_compare.specs.Shape.{terms_ahead}
 use Rattle.index_compare.specs.declared.segments.Operand.{Operand}
+use Rattle.index_compare.specs.declared.shape.Terms.{Terms}
 use Rattle.index_compare.proofs.Steps.{cut_at, word_fits, reference_short, reference_at, operator_with}
 use Rattle.index_compare.specs.View.{segments_at}
 use Rattle.index_compare.proofs.Views.{start_bytes}
 
 -- ---- references to terms, one by one
+
+pub terms_over : (t : Terms) → t.left ≡ 0 → terms_ahead t ≡ []
+unfolding terms_ahead items
+terms_over t h = rw h
 
 pub terms_short : (n : ℕ) (s : Bytes) → leb 4 (length s) ≡ false → items Term n s ≡ []
 unfolding items item_then

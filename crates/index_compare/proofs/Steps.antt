@@ -4,19 +4,23 @@ use Prim.Native.Nat.{ℕ, zero, suc, ◌+◌, ◌-◌, ◌≤◌, ◌<◌}
 use native.Mathlib.Omega.{arith}
 use mathlib.Core.Path.{◌≡◌, ap, ◌∙◌}
 use mathlib.Core.Bool.{true, false}
-use mathlib.Core.List.{[], ◌∷◌}
+use mathlib.Core.List.{List, [], ◌∷◌}
 use lib.Dec.{leb, leb→le, nleb→lt}
 use borrow.Author.Tests.{le-leb, lt-leb}
 use lib.ListN.{length, take, drop, get_or, length-drop}
 use lib.Seq.{take_all}
-use Rattle.std.specs.Prelude.{Option, Some}
+use Rattle.std.specs.Prelude.{Option, Some, None, IfNone}
+use Rattle.std.specs.Bool.{⊤}
+use Rattle.std.specs.Iterator.{YieldsFirstBy, MakesProgress, item_count}
 use Rattle.script_spec.specs.Base.{Bytes}
 use Rattle.script_spec.specs.Fields.{low}
 use Rattle.index_compare.specs.Segment.{Segment, plain}
-use Rattle.index_compare.specs.Machine.{Then, cut, reference, operand_of, coded_then, code_then, operator_then, item_then, items, last}
-use Rattle.index_compare.specs.Step.{WordRead, walk_ending}
+use Rattle.index_compare.specs.Machine.{Then, cut, reference, operand_of, coded_then, code_then, operator_then, item_then, items, last, ahead}
+use Rattle.index_compare.specs.Step.{told, led_by, WordRead, walk_ending}
 use Rattle.index_compare.specs.declared.segments.Operand.{Operand}
 use Rattle.index_compare.specs.declared.segments.Item.{Item}
+use Rattle.index_compare.specs.declared.segments.Segment as met
+use Rattle.index_compare.specs.declared.segments.Segments.{Segments}
 use Rattle.index_compare.specs.declared.segments.Walk.{Walk}
 
 pub word_fits : (s : Bytes) → leb 4 (length s) ≡ true → 4 ≤ length s
@@ -71,3 +75,16 @@ module _ (w : Walk) (s : Bytes) (fields : w.counts ≡ false) where
   ending_item {i} e h =
       let first : walk_ending w s ≡ item_then w.item (items w.item (w.left - 1)) s = rw fields (items_positive w.item w.left s h) in
       first ∙ ap (λ (j : Item). item_then j (items w.item (w.left - 1)) s) e
+
+-- ---- the segments one by one
+
+-- an iterator that gave the first of what was left has fewer left
+module _ {S A B : Type 0} (rest : S → List B) {s t : S} where
+  pub fewer_left : (view : A → B) (r : Option A) → YieldsFirstBy view rest s r t → MakesProgress (λ _. ⊤) (item_count rest) s r t
+  fewer_left view None e = record { on = λ _. tt; keeps = tt; rests = λ _. tt }
+  fewer_left view (Some x) e = let more : length (rest s) ≡ suc (length (rest t)) = ap length e in record { on = λ _. (tt, tt, omega arith); keeps = tt; rests = λ _. tt }
+
+-- a step that gives the first segment, or rests where there is none
+pub step_yields : (s t : Segments) (r : Option met.Segment) → ahead s ≡ led_by r (ahead t) → IfNone r (t ≡ s) → YieldsFirstBy told ahead s r t
+step_yields s t None e h = (e, ap ahead h ∙ e)
+step_yields s t (Some x) e h = e

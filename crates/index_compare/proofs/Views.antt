@@ -11,10 +11,8 @@ use Rattle.index.specs.Cells.{cell, type_first, fun_first, term_first}
 use Rattle.index.specs.Standing.{mark_at}
 use Rattle.index_compare.specs.Segment.{Segment, plain, type_ref, fun_ref, term_ref, mapped}
 use Rattle.index_compare.specs.Machine.{walk_start}
-use Rattle.index_compare.specs.Step.{refer}
-use Rattle.index_compare.specs.View.{term_as, term_kind, viewed}
-use Rattle.index_compare.specs.declared.compare.View.{View}
-use Rattle.index_compare.specs.declared.compare.View.TheVariants.{First, Listed, Depth}
+use Rattle.index_compare.specs.View.{term_as, viewed}
+use Rattle.index_compare.specs.declared.compare.View.TheVariants.{First}
 
 -- ---- the record at an offset
 
@@ -26,12 +24,6 @@ module _ (file : Bytes) (o : ℕ) where
       rw (get_or-take 2 (drop o file) 0 0 (omega arith), get_or-take 2 (drop o file) 1 0 (omega arith), get_or-drop o file 0 0, get_or-drop o file 1 0, zero)
 
 -- ---- views
-
-pub refer_term : (v : View) (n : ℕ) → refer (term_kind v) n ≡ term_as v n
-unfolding term_as
-refer_term First n = refl
-refer_term Listed n = refl
-refer_term Depth n = refl
 
 -- a view by first equal records is a change of numbers
 pub viewed_first : (work : List ℕ) (k : ℕ) (l : List Segment) → map (viewed work k First) l ≡ map (mapped (cell work k type_first) (cell work k fun_first) (cell work k term_first)) l

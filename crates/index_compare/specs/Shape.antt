@@ -19,11 +19,6 @@ use Rattle.index_compare.specs.declared.shape.Shape.TheVariants.{Sole, Applied, 
 unfoldable pub terms_ahead : Terms → List Segment
 terms_ahead t = items Term t.left t.rest.now
 
--- segments after the reference to a term that is met; none where none is
-abbrev pub led_by_term : Option ℕ → List Segment → List Segment
-led_by_term None l = []
-led_by_term (Some n) l = term_ref n ∷ l
-
 -- the segments l of a body, by their shape
 abbrev pub Shaped : List Segment → Option Shape → Type 0
 Shaped l (Some (Sole n)) = l ≡ term_ref n ∷ []

@@ -7,9 +7,7 @@ use Rattle.index.specs.Rules.{greatest}
 use Rattle.index.specs.Standing.{mark_at, body_at}
 use Rattle.index_compare.specs.Segment.{Segment, plain, type_ref, fun_ref, term_ref}
 use Rattle.index_compare.specs.Machine.{ahead, segments}
-use Rattle.index_compare.specs.declared.segments.Segments.{Segments}
-use Rattle.index_compare.specs.declared.segments.Referent.{Referent}
-use Rattle.index_compare.specs.declared.segments.Referent.TheVariants as referent
+use Rattle.index_compare.specs.declared.compare.ViewedSegments.{ViewedSegments}
 use Rattle.index_compare.specs.declared.compare.View.{View}
 use Rattle.index_compare.specs.declared.compare.View.TheVariants.{First, Listed, Depth}
 
@@ -57,17 +55,16 @@ term_as First n = term_ref n
 term_as Listed n = type_ref n
 term_as Depth n = term_ref n
 
-abbrev pub term_kind : View → Referent
-term_kind First = referent.Term
-term_kind Listed = referent.Type
-term_kind Depth = referent.Term
-
 -- a segment with what a view has for its reference
 unfoldable pub viewed : List ℕ → ℕ → View → Segment → Segment
 viewed work rows v (plain p) = plain p
 viewed work rows v (type_ref n) = type_ref (cell work rows (type_column v) n)
 viewed work rows v (fun_ref n) = fun_ref (cell work rows fun_first n)
 viewed work rows v (term_ref n) = term_as v (cell work rows (term_column v) n)
+
+-- the segments still to come, in a view
+abbrev pub viewed_ahead : ViewedSegments → List Segment
+viewed_ahead s = map (viewed s.records.work.now s.records.sizes.rows s.view) (ahead s.rest)
 
 -- the segments of the record at an offset
 unfoldable pub segments_at : Bytes → ℕ → List Segment
@@ -77,10 +74,6 @@ segments_at file o = segments (mark_at file o) (body_at file o)
 pub record Decides (r : Bool) (P : Type 0) : Type 0 where
   pub true_of : P → r ≡ true
   pub of_true : r ≡ true → P
-
--- what is ahead of two walks is equal, each with other numbers
-abbrev pub SameAhead : (Segment → Segment) → Segments → (Segment → Segment) → Segments → Type 0
-SameAhead g v h w = map g (ahead v) ≡ map h (ahead w)
 
 -- the segments of two records are equal, each with other numbers
 abbrev pub SameSegments : Bytes → (Segment → Segment) → ℕ → (Segment → Segment) → ℕ → Type 0

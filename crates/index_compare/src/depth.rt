@@ -8,7 +8,7 @@ ghost use Rattle.index_compare.specs.Step.{kind_number};
 ghost use Rattle.index_compare.specs.Shape.{terms_ahead};
 ghost use Rattle.index_compare.specs.View.{segments_at, reference_numbers, larger, viewed};
 
-use crate::compare::{View, next_viewed, segments_at};
+use crate::compare::{View, segments_at, viewed};
 use crate::segments::{Referent, Segment, Segments};
 use crate::shape::{Shape, Terms, shape_at};
 use index::{Column, Records};
@@ -28,10 +28,9 @@ fn larger(found: Referent, number: u32, kind: Referent, most: u32) -> u32
 fn greatest_ahead(records: Records<'_>, rest: Segments<'_>, kind: Referent) -> u32
     ensures { result ≡ greatest (reference_numbers (kind_number kind) (map (viewed records.entry.work.now records.entry.sizes.rows View.Depth) (ahead rest.entry))) }
 {
-    let mut x = rest;
     let mut most = 0;
-    while let Some(s) = next_viewed(&mut x, records, View::Depth) {
-        if let Segment::Reference(found, number) = s {
+    for s in rest {
+        if let Segment::Reference(found, number) = viewed(records, View::Depth, s) {
             most = larger(found, number, kind, most);
         }
     }
@@ -42,15 +41,10 @@ fn greatest_ahead(records: Records<'_>, rest: Segments<'_>, kind: Referent) -> u
 fn greatest_terms(records: Records<'_>, terms: Terms<'_>, kind: Referent, most: u32) -> u32
     ensures { result ≡ max most (greatest (reference_numbers (kind_number kind) (map (viewed records.entry.work.now records.entry.sizes.rows View.Depth) (terms_ahead terms.entry)))) }
 {
-    let mut x = terms;
     let mut found = most;
-    while let Some(n) = x.next() {
-        found = larger(
-            Referent::Term,
-            records.get(Column::TermDepth, n),
-            kind,
-            found,
-        );
+    for n in terms {
+        let depth = records.get(Column::TermDepth, n);
+        found = larger(Referent::Term, depth, kind, found);
     }
     found
 }

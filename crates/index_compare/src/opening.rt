@@ -5,7 +5,7 @@ ghost use Rattle.index_compare.specs.Machine.{ahead, remaining, walk_start};
 ghost use Rattle.index_compare.specs.View.{segments_at, reference_numbers, viewed};
 ghost use Rattle.index_compare.specs.Shape.{Opens, first_cell};
 
-use crate::compare::{View, byte_at, next_viewed};
+use crate::compare::{View, byte_at, viewed};
 use crate::record::body_at;
 use crate::segments::{Referent, Segment, Segments, read_word};
 use crate::shape::{Shape, shape_by};
@@ -60,9 +60,8 @@ fn first_cell(records: Records<'_>, body: &[u8], column: Column) -> u32
 fn first_ahead(records: Records<'_>, rest: Segments<'_>) -> u32
     ensures { result ≡ get_or (reference_numbers 2 (map (viewed records.entry.work.now records.entry.sizes.rows View.Listed) (ahead rest.entry))) 0 0 }
 {
-    let mut x = rest;
-    while let Some(s) = next_viewed(&mut x, records, View::Listed) {
-        if let Segment::Reference(found, n) = s {
+    for s in rest {
+        if let Segment::Reference(found, n) = viewed(records, View::Listed, s) {
             if found == Referent::Type {
                 return n;
             }
@@ -77,13 +76,7 @@ fn first_shaped(records: Records<'_>, a: u8, b: u8, body: &[u8]) -> u32
 {
     match shape_by(a, b, body) {
         Some(Shape::Named(_, t)) => records.get(Column::TypeFirst, t),
-        _ => first_ahead(
-            records,
-            Segments {
-                rest: body,
-                walk: crate::mark::start(a, b),
-            },
-        ),
+        _ => first_ahead(records, Segments::of(a, b, body)),
     }
 }
 

@@ -1,22 +1,23 @@
 // A record's body as plain bytes and references, in order: a walk that meets one segment after the other.
 
-ghost use Rattle.std.specs.Prelude.{◌≡◌, drop, [], ◌∷◌};
+ghost use Rattle.std.specs.Prelude.{◌≡◌, drop, [], ◌∷◌, IfNone};
+ghost use Rattle.std.specs.Iterator.{YieldsFirstBy, item_count};
 ghost use Rattle.index_compare.specs.Segment.{plain};
-ghost use Rattle.index_compare.specs.Machine.{cut, reference, text_then, operand_of, operator_then, operand_then, count_then, remaining, ahead};
-ghost use Rattle.index_compare.specs.Step.{refer, led_by, WordRead, walk_ending, after_field, popped, put, items_from};
+ghost use Rattle.index_compare.specs.Machine.{cut, reference, text_then, operand_of, operator_then, operand_then, count_then, remaining, walk_start, ahead};
+ghost use Rattle.index_compare.specs.Step.{refer, told, led_by, WordRead, walk_ending, after_field, popped, put, items_from};
 
 use read_operator::{EXT, RECORD_GET, STRING_LIKE, UUF, ZERO_EXTEND};
 
-// What a reference is to.
+// What a reference is to. The number is its kind's among the kinds of segments, of which plain bytes are 1.
 #[derive(Clone, Copy, PartialEq, Eq)]
 pub enum Referent {
-    Type,
-    Fun,
-    Term,
+    Type = 2,
+    Fun = 3,
+    Term = 4,
 }
 
 // Plain bytes, or a reference by its number.
-#[derive(Clone, Copy)]
+#[derive(Clone, Copy, PartialEq, Eq)]
 pub enum Segment<'a> {
     Plain(&'a [u8]),
     Reference(Referent, u32),
@@ -73,13 +74,10 @@ pub struct Segments<'a> {
 pub fn read_word(body: &[u8], at: usize) -> Option<u32>
     ensures { WordRead (drop at body.now) result }
 {
-    if body.len() < at {
+    let [a, b, c, d, ..] = body.get(at..)? else {
         return None;
-    }
-    if body.len() - at < 4 {
-        return None;
-    }
-    Some(read_field::word(body[at], body[at + 1], body[at + 2], body[at + 3]))
+    };
+    Some(read_field::word(*a, *b, *c, *d))
 }
 
 impl Walk {
@@ -109,31 +107,41 @@ impl Walk {
             first: f,
             second: Field::Nothing,
             counts: false,
-            item: self.item,
             left: n,
+            ..self
         }
     }
 }
 
 impl<'a> Segments<'a> {
+    // The segments of a body, by the two bytes of its mark.
+    #[tactic(auto, unfolding(crate::specs::Machine::ahead))]
+    pub(crate) fn of(a: u8, b: u8, body: &'a [u8]) -> Segments<'a>
+        ensures { ahead result ≡ remaining (walk_start a b) body.now }
+    {
+        Segments {
+            rest: body,
+            walk: crate::mark::start(a, b),
+        }
+    }
+
     // n bytes, after which another walk goes on.
     #[tactic(auto, using(crate::proofs::Steps::cut_short, crate::proofs::Steps::cut_at, crate::proofs::Steps::part_after), unfolding(crate::specs::Machine::ahead))]
     fn plain(&mut self, n: usize, then: Walk) -> Option<Segment<'a>>
-        ensures { cut n plain (remaining then) self.old.rest.now ≡ led_by result (ahead self.new) }
+        ensures gives { cut n plain (remaining then) self.old.rest.now ≡ led_by result (ahead self.new) }
+        ensures rests { IfNone result (self.new ≡ self.old) }
     {
-        let rest = self.rest;
-        if rest.len() < n {
-            return None;
-        }
-        self.rest = &rest[n..];
+        let (bytes, rest) = self.rest.split_at_checked(n)?;
+        self.rest = rest;
         self.walk = then;
-        Some(Segment::Plain(&rest[..n]))
+        Some(Segment::Plain(bytes))
     }
 
     // A reference, after which another walk goes on.
     #[tactic(auto, using(crate::proofs::Steps::reference_short))]
     fn reference(&mut self, referent: Referent, then: Walk) -> Option<Segment<'a>>
-        ensures { reference (refer referent) (remaining then) self.old.rest.now ≡ led_by result (ahead self.new) }
+        ensures gives { reference (refer referent) (remaining then) self.old.rest.now ≡ led_by result (ahead self.new) }
+        ensures rests { IfNone result (self.new ≡ self.old) }
     {
         let rest = self.rest;
         let n = read_word(rest, 0)?;
@@ -145,7 +153,8 @@ impl<'a> Segments<'a> {
     // A text with its count.
     #[tactic(auto, using(crate::proofs::Steps::cut_uncounted), unfolding(crate::specs::Machine::text_then, crate::specs::Machine::counted_size))]
     fn text(&mut self, then: Walk) -> Option<Segment<'a>>
-        ensures { text_then (remaining then) self.old.rest.now ≡ led_by result (ahead self.new) }
+        ensures gives { text_then (remaining then) self.old.rest.now ≡ led_by result (ahead self.new) }
+        ensures rests { IfNone result (self.new ≡ self.old) }
     {
         let n = read_word(self.rest, 0)?;
         self.plain(4 + n as usize, then)
@@ -154,7 +163,8 @@ impl<'a> Segments<'a> {
     // The elements of a pattern with their count.
     #[tactic(auto, using(crate::proofs::Steps::cut_uncounted), unfolding(crate::specs::Machine::operand_then))]
     fn elements(&mut self, then: Walk) -> Option<Segment<'a>>
-        ensures { operand_then Operand.Elements (remaining then) self.old.rest.now ≡ led_by result (ahead self.new) }
+        ensures gives { operand_then Operand.Elements (remaining then) self.old.rest.now ≡ led_by result (ahead self.new) }
+        ensures rests { IfNone result (self.new ≡ self.old) }
     {
         let n = read_word(self.rest, 0)?;
         self.plain(4 + 4 * n as usize, then)
@@ -162,7 +172,8 @@ impl<'a> Segments<'a> {
 
     // All bytes that are left.
     fn all(&mut self, then: Walk) -> Option<Segment<'a>>
-        ensures { plain self.old.rest.now ∷ remaining then [] ≡ led_by result (ahead self.new) }
+        ensures gives { plain self.old.rest.now ∷ remaining then [] ≡ led_by result (ahead self.new) }
+        ensures rests { IfNone result (self.new ≡ self.old) }
     {
         self.plain(self.rest.len(), then)
     }
@@ -170,7 +181,8 @@ impl<'a> Segments<'a> {
     // An operand, after which another walk goes on.
     #[tactic(auto, unfolding(crate::specs::Machine::operand_then))]
     fn operand(&mut self, operand: Operand, then: Walk) -> Option<Segment<'a>>
-        ensures { operand_then operand (remaining then) self.old.rest.now ≡ led_by result (ahead self.new) }
+        ensures gives { operand_then operand (remaining then) self.old.rest.now ≡ led_by result (ahead self.new) }
+        ensures rests { IfNone result (self.new ≡ self.old) }
     {
         match operand {
             Operand::Byte => self.plain(1, then),
@@ -183,7 +195,8 @@ impl<'a> Segments<'a> {
 
     // The code of an operator.
     fn operator(&mut self) -> Option<Segment<'a>>
-        ensures { operator_then (after_field self.old.walk) self.old.rest.now ≡ led_by result (ahead self.new) }
+        ensures gives { operator_then (after_field self.old.walk) self.old.rest.now ≡ led_by result (ahead self.new) }
+        ensures rests { IfNone result (self.new ≡ self.old) }
     {
         let walk = self.walk;
         match operand_of(crate::compare::byte_at(self.rest, 0)) {
@@ -195,7 +208,8 @@ impl<'a> Segments<'a> {
     // The count of a list.
     #[tactic(auto, unfolding(crate::specs::Machine::count_then, crate::specs::Machine::remaining, crate::specs::Machine::field_then, crate::specs::Machine::last))]
     fn count(&mut self) -> Option<Segment<'a>>
-        ensures { count_then self.old.walk.item self.old.rest.now ≡ led_by result (ahead self.new) }
+        ensures gives { count_then self.old.walk.item self.old.rest.now ≡ led_by result (ahead self.new) }
+        ensures rests { IfNone result (self.new ≡ self.old) }
     {
         let n = read_word(self.rest, 0)?;
         let walk = self.walk;
@@ -205,7 +219,8 @@ impl<'a> Segments<'a> {
     // Where no fields are left: a count, or the next item.
     #[tactic(auto, using(crate::proofs::Steps::ending_none, crate::proofs::Steps::ending_item), unfolding(crate::specs::Step::walk_ending, crate::specs::Machine::last, crate::specs::Machine::items, crate::specs::Machine::item_then, crate::specs::Machine::remaining, crate::specs::Machine::field_then))]
     fn ending(&mut self) -> Option<Segment<'a>>
-        ensures { walk_ending self.old.walk self.old.rest.now ≡ led_by result (ahead self.new) }
+        ensures gives { walk_ending self.old.walk self.old.rest.now ≡ led_by result (ahead self.new) }
+        ensures rests { IfNone result (self.new ≡ self.old) }
     {
         let walk = self.walk;
         if walk.counts {
@@ -222,10 +237,11 @@ impl<'a> Segments<'a> {
         }
     }
 
-    // The next segment.
+    // One step of the walk: the next segment.
     #[tactic(auto, unfolding(crate::specs::Machine::ahead, crate::specs::Machine::remaining, crate::specs::Machine::field_then, crate::specs::Step::after_field, crate::specs::Step::walk_ending))]
-    pub fn next(&mut self) -> Option<Segment<'a>>
-        ensures { ahead self.old ≡ led_by result (ahead self.new) }
+    fn step(&mut self) -> Option<Segment<'a>>
+        ensures gives { ahead self.old ≡ led_by result (ahead self.new) }
+        ensures rests { IfNone result (self.new ≡ self.old) }
     {
         let walk = self.walk;
         match walk.first {
@@ -237,6 +253,18 @@ impl<'a> Segments<'a> {
             Field::Operator => self.operator(),
             Field::Operand(o) => self.operand(o, walk.popped()),
         }
+    }
+}
+
+impl<'a> Iterator for Segments<'a> {
+    type Item = Segment<'a>;
+
+    ghost next_gives = { YieldsFirstBy told ahead };
+
+    ghost remaining = { item_count ahead };
+
+    fn next(&mut self) -> Option<Segment<'a>> {
+        self.step()
     }
 }
 

@@ -1,8 +1,10 @@
 // The shapes of records: segments that are told with no walk.
 ghost use Rattle.std.specs.Prelude.{◌≡◌};
+ghost use Rattle.std.specs.Iterator.{YieldsFirstBy, item_count};
+ghost use Rattle.index_compare.specs.Segment.{term_ref};
 ghost use Rattle.index_compare.specs.Machine.{remaining, walk_start};
 ghost use Rattle.index_compare.specs.View.{segments_at};
-ghost use Rattle.index_compare.specs.Shape.{Shaped, terms_ahead, led_by_term};
+ghost use Rattle.index_compare.specs.Shape.{Shaped, terms_ahead};
 
 use crate::compare::byte_at;
 use crate::record::body_at;
@@ -15,11 +17,14 @@ pub struct Terms<'a> {
     pub left: u32,
 }
 
-impl<'a> Terms<'a> {
-    // The next reference.
-    pub fn next(&mut self) -> Option<u32>
-        ensures { terms_ahead self.old ≡ led_by_term result (terms_ahead self.new) }
-    {
+impl Iterator for Terms<'_> {
+    type Item = u32;
+
+    ghost next_gives = { YieldsFirstBy term_ref terms_ahead };
+
+    ghost remaining = { item_count terms_ahead };
+
+    fn next(&mut self) -> Option<u32> {
         if self.left == 0 {
             return None;
         }

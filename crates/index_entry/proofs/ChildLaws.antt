@@ -7,9 +7,6 @@ use mathlib.Core.Bool.{Bool, true, false}
 use mathlib.Core.List.{List, [], ◌∷◌}
 use lib.ListN.{length, drop}
 use denote.Ref.{Bor}
-use Rattle.std.specs.Prelude.{Some}
-use Rattle.std.specs.Bool.{⊤}
-use Rattle.std.specs.Iterator.{MakesProgress, item_count}
 use Rattle.script_spec.specs.Base.{Bytes, seconds}
 use Rattle.index.specs.Lists.{number_at}
 use Rattle.index_entry.specs.Places.{named_items, PastText}
@@ -61,12 +58,6 @@ unfolding children_in
 named c e = rw e
 
 -- ---- the first child
-
--- an iterator that gave the first of what was left has fewer left
-pub goes_on : {S A B : Type 0} (rest : S → List B) {s t : S} {x : B} (a : A) → rest s ≡ x ∷ rest t → MakesProgress (λ _. ⊤) (item_count rest) s (Some a) t
-goes_on rest {s} {t} a e =
-    let more : length (rest s) ≡ suc (length (rest t)) = ap length e in
-    record { on = λ _. (tt, tt, omega arith); keeps = tt; rests = λ _. tt }
 
 pub ahead_named : {named : Bool} {body : Bytes} {from end : ℕ} → named ≡ true → PastText body from end → drop end body ≡ past_name named (drop from body)
 unfolding past_name

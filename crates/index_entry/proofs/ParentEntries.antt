@@ -112,7 +112,7 @@ module _ {body : Bytes} where
     unfolding marks lookup same bytes term_said as_read loose
     term_app {n} {o} {d} {c} e number-is L =
         is_term_lem (bytes "XA") _ _ refl (λ e' h. app_parts body h (λ x y end rs v op listed whole.
-        let read : got (op_of o) (drop d.at body) ≡ got y end = rw inside at ((again e y end op).1) in
+        let read : got (op_of o) (drop d.at body) ≡ got y end = rw inside at (again e y end op) in
         let op-is : op_of o ≡ y = got_value (op_of o) y (drop d.at body) end read in
         let typed : n ≡ x = number-is ∙ v in
         let all : children_in c ≡ rs = listed_children L (got_rest (op_of o) y (drop d.at body) end read) listed in

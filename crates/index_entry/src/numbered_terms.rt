@@ -1,7 +1,5 @@
 // Terms by their numbers.
-ghost use Rattle.std.specs.Prelude.{◌≡◌};
 ghost use Rattle.index.specs.Cells.{cell, term_offset};
-ghost use Rattle.index.specs.Standing.{body_at};
 ghost use Rattle.index_entry.specs.Terms.{TermAt};
 
 use crate::terms::{self, TermEntry};
@@ -12,11 +10,4 @@ pub fn term_at(records: Records<'_>, n: u32) -> TermEntry<'_>
     ensures { TermAt records.entry.file.now (cell records.entry.work.now records.entry.sizes.rows term_offset n) result }
 {
     terms::term_at(records.file, records.get(Column::TermOffset, n))
-}
-
-// The body of the term with number n.
-pub fn body_at(records: Records<'_>, n: u32) -> &[u8]
-    ensures { result.now ≡ body_at records.entry.file.now (cell records.entry.work.now records.entry.sizes.rows term_offset n) }
-{
-    crate::records::body_at(records.file, records.get(Column::TermOffset, n))
 }

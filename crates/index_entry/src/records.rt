@@ -1,9 +1,12 @@
 // The records of an accepted file, read again by their offsets.
 ghost use Rattle.std.specs.Prelude.{◌≡◌, get_or};
-ghost use Rattle.index.specs.Standing.{mark_at, body_at};
+ghost use Rattle.index.specs.Standing.{mark_at};
 ghost use Rattle.index.specs.Lists.{number_at};
 
 use read_field::Cursor;
+
+// The body of the record at an offset, as the file's own bytes.
+pub use index_compare::record::body_at;
 
 // The number in the four bytes at a place; 0 where there are fewer.
 pub fn number_at(body: &[u8], at: usize) -> u32
@@ -20,11 +23,4 @@ pub fn letter_at(file: &[u8], offset: u32) -> u8
     ensures { result ≡ get_or (mark_at file.now offset) 1 0 }
 {
     index_compare::compare::byte_at(file, offset as usize + 1)
-}
-
-// The body of the record at an offset, as the file's own bytes.
-pub fn body_at(file: &[u8], offset: u32) -> &[u8]
-    ensures { result.now ≡ body_at file.now offset }
-{
-    index_compare::record::body_at(file, offset)
 }

@@ -4,9 +4,12 @@ use mathlib.Core.Path.{◌≡◌, refl, sym, ap, ◌∙◌, subst}
 use Prim.Native.Nat.{ℕ, suc, ◌*◌, ◌≤◌, ◌<◌}
 use native.Mathlib.Nat.{not-suc-le-zero}
 use native.Mathlib.Omega.{arith}
+use mathlib.Core.Bool.{true≢false, false}
 use mathlib.Core.List.{List, [], ◌∷◌, ◌++◌}
 use mathlib.Core.Option.{some}
+use lib.Dec.{eqb}
 use lib.ListN.{length, length-append}
+use borrow.Author.Tests.{eq-eqb}
 use Rattle.script_spec.specs.Base.{Bytes, collect}
 use Rattle.script_spec.specs.Tree.{Ty, Fun, Tm, type_of, depth}
 use Rattle.script_spec.specs.Fields as fields
@@ -50,9 +53,13 @@ indexed_none file work k fits small empty =
           };
     }
 
+-- numbers that a test tells apart
+differ : (m n : ℕ) → eqb m n ≡ false → m ≡ n → ⊥
+differ m n h e = true≢false (sym (eq-eqb m n e) ∙ h)
+
 -- a store beside the slots
-slots_beside : (work : List ℕ) (k column n v : ℕ) → (column ≡ hash → ⊥) → (shared column ≡ hash → ⊥) → (i : ℕ) → cell (store work k column n v) k hash i ≡ cell work k hash i
-slots_beside work k column n v other facing i = cell_store_apart work k column n v hash i (record { other = λ e q. other e; facing = λ e q. facing e })
+slots_beside : (work : List ℕ) (k column n v : ℕ) → eqb column hash ≡ false → eqb (shared column) hash ≡ false → (i : ℕ) → cell (store work k column n v) k hash i ≡ cell work k hash i
+slots_beside work k column n v other facing i = cell_store_apart work k column n v hash i (record { other = λ e q. differ column hash other e; facing = λ e q. differ (shared column) hash facing e })
 
 -- the new record's entry in the longer file
 entry_added : (file : Bytes) (f : TermFile) (r : Named) (k : ℕ) (work' : List ℕ) (offsets n : ℕ) {o : ℕ} → cell work' k offsets n ≡ o → (s : Stands file f (earlier f) o r)
@@ -87,8 +94,8 @@ module _ {file : Bytes} {f : TermFile} {work : List ℕ} {k : ℕ} (I : Indexed 
       let S = type_stored f k work₀ (rw C.same_size fits) room o m d (length f) in
       let U = untouched_then C S.untouched in
       let same : (i : ℕ) → cell work' k hash i ≡ cell work₀ k hash i
-      = λ i. slots_beside _ k type_list n 0 (λ e. omega arith) (λ e. omega arith) i ∙ slots_beside _ k type_place n (length f) (λ e. omega arith) (λ e. omega arith) i ∙ slots_beside _ k type_depth n d (λ e. omega arith) (λ e. omega arith) i ∙ slots_beside _ k type_first n m (λ e. omega arith) (λ e. omega arith) i
-      ∙ slots_beside _ k type_offset n o (λ e. omega arith) (λ e. omega arith) i in
+      = λ i. slots_beside _ k type_list n 0 refl refl i ∙ slots_beside _ k type_place n (length f) refl refl i ∙ slots_beside _ k type_depth n d refl refl i ∙ slots_beside _ k type_first n m refl refl i
+      ∙ slots_beside _ k type_offset n o refl refl i in
       let J = rows.indexed_type without room (record { untouched = U; unlisted = λ B. S.unlisted (enrolled_unlisted A B); offset_is = S.offset_is; first_is = S.first_is; depth_is = S.depth_is; place_is = S.place_is }) (enrolled_stays A fits work' same) s (type_found I.index s (enrolled_found A)) deep shallow in
       let L = lists_type f t in
       record {
@@ -115,7 +122,7 @@ module _ {file : Bytes} {f : TermFile} {work : List ℕ} {k : ℕ} (I : Indexed 
       let S = fun_stored f k work₀ (rw C.same_size fits) room o m (length f) in
       let U = untouched_then C S.untouched in
       let same : (i : ℕ) → cell work' k hash i ≡ cell work₀ k hash i
-      = λ i. slots_beside _ k fun_name n 0 (λ e. omega arith) (λ e. omega arith) i ∙ slots_beside _ k fun_place n (length f) (λ e. omega arith) (λ e. omega arith) i ∙ slots_beside _ k fun_first n m (λ e. omega arith) (λ e. omega arith) i ∙ slots_beside _ k fun_offset n o (λ e. omega arith) (λ e. omega arith) i in
+      = λ i. slots_beside _ k fun_name n 0 refl refl i ∙ slots_beside _ k fun_place n (length f) refl refl i ∙ slots_beside _ k fun_first n m refl refl i ∙ slots_beside _ k fun_offset n o refl refl i in
       let J = rows.indexed_func without room (record { untouched = U; unlisted = λ B. S.unlisted (enrolled_unlisted A B); offset_is = S.offset_is; first_is = S.first_is; place_is = S.place_is; name_is = S.name_is }) (enrolled_stays A fits work' same) s (fun_found I.index s (enrolled_found A)) in
       let L = lists_func f g in
       record {
@@ -143,8 +150,8 @@ module _ {file : Bytes} {f : TermFile} {work : List ℕ} {k : ℕ} (I : Indexed 
       let S = term_stored f k work₀ (rw C.same_size fits) room o m τ d (length f) in
       let U = untouched_then C S.untouched in
       let same : (i : ℕ) → cell work' k hash i ≡ cell work₀ k hash i
-      = λ i. slots_beside _ k note n 0 (λ e. omega arith) (λ e. omega arith) i ∙ slots_beside _ k term_place n (length f) (λ e. omega arith) (λ e. omega arith) i ∙ slots_beside _ k term_depth n d (λ e. omega arith) (λ e. omega arith) i ∙ slots_beside _ k term_type n τ (λ e. omega arith) (λ e. omega arith) i ∙ slots_beside _ k term_first n m (λ e. omega arith) (λ e. omega arith) i
-      ∙ slots_beside _ k term_offset n o (λ e. omega arith) (λ e. omega arith) i in
+      = λ i. slots_beside _ k note n 0 refl refl i ∙ slots_beside _ k term_place n (length f) refl refl i ∙ slots_beside _ k term_depth n d refl refl i ∙ slots_beside _ k term_type n τ refl refl i ∙ slots_beside _ k term_first n m refl refl i
+      ∙ slots_beside _ k term_offset n o refl refl i in
       let J = rows.indexed_term without room (record { untouched = U; unlisted = λ B. S.unlisted (enrolled_unlisted A B); offset_is = S.offset_is; first_is = S.first_is; type_is = S.type_is; depth_is = S.depth_is; place_is = S.place_is; note_is = S.note_is }) (enrolled_stays A fits work' same) s (term_found I.index s (enrolled_found A)) below type_is type_first_is deep shallow in
       let L = lists_term f t in
       record {
@@ -170,7 +177,7 @@ module _ {file : Bytes} {f : TermFile} {work : List ℕ} {k : ℕ} (I : Indexed 
       let S = enum_stored f k work₀ (rw C.same_size fits) room o (length f) in
       let U = untouched_then C S.untouched in
       let same : (i : ℕ) → cell work' k hash i ≡ cell work₀ k hash i
-      = λ i. slots_beside _ k enum_list n 0 (λ e. omega arith) (λ e. omega arith) i ∙ slots_beside _ k enum_place n (length f) (λ e. omega arith) (λ e. omega arith) i ∙ slots_beside work₀ k enum_offset n o (λ e. omega arith) (λ e. omega arith) i in
+      = λ i. slots_beside _ k enum_list n 0 refl refl i ∙ slots_beside _ k enum_place n (length f) refl refl i ∙ slots_beside work₀ k enum_offset n o refl refl i in
       let stays : Stays (cell work k hash) (cell work' k hash) = record { same = λ i g. same i ∙ (stored_stays fits T).same i g } in
       let L = lists_enum f name members in
       let new : Reached (name_home k) k (cell work' k hash) 3 (suc n) (enum_name (f ++ (enum name members ∷ []))) n
@@ -199,7 +206,7 @@ module _ {file : Bytes} {f : TermFile} {work : List ℕ} {k : ℕ} (I : Indexed 
       let work' = store (store (store work k input_offset i o) k input_term i n) k input_place i (length f) in
       let S = input_stored f k work I.index.fits room o n (length f) in
       let same : (i : ℕ) → cell work' k hash i ≡ cell work k hash i
-      = λ j. slots_beside _ k input_place i (length f) (λ e. omega arith) (λ e. omega arith) j ∙ slots_beside _ k input_term i n (λ e. omega arith) (λ e. omega arith) j ∙ slots_beside work k input_offset i o (λ e. omega arith) (λ e. omega arith) j in
+      = λ j. slots_beside _ k input_place i (length f) refl refl j ∙ slots_beside _ k input_term i n refl refl j ∙ slots_beside work k input_offset i o refl refl j in
       let stays : Stays (cell work k hash) (cell work' k hash) = record { same = λ i g. same i } in
       let J = rows.indexed_input without room S stays reads below in
       let L = lists_input f t in

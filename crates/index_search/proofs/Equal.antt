@@ -4,6 +4,8 @@ use mathlib.Core.Path.{◌≡◌, sym, ap, ◌∙◌}
 use Prim.Native.Nat.{ℕ}
 use mathlib.Core.Bool.{Bool, true, false, true≢false}
 use mathlib.Core.List.{List}
+use lib.Dec.{eqb}
+use lib.Pointwise.{pointwise, bytes_decides}
 use Rattle.script_spec.specs.Base.{Bytes}
 use Rattle.index.specs.Standing.{mark_at, body_at, entry_at}
 use Rattle.index_compare.proofs.Prints.{Octets}
@@ -14,6 +16,10 @@ use Rattle.check_rules.specs.Marks.{mark_of}
 use Rattle.check_rules.proofs.Marks.{entry_mark}
 use Rattle.index_search.proofs.Homes.{mark_canonical}
 use Rattle.index_search.specs.Found.{SameAt}
+
+-- bytes compared one by one are the same list where the answer is true
+pub same_bytes : {a b : Bytes} {r : Bool} → r ≡ pointwise eqb a b → (r ≡ true → a ≡ b) × (a ≡ b → r ≡ true)
+same_bytes {a} {b} e = rw e (bytes_decides a b)
 
 module _ (file : Bytes) (work : List ℕ) (k o p : ℕ) {a b : Bytes} {r : Bool} (is : a ≡ mark_at file o) (is' : b ≡ mark_at file p) (test : (r ≡ true → a ≡ b) × (a ≡ b → r ≡ true)) where
   -- the same mark: the bodies decide

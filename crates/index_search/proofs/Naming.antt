@@ -20,7 +20,7 @@ use Rattle.index.proofs.Growth.{counts_fewer}
 use Rattle.index_compare.specs.View.{Decides}
 use Rattle.check_rules.specs.Enums.{NameAt}
 use Rattle.index_search.specs.Storing.{NameHome}
-use Rattle.index_search.specs.Probed.{Viewed, Met, Unmet, Probes, Takes}
+use Rattle.index_search.specs.Probed.{Viewed, Met, Unmet, Probes, TakesSlot}
 use Rattle.index_search.specs.Named.{IsNamed, HitNamed, MissNamed, EnrolsNamed}
 use Rattle.index_search.specs.Enums.{FindsEnum}
 use Rattle.index_search.proofs.Probing.{met_equal, unmet_none, taken_stored}
@@ -38,19 +38,22 @@ named_at {n = n} {s = s} row N test =
           record { true_of = λ e. test.1 (q ∙ e); of_true = λ t. sym q ∙ test.0 t };
     }
 
--- a test of a number says whether the enum with that number has the name
-pub record TestsNamed (file : Bytes) (work : List ℕ) (rows : ℕ) (name : Bytes) (test : ℕ → Bool → Type 0) : Type 0 where
-  pub same : (n : ℕ) (r : Bool) → test n r → IsNamed file work rows n name r
+-- the test of an enum by its number
+abbrev HasName : Bytes → List ℕ → ℕ → Bytes → ℕ → Bool → Type 0
+HasName file work rows name n r = IsNamed file work rows n name r
 
--- by the records as they are read
-pub tests_viewed : {m : RecordsMut} {v : Records} {name : Bytes} {test : ℕ → Bool → Type 0} → Viewed m v → TestsNamed v.file.now v.work.now v.sizes.rows name test → TestsNamed m.file.now m.work.now m.sizes.rows name test
-tests_viewed V T = rw (V.file_is, V.work_is, V.sizes_are) at T
+-- what was taken, by the records as they are read
+pub named_viewed : {m w : RecordsMut} {v : Records} {name : Bytes} {kind count b : ℕ} {r : Option ℕ} → Viewed m v → TakesSlot m w kind count (HasName v.file.now v.work.now v.sizes.rows name) b r → TakesSlot m w kind count (HasName m.file.now m.work.now m.sizes.rows name) b r
+named_viewed V T = rw (V.file_is, V.work_is, V.sizes_are) at T
 
 -- ---- the search
 
-module _ (file : Bytes) (work : List ℕ) (sizes : Sizes) {name : Bytes} {b : ℕ} {test : ℕ → Bool → Type 0} (H : NameHome sizes.rows name b) (T : TestsNamed file work sizes.rows name test) (f : TermFile) (I : Rows file f work sizes.rows) (c : SizesOf f sizes) where
+module _ (file : Bytes) (work : List ℕ) (sizes : Sizes) {name : Bytes} {b : ℕ} (H : NameHome sizes.rows name b) (f : TermFile) (I : Rows file f work sizes.rows) (c : SizesOf f sizes) where
+  abbrev test : ℕ → Bool → Type 0
+  test = HasName file work sizes.rows name
+
   decides : (n : ℕ) (r : Bool) → n < sizes.enums → test n r → Decides r (enum_name f n ≡ name)
-  decides n r l t = (T.same n r t).go f I (omega (arith, c.enums_are))
+  decides n r l t = t.go f I (omega (arith, c.enums_are))
 
   named_hit : {n : ℕ} → Met sizes.rows (cell work sizes.rows hash) 3 sizes.enums test b n → HitNamed f sizes.enums name n
   named_hit M = record { below = M.below; equal = met_equal (enum_name f) name decides M }
@@ -58,20 +61,20 @@ module _ (file : Bytes) (work : List ℕ) (sizes : Sizes) {name : Bytes} {b : �
   named_miss : {d : ℕ} → Unmet sizes.rows (cell work sizes.rows hash) 3 sizes.enums test b d → MissNamed f sizes.enums name
   named_miss U = record { none = λ n l q. unmet_none (enum_name f) name decides U {home = name_home sizes.rows} H.is n q (rw c.enums_are (I.names.reached n (omega (arith, c.enums_are)))) }
 
-pub name_found : (file : Bytes) {work : List ℕ} (sizes : Sizes) {name : Bytes} {b : ℕ} {test : ℕ → Bool → Type 0} {o : Option ℕ} → NameHome sizes.rows name b → TestsNamed file work sizes.rows name test → (r : Result ℕ ℕ) → Probes work sizes.rows 3 sizes.enums test b r → o ≡ result_ok r
+pub name_found : (file : Bytes) {work : List ℕ} (sizes : Sizes) {name : Bytes} {b : ℕ} {o : Option ℕ} → NameHome sizes.rows name b → (r : Result ℕ ℕ) → Probes work sizes.rows 3 sizes.enums (HasName file work sizes.rows name) b r → o ≡ result_ok r
     → FindsEnum file work sizes name o
-name_found file {work} sizes H T (Ok n) P e = record { go = λ f I c. rw e (hit_place I c (named_hit file work sizes H T f I c P.told)) }
-name_found file {work} sizes H T (Err d) P e = record { go = λ f I c. rw e (miss_place I c (named_miss file work sizes H T f I c P.told)) }
+name_found file {work} sizes H (Ok n) P e = record { go = λ f I c. rw e (hit_place I c (named_hit file work sizes H f I c P.told)) }
+name_found file {work} sizes H (Err d) P e = record { go = λ f I c. rw e (miss_place I c (named_miss file work sizes H f I c P.told)) }
 
-pub name_enrolled : (v : RecordsMut) {w : RecordsMut} {name : Bytes} {b : ℕ} {test : ℕ → Bool → Type 0} → NameHome v.sizes.rows name b → TestsNamed v.file.now v.work.now v.sizes.rows name test → (r : Option ℕ) → Takes v w 3 v.sizes.enums test b r → EnrolsNamed v w name r
-name_enrolled v H T (Some n) E = record { stays = E.stays; go = λ f I c room. record { hit = named_hit v.file.now v.work.now v.sizes H T f I.index c E.told.0; unchanged = E.told.1 } }
-name_enrolled v H T None E =
+pub name_enrolled : (v : RecordsMut) {w : RecordsMut} {name : Bytes} {b : ℕ} → NameHome v.sizes.rows name b → (r : Option ℕ) → TakesSlot v w 3 v.sizes.enums (HasName v.file.now v.work.now v.sizes.rows name) b r → EnrolsNamed v w name r
+name_enrolled v H (Some n) E = record { stays = E.stays; go = λ f I c room. record { hit = named_hit v.file.now v.work.now v.sizes H f I.index c E.told.0; unchanged = E.told.1 } }
+name_enrolled v H None E =
     record {
       stays = E.stays;
       go = λ f I c room.
           let U = E.told.1 in
           record {
-            miss = named_miss v.file.now v.work.now v.sizes H T f I.index c U;
+            miss = named_miss v.file.now v.work.now v.sizes H f I.index c U;
             stored = rw (H.is (omega arith)) at (taken_stored U.empty H.inside (omega (arith, I.searchable.taken)) (E.told.2 (omega (arith, I.searchable.small, (counts_fewer f).enums_fewer, c.enums_are))));
           };
     }

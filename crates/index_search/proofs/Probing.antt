@@ -8,14 +8,13 @@ use native.Mathlib.Decide.{dec_lt, ℕ_discrete}
 use native.Mathlib.Omega.{arith}
 use mathlib.Core.Bool.{Bool, true, false, true≢false}
 use mathlib.Core.List.{List}
-use lib.ListN.{length}
-use Rattle.index.proofs.Cells.{length_store}
 use borrow.Author.Count.{below_more}
 use borrow.Author.Tests.{eq-eqb}
 use lib.Dec.{eqb}
 use Rattle.std.specs.Prelude.{Result, Ok, Err, Some, None}
 use Rattle.index.specs.Cells.{cell, store, hash}
-use Rattle.index.specs.Held.{Becomes, Stays}
+use Rattle.index.specs.Held.{Becomes}
+use Rattle.index.proofs.Held.{stays_same, stays_store}
 use Rattle.index.specs.declared.Sizes.{Sizes}
 use Rattle.index.specs.declared.Records.{Records}
 use Rattle.index.specs.declared.RecordsMut.{RecordsMut}
@@ -27,7 +26,7 @@ use Rattle.index_search.specs.Storing.{Home, FirstEmpty, Stored}
 use Rattle.index_search.specs.declared.slots.Table.{Table}
 use Rattle.index_search.specs.declared.slots.Table.TheVariants.{Types, Funs, Terms, Enums}
 use Rattle.index_search.specs.Tables.{slot_kind}
-use Rattle.index_search.specs.Probed.{Viewed, Other, Met, Unmet, ProbeTold, Probes, Takes}
+use Rattle.index_search.specs.Probed.{Viewed, Other, Met, Unmet, ProbeTold, Probes, TakesSlot}
 use Rattle.index_search.proofs.Ring.{code_number, empties_some, empty_near, Taken, taken_none, taken_more, empty_here}
 
 -- the tables have numbers below 4
@@ -95,13 +94,9 @@ module _ {work : List ℕ} {k kind count : ℕ} {test : ℕ → Bool → Type 0}
 
 -- ---- a slot that is taken
 
--- the records as they are
-pub stays_same : (v : RecordsMut) → Stays v v
-stays_same v = record { file_is = refl; sizes_are = refl; lent = refl; size = refl }
-
--- the records after a store
-pub stored_stays : {v w : RecordsMut} (rows column i n : ℕ) → Becomes v w (store v.work.now rows column i n) → Stays v w
-stored_stays {v} rows column i n B = record { file_is = B.file_is; sizes_are = B.sizes_are; lent = B.lent; size = ap length B.memory ∙ length_store v.work.now rows column i n }
+-- the records as they are read
+pub viewed : {m : RecordsMut} {v : Records} → (v.file.now ≡ m.file.now) × (v.work.now ≡ m.work.now) × (v.sizes ≡ m.sizes) → Viewed m v
+viewed e = record { file_is = e.0; work_is = e.1; sizes_are = e.2 }
 
 module _ {m : RecordsMut} {v : Records} {kind count : ℕ} {test : ℕ → Bool → Type 0} {b : ℕ} (V : Viewed m v) where
   -- what the search tells of the records as they are read is so of the records
@@ -110,11 +105,11 @@ module _ {m : RecordsMut} {v : Records} {kind count : ℕ} {test : ℕ → Bool 
       subst (λ (s : Sizes). ProbeTold s.rows (cell m.work.now s.rows hash) kind count test b r) V.sizes_are
       (subst (λ (l : List ℕ). ProbeTold v.sizes.rows (cell l v.sizes.rows hash) kind count test b r) V.work_is P.told)
 
-  pub takes_met : {n : ℕ} → Probes v.work.now v.sizes.rows kind count test b (Ok n) → Takes m m kind count test b (Some n)
+  pub takes_met : {n : ℕ} → Probes v.work.now v.sizes.rows kind count test b (Ok n) → TakesSlot m m kind count test b (Some n)
   takes_met P = record { stays = stays_same m; told = (told_of P, refl) }
 
-  pub takes_none : {w : RecordsMut} {d s code : ℕ} → Probes v.work.now v.sizes.rows kind count test b (Err d) → s ≡ slot m.sizes.rows b d → (count < 1048576 → code ≡ code_of count kind) → Becomes m w (store m.work.now m.sizes.rows hash s code) → Takes m w kind count test b None
-  takes_none {d = d} P e q B = record { stays = stored_stays _ _ _ _ B; told = (d, told_of P, λ h. B.memory ∙ (λ i. store m.work.now m.sizes.rows hash (e i) (q h i))) }
+  pub takes_none : {w : RecordsMut} {d s code : ℕ} → Probes v.work.now v.sizes.rows kind count test b (Err d) → s ≡ slot m.sizes.rows b d → (count < 1048576 → code ≡ code_of count kind) → Becomes m w (store m.work.now m.sizes.rows hash s code) → TakesSlot m w kind count test b None
+  takes_none {d = d} P e q B = record { stays = stays_store _ _ _ _ (stays_same m) B; told = (d, told_of P, λ h. B.memory ∙ (λ i. store m.work.now m.sizes.rows hash (e i) (q h i))) }
 
 -- ---- what the search found
 

@@ -31,9 +31,6 @@ module _ (k b d : ℕ) where
   unfolding slot placed
   slot_round h = rw (le-ltb d (k - b) h)
 
-  pub slot_past : k ≤ b → d ≡ slot k b d
-  slot_past h = let z : d ≡ d - (k - b) = omega arith in z ∙ slot_round (omega arith)
-
 pub slot_inside : (k b d : ℕ) → b < k → d < k → slot k b d < k
 slot_inside k b d h l = go (dec_lt d (k - b))
   where
@@ -107,6 +104,3 @@ module _ {k : ℕ} {column : ℕ → ℕ} {b : ℕ} where
 
     pub empty_here : v ≡ 0 → FirstEmpty k column b d
     empty_here e = record { most = T.most; taken = T.taken; empty = λ l. sym is ∙ e }
-
-  pub empty_nowhere : {d : ℕ} → k ≤ d → Taken k column b d → FirstEmpty k column b d
-  empty_nowhere h T = record { most = T.most; taken = T.taken; empty = λ l. absurd (omega arith) }

@@ -8,7 +8,7 @@ use mathlib.Core.List.{List}
 use Rattle.script_spec.specs.Base.{Bytes}
 use Rattle.script_spec.specs.Fields.{Entry}
 use Rattle.script_spec.specs.File.{TermFile}
-use Rattle.std.specs.Prelude.{Some, None}
+use Rattle.std.specs.Prelude.{Option, Some, None}
 use Rattle.index.specs.Cells.{cell}
 use Rattle.index.specs.First.{canonical}
 use Rattle.index.specs.declared.Records.{Records}
@@ -16,30 +16,33 @@ use Rattle.index.specs.declared.RecordsMut.{RecordsMut}
 use Rattle.index_compare.specs.View.{Decides}
 use Rattle.index_search.specs.Slots.{home_of}
 use Rattle.index_search.specs.Storing.{Home}
-use Rattle.index_search.specs.Probed.{Viewed, Takes}
+use Rattle.index_search.specs.Probed.{Viewed, TakesSlot}
 use Rattle.index_search.specs.Found.{SameAt, LooksFor, EnrolsIn}
 use Rattle.index_search.proofs.Ring.{empties_some}
 use Rattle.index_search.proofs.Probing.{met_equal, unmet_none, taken_stored}
 
--- a test of a number says whether the record with that number is equal to the one at an offset
-pub record TestsEqual (file : Bytes) (work : List ℕ) (rows offsets o : ℕ) (test : ℕ → Bool → Type 0) : Type 0 where
-  pub same : (n : ℕ) (r : Bool) → test n r → SameAt file work rows (cell work rows offsets n) o r
+-- the test of a record by its number: whether it is equal to the one at an offset
+abbrev EqualTo : Bytes → List ℕ → ℕ → ℕ → ℕ → ℕ → Bool → Type 0
+EqualTo file work rows offsets o n r = SameAt file work rows (cell work rows offsets n) o r
 
--- by the records as they are read
-pub tests_viewed : {m : RecordsMut} {v : Records} {offsets o : ℕ} {test : ℕ → Bool → Type 0} → Viewed m v → TestsEqual v.file.now v.work.now v.sizes.rows offsets o test → TestsEqual m.file.now m.work.now m.sizes.rows offsets o test
-tests_viewed V E = rw (V.file_is, V.work_is, V.sizes_are) at E
+-- what was taken, by the records as they are read
+pub equal_viewed : {m w : RecordsMut} {v : Records} (offsets o : ℕ) {kind count b : ℕ} {r : Option ℕ} → Viewed m v → TakesSlot m w kind count (EqualTo v.file.now v.work.now v.sizes.rows offsets o) b r → TakesSlot m w kind count (EqualTo m.file.now m.work.now m.sizes.rows offsets o) b r
+equal_viewed offsets o V T = rw (V.file_is, V.work_is, V.sizes_are) at T
 
-module _ (v : RecordsMut) {offsets kind count o b : ℕ} {test : ℕ → Bool → Type 0} (H : Home v.file.now v.work.now v.sizes.rows o b) (E : TestsEqual v.file.now v.work.now v.sizes.rows offsets o test) where
-  module _ {f : TermFile} {x : Entry} {ε : ℕ → Entry} (L : LooksFor v.file.now v.work.now v.sizes.rows offsets kind count o f x ε) where
+module _ (v : RecordsMut) (offsets o : ℕ) {b : ℕ} (H : Home v.file.now v.work.now v.sizes.rows o b) where
+  abbrev test : ℕ → Bool → Type 0
+  test = EqualTo v.file.now v.work.now v.sizes.rows offsets o
+
+  module _ {kind count : ℕ} {f : TermFile} {x : Entry} {ε : ℕ → Entry} (L : LooksFor v.file.now v.work.now v.sizes.rows offsets kind count o f x ε) where
     home_is : 0 < v.sizes.rows → b ≡ home_of v.sizes.rows (canonical f x)
     home_is = H.is f x L.index L.sought.reads L.sought.in_range
 
     decides : (n : ℕ) (r : Bool) → n < count → test n r → Decides r (canonical f (ε n) ≡ canonical f x)
-    decides n r l t = (E.same n r t).go f L.index (ε n) x (L.stand n l) L.sought
+    decides n r l t = t.go f L.index (ε n) x (L.stand n l) L.sought
 
   -- an equal record was met
-  pub enrolled_old : {w : RecordsMut} {n m firsts : ℕ} → Takes v w kind count test b (Some n) → m ≡ cell w.work.now w.sizes.rows firsts n → EnrolsIn v w offsets firsts kind count o m
-  enrolled_old {w} {n} {m} {firsts} T e =
+  pub enrolled_old : {w : RecordsMut} {kind count n m firsts : ℕ} → TakesSlot v w kind count test b (Some n) → m ≡ cell w.work.now w.sizes.rows firsts n → EnrolsIn v w offsets firsts kind count o m
+  enrolled_old {n = n} T e =
       record {
         stays = T.stays;
         enrols = record {
@@ -49,7 +52,7 @@ module _ (v : RecordsMut) {offsets kind count o b : ℕ} {test : ℕ → Bool �
       }
 
   -- none was met
-  pub enrolled_new : {w : RecordsMut} {firsts : ℕ} → Takes v w kind count test b None → EnrolsIn v w offsets firsts kind count o count
+  pub enrolled_new : {w : RecordsMut} {kind count firsts : ℕ} → TakesSlot v w kind count test b None → EnrolsIn v w offsets firsts kind count o count
   enrolled_new T =
       record {
         stays = T.stays;

@@ -45,6 +45,3 @@ module _ (work : List ℕ) (k : ℕ) where
 pub type_hashed : (letter : ℕ) (l : List Segment) {h r : ℕ} → h ≡ mixed_bytes 0 (84 ∷ letter ∷ []) → r ≡ mixed_segments h l → r ≡ type_hash letter l
 unfolding type_hash hashed
 type_hashed letter l e q = q ∙ ap (λ (n : ℕ). mixed_segments n l) e
-
-pub plain_is : (h : ℕ) {r : ℕ} {p q : Bytes} → p ≡ q → r ≡ mixed_segments h (plain p ∷ []) → r ≡ mixed_segments h (plain q ∷ [])
-plain_is h e k = rw e at k

@@ -39,11 +39,11 @@ pub record Probes (work : List ℕ) (rows kind count : ℕ) (test : ℕ → Bool
   pub told : ProbeTold rows (cell work rows hash) kind count test b r
 
 -- what it tells that takes a slot: the record that is met, and the memory is as it was; or none, and the first empty slot has the next number
-abbrev pub TakesTold : List ℕ → List ℕ → ℕ → ℕ → ℕ → (ℕ → Bool → Type 0) → ℕ → Option ℕ → Type 0
-TakesTold work work' rows kind count test b (Some n) = Met rows (cell work rows hash) kind count test b n × (work' ≡ work)
-TakesTold work work' rows kind count test b None = (d : ℕ) × Unmet rows (cell work rows hash) kind count test b d × (count < 1048576 → work' ≡ store work rows hash (slot rows b d) (code_of count kind))
+abbrev pub TakesSlotTold : List ℕ → List ℕ → ℕ → ℕ → ℕ → (ℕ → Bool → Type 0) → ℕ → Option ℕ → Type 0
+TakesSlotTold work work' rows kind count test b (Some n) = Met rows (cell work rows hash) kind count test b n × (work' ≡ work)
+TakesSlotTold work work' rows kind count test b None = (d : ℕ) × Unmet rows (cell work rows hash) kind count test b d × (count < 1048576 → work' ≡ store work rows hash (slot rows b d) (code_of count kind))
 
 -- the same of the records v before and w after the search
-pub record Takes (v w : RecordsMut) (kind count : ℕ) (test : ℕ → Bool → Type 0) (b : ℕ) (r : Option ℕ) : Type 0 where
+pub record TakesSlot (v w : RecordsMut) (kind count : ℕ) (test : ℕ → Bool → Type 0) (b : ℕ) (r : Option ℕ) : Type 0 where
   pub stays : Stays v w
-  pub told : TakesTold v.work.now w.work.now v.sizes.rows kind count test b r
+  pub told : TakesSlotTold v.work.now w.work.now v.sizes.rows kind count test b r

@@ -3,15 +3,22 @@ ghost use Rattle.index_search.specs.Named.{IsNamed, EnrolsNamed};
 ghost use Rattle.index_search.specs.Enums.{FindsEnum};
 
 use crate::slots;
-use crate::slots::Table;
+use crate::slots::{Table, Test};
 use index::{Column, Records, RecordsMut};
 
-// Whether the enum with number n has this name.
-fn is_named(records: Records<'_>, n: u32, name: &[u8]) -> bool
-    ensures { IsNamed records.entry.file.now records.entry.work.now records.entry.sizes.rows n name.now result }
-{
-    let offset = records.get(Column::EnumOffset, n);
-    check::same(check_rules::members::name_at(records.file, offset), name)
+// The enums that have a name.
+#[derive(Drop)]
+struct Named<'a> {
+    name: &'a [u8],
+}
+
+impl Test for Named<'_> {
+    ghost tells = { λ named records n r. IsNamed records.file.now records.work.now records.sizes.rows n named.name.now r };
+
+    fn is(&self, records: Records<'_>, n: u32) -> bool {
+        let offset = records.get(Column::EnumOffset, n);
+        check_rules::members::name_at(records.file, offset) == self.name
+    }
 }
 
 // The number of the enum with this name, if there is one.
@@ -24,7 +31,7 @@ pub fn find(records: Records<'_>, name: &[u8]) -> Option<u32>
         Table::Enums,
         records.sizes.enums,
         b,
-        |records, n| { is_named(records, n, name) },
+        &Named { name },
     )
     .ok()
 }
@@ -35,7 +42,5 @@ pub fn enrol(records: &mut RecordsMut<'_>, name: &[u8]) -> Option<u32>
 {
     let b = slots::name_home(name, records.sizes.rows);
     let count = records.sizes.enums;
-    slots::enrol(records, Table::Enums, count, b, |records, n| {
-        is_named(records, n, name)
-    })
+    slots::enrol(records, Table::Enums, count, b, &Named { name })
 }

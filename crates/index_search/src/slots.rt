@@ -1,11 +1,11 @@
 // The hash table in the index's last column: a slot holds nothing, or the table and the number of a record. A search goes from the home slot
 // of what is looked for to the first empty slot.
-ghost use Rattle.std.specs.Prelude.{◌≡◌, ◌<◌, ◌-◌, ◌/◌, eqb};
+ghost use Rattle.std.specs.Prelude.{◌≡◌, ◌<◌, ◌-◌, ◌/◌, ℕ, Bool, eqb};
 ghost use Rattle.index.specs.Names.{slot, code_of};
 ghost use Rattle.index.specs.declared.Records.{Records};
 ghost use Rattle.index_search.specs.Tables.{slot_kind};
 ghost use Rattle.index_search.specs.Storing.{Scales, Home, NameHome};
-ghost use Rattle.index_search.specs.Probed.{Viewed, Probes, Takes};
+ghost use Rattle.index_search.specs.Probed.{Viewed, Probes, TakesSlot};
 
 use index::{Column, Records, RecordsMut};
 
@@ -85,17 +85,25 @@ pub fn name_home(name: &[u8], rows: usize) -> usize
     scale(rows, crate::hash::mix_bytes(0, name))
 }
 
+// A test of a record, by its number.
+pub trait Test {
+    // What the answer tells of the record with a number.
+    ghost tells: { Self → Records → ℕ → Bool → Type 0 };
+
+    fn is(&self, records: Records<'_>, n: u32) -> bool
+        ensures { tells self.now records.entry n result };
+}
+
 // The number of a record of a table, of `count`, for which a test is true, met from slot b on; or that none is met, and how many steps after b
 // the first empty slot is.
-pub fn probe<F: Fn(Records<'_>, u32) -> bool>(
+pub fn probe<T: Test>(
     records: Records<'_>,
     table: Table,
     count: u32,
     b: usize,
-    is: F,
+    test: &T,
 ) -> Result<u32, usize>
-    requires { F.IsAlwaysCallable is }
-    ensures { Probes records.entry.work.now records.entry.sizes.rows (slot_kind table) count (λ n r. F.post is records.entry n r) b result }
+    ensures { Probes records.entry.work.now records.entry.sizes.rows (slot_kind table) count (T.tells test.now records.entry) b result }
 {
     let rows = records.sizes.rows;
     for d in 0..rows {
@@ -104,7 +112,7 @@ pub fn probe<F: Fn(Records<'_>, u32) -> bool>(
             return Err(d);
         }
         let n = number_of(v);
-        if n < count && has(v, n, table) && is(records, n) {
+        if n < count && has(v, n, table) && test.is(records, n) {
             return Ok(n);
         }
     }
@@ -112,17 +120,16 @@ pub fn probe<F: Fn(Records<'_>, u32) -> bool>(
 }
 
 // The number of such a record; where none is met, the first empty slot is taken for the record with number `count`.
-pub fn enrol<F: Fn(Records<'_>, u32) -> bool>(
+pub fn enrol<T: Test>(
     records: &mut RecordsMut<'_>,
     table: Table,
     count: u32,
     b: usize,
-    is: F,
+    test: &T,
 ) -> Option<u32>
-    requires { F.IsAlwaysCallable is }
-    ensures { (v : Records) × Viewed records.old v × Takes records.old records.new (slot_kind table) count (λ n r. F.post is v n r) b result }
+    ensures { (v : Records) × Viewed records.old v × TakesSlot records.old records.new (slot_kind table) count (T.tells test.now v) b result }
 {
-    match probe(records.view(), table, count, b, is) {
+    match probe(records.view(), table, count, b, test) {
         Ok(n) => Some(n),
         Err(d) => {
             let rows = records.sizes.rows;

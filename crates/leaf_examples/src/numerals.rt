@@ -1,20 +1,13 @@
 // Decimal and hexadecimal numerals.
 use crate::lines::line;
 use std::io;
-use write_bytes::writer::Writer;
 
 fn decimal(rt: &impl Print, n: u64) -> io::Result<()> {
-    let mut out = [0u8; 32];
-    let mut w = Writer::new(&mut out);
-    write_numeral::put_decimal(&mut w, n);
-    line(rt, &w)
+    line(rt, |w| write_numeral::put_decimal(w, n))
 }
 
 fn hex(rt: &impl Print, n: u64) -> io::Result<()> {
-    let mut out = [0u8; 32];
-    let mut w = Writer::new(&mut out);
-    write_numeral::put_hex(&mut w, n);
-    line(rt, &w)
+    line(rt, |w| write_numeral::put_hex(w, n))
 }
 
 // SMT-LIB 2.6, section 3.1: a numeral is 0 or begins with another digit.

@@ -1,13 +1,9 @@
 // Patterns, each element a code point of four bytes, low byte first, or the wildcard 4294967295.
 use crate::lines::line;
 use std::io;
-use write_bytes::writer::Writer;
 
 fn regex(rt: &impl Print, p: &[u8]) -> io::Result<()> {
-    let mut out = [0u8; 128];
-    let mut w = Writer::new(&mut out);
-    write_pattern::put_pattern(&mut w, p);
-    line(rt, &w)
+    line(rt, |w| write_pattern::put_pattern(w, p))
 }
 
 // Document 01, encoder.rs: the empty pattern is `(str.to_re "")`, and one element has no `re.++`. SMT-LIB, theory of Unicode

@@ -1,14 +1,10 @@
 // String literals, ids and texts in comments.
 use crate::lines::line;
 use std::io;
-use write_bytes::writer::Writer;
 use write_text::comment::Comment;
 
 fn literal(rt: &impl Print, s: &[u8]) -> io::Result<()> {
-    let mut out = [0u8; 128];
-    let mut w = Writer::new(&mut out);
-    write_text::put_literal(&mut w, s);
-    line(rt, &w)
+    line(rt, |w| write_text::put_literal(w, s))
 }
 
 // SMT-LIB 2.6, section 3.1: a quote inside a string literal is doubled. Document 01: the backslash is `\u{5c}`, also before what
@@ -40,10 +36,7 @@ pub fn code_points(rt: &impl Print) -> io::Result<()> {
 }
 
 fn id(rt: &impl Print, s: &[u8]) -> io::Result<()> {
-    let mut out = [0u8; 128];
-    let mut w = Writer::new(&mut out);
-    write_text::put_debug(&mut w, s);
-    line(rt, &w)
+    line(rt, |w| write_text::put_debug(w, s))
 }
 
 // Document 01, smtlib_script.rs: an id stands as Rust's `{:?}` prints it, other bytes below 32 and 127 as `\u{h}`; a code point
@@ -57,15 +50,14 @@ pub fn ids(rt: &impl Print) -> io::Result<()> {
 
 // A comment's text in two pieces.
 fn comment(rt: &impl Print, s: &[u8], t: &[u8]) -> io::Result<()> {
-    let mut out = [0u8; 1024];
-    let mut w = Writer::new(&mut out);
-    let mut text = Comment {
-        writer: &mut w,
-        points: 0,
-    };
-    text.put(s);
-    text.put(t);
-    line(rt, &w)
+    line(rt, |w| {
+        let mut text = Comment {
+            writer: w,
+            points: 0,
+        };
+        text.put(s);
+        text.put(t)
+    })
 }
 
 // Document 02, W10: a byte below 32 and byte 127 become spaces, and after 200 code points the rest is dropped.

@@ -3,17 +3,11 @@ use crate::lines::line;
 use refusal::Refusal;
 use std::io;
 use write_bitvec::{BitVec, reading, spelling};
-use write_bytes::writer::Writer;
 
 // A bit vector's literal, or document 01's number for a refusal.
 fn vector(rt: &impl Print, made: Result<BitVec, Refusal>) -> io::Result<()> {
     match made {
-        Ok(vector) => {
-            let mut out = [0u8; 64];
-            let mut w = Writer::new(&mut out);
-            spelling::put_bitvec(&mut w, vector.width, vector.value);
-            line(rt, &w)
-        }
+        Ok(vector) => line(rt, |w| spelling::put_bitvec(w, vector.width, vector.value)),
         Err(refusal) => println!(rt; "refused {}", refusal.number()),
     }
 }
@@ -70,10 +64,7 @@ pub fn limits(rt: &impl Print) -> io::Result<()> {
 }
 
 fn sort(rt: &impl Print, width: u32) -> io::Result<()> {
-    let mut out = [0u8; 64];
-    let mut w = Writer::new(&mut out);
-    spelling::put_bitvec_sort(&mut w, width);
-    line(rt, &w)
+    line(rt, |w| spelling::put_bitvec_sort(w, width))
 }
 
 // Document 01, ipaddr.rs: prefixes have the sorts `(_ BitVec 5)` and `(_ BitVec 7)`, and encoder.rs has V6 addresses of 128 bits.

@@ -14,7 +14,7 @@ use borrow.Author.Tests.{le-leb, lt-leb}
 use Rattle.script_spec.specs.Base.{Bytes, between}
 use Rattle.script_spec.specs.Fields.{got, bad, Reader, ◌>>=◌, pure, ensure, part, byte, low, u32}
 use Rattle.script_spec.specs.Fields as fields
-use Rattle.std.specs.Prelude.{Result, Ok, Err}
+use Rattle.std.specs.Prelude.{Result, Ok, Err, IsErrAnd}
 use Rattle.refusal.specs.declared.Refusal.{Refusal}
 use Rattle.refusal.specs.Numbers.{number}
 use Rattle.read_field.specs.declared.Cursor.{Cursor}
@@ -120,6 +120,11 @@ skims h = takes_next _ h (takes_pure tt)
 pub skims_not : {A : Type 0} {r : Reader A} {c : Cursor} {e : Refusal} → RefusesAt r c e → RefusesAt (skim r) c e
 unfolding skim
 skims_not h = refuses_stop _ h
+
+-- what a `?` hands on
+pub handed_on : {A E : Type 0} (r : Result A E) {e : E} → IsErrAnd r (λ d. d ≡ e) → r ≡ Err e
+handed_on (Ok a) h = absurd h
+handed_on (Err d) h = ap Err h
 
 -- ---- lists
 

@@ -50,8 +50,8 @@ impl<'a> Cursor<'a> {
         ensures { (result.body ≡ self.entry.body) × (result.at ≡ self.entry.at + n) }
     {
         Cursor {
-            body: self.body,
             at: self.at + n,
+            ..self
         }
     }
 

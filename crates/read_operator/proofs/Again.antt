@@ -32,7 +32,7 @@ module _ {A : Type 0} {reader : Reader A} {c : Cursor} where
   -- another reader, which makes the same where this one refuses nothing
   again_by : (loose : Reader A) (x : Result (A × Cursor) Refusal) → ((s : Bytes) (a : A) (rest : Bytes) → reader s ≡ got a rest → loose s ≡ got a rest) → Takes loose c x → TakesAgain reader c x
   unfolding as_read
-  again_by loose (Ok v) same h = record { body = h.body; go = λ a rest e. (h.body, sym h.reads.is ∙ same (drop c.at c.body.now) a rest e) }
+  again_by loose (Ok v) same h = record { body = h.body; go = λ a rest e. sym h.reads.is ∙ same (drop c.at c.body.now) a rest e }
   again_by loose (Err q) same h = record { body = tt; go = λ a rest e. let f : bad _ ≡ got a rest = sym h.reads.is ∙ same (drop c.at c.body.now) a rest e in never cc }
 
   -- the reader itself
@@ -49,7 +49,7 @@ again_next {B = B} k {c} {d} {a} y h l = record { body = moves y l.body; go = λ
     moves (Err q) w = w
 
     moved : (z : B) (rest : Bytes) (y : Result (B × Cursor) Refusal) → Gives d z rest y → Gives c z rest y
-    moved z rest (Ok v) w = (w.0 ∙ h.body, subst (λ (s : Bor Bytes). got v.0 (drop v.1.at s.now) ≡ got z rest) h.body w.1)
+    moved z rest (Ok v) w = subst (λ (s : Bor Bytes). got v.0 (drop v.1.at s.now) ≡ got z rest) h.body w
     moved z rest (Err q) w = w
 
 -- ---- operands

@@ -9,7 +9,7 @@ use Rattle.read_field.specs.declared.Cursor.{Cursor}
 
 -- from a cursor c what was answered is a value with these bytes after it
 abbrev pub Gives : {A : Type 0} → Cursor → A → Bytes → Result (A × Cursor) Refusal → Type 0
-Gives c a rest (Ok v) = (v.1.body ≡ c.body) × (got v.0 (drop v.1.at c.body.now) ≡ got a rest)
+Gives c a rest (Ok v) = got v.0 (drop v.1.at c.body.now) ≡ got a rest
 Gives c a rest (Err e) = ⊥
 
 -- a moved cursor has the same body

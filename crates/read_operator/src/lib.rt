@@ -336,10 +336,7 @@ fn coded<'a, const TESTED: bool>(c: Cursor<'a>, funs: u32) -> Result<(Op<'a>, Cu
         return Err(Refusal::Misfit);
     }
     let code = c.body[c.at];
-    let rest = Cursor {
-        body: c.body,
-        at: c.at + 1,
-    };
+    let rest = Cursor { at: c.at + 1, ..c };
     operand::<TESTED>(rest, code, funs)
 }
 

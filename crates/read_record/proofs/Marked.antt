@@ -1,7 +1,10 @@
 -- Laws of marks: bytes that are no mark, and kinds that have one.
 -- Assumes nothing.
 use mathlib.Core.Path.{◌≡◌, refl, ap}
-use mathlib.Core.Bool.{true, false}
+use Prim.Native.Nat.{ℕ}
+use mathlib.Core.Bool.{true, false, ◌&&◌}
+use borrow.Author.Tests.{ne_eqb}
+use lib.Dec.{eqb}
 use mathlib.Core.List.{List, [], ◌∷◌}
 use mathlib.Core.Option.{none}
 use Rattle.std.specs.Prelude.{None, Some}
@@ -28,6 +31,29 @@ names_marks e = refl
 
 pub unmarked : (s : Bytes) → any (same s) names ≡ false → (e : Earlier) → lookup s (marks e) ≡ none
 unmarked s h e = lookup_none s (marks e) (rw (names_marks e) h)
+
+-- x is none of these numbers
+abbrev pub NoneOf : List ℕ → ℕ → Type 0
+NoneOf [] x = Unit {0}
+NoneOf (y ∷ ys) x = NoneOf ys x × (x ≡ y → ⊥)
+
+-- marks with the same first byte as two bytes, by their second bytes, which are all others
+pub other_second : (b : ℕ) (ys : List ℕ) → NoneOf ys b → any (λ y. eqb b y && true) ys ≡ false
+unfolding any
+other_second b [] h = refl
+other_second b (y ∷ ys) h = rw (any, ne_eqb b y h.1) (other_second b ys h.0)
+
+-- x begins none of these texts
+abbrev pub BeginsNone : List Bytes → ℕ → Type 0
+BeginsNone [] x = Unit {0}
+BeginsNone ([] ∷ ms) x = BeginsNone ms x
+BeginsNone ((y ∷ m) ∷ ms) x = BeginsNone ms x × (x ≡ y → ⊥)
+
+pub other_first : (a : ℕ) (s : Bytes) (ms : List Bytes) → BeginsNone ms a → any (same (a ∷ s)) ms ≡ false
+unfolding any same
+other_first a s [] h = refl
+other_first a s ([] ∷ ms) h = other_first a s ms h
+other_first a s ((y ∷ m) ∷ ms) h = rw (any, same, ne_eqb a y h.1) (other_first a s ms h.0)
 
 -- the reader of a kind is the one that the table has for the bytes
 pub lookup_kind : (s : Bytes) (k : Kind) (e : Earlier) → Marked s (Some k) → lookup s (marks e) ≡ reader_of e k

@@ -1,7 +1,7 @@
 -- Laws of bit vectors, extension values and entity types as their bodies have them.
 -- Assumes nothing.
 use mathlib.Core.Path.{◌≡◌, refl, sym, ap, ◌∙◌}
-use Prim.Native.Nat.{ℕ, zero, suc, ◌^◌, ◌≤◌, ◌<◌}
+use Prim.Native.Nat.{ℕ, zero, suc, ◌^◌, ◌<◌}
 use native.Mathlib.Omega.{arith}
 use native.Mathlib.Nat.{le_refl}
 use mathlib.Core.Bool.{Bool, true, false, ◌&&◌}
@@ -84,25 +84,22 @@ module _ {n : ℕ} (c : Cursor) (x : Result (Unit {0} × Cursor) Refusal) where
   unfolding values at
   skims_v6 e h = skims_chosen values 1 (addressed 16 128) c x e refl (addressed_skim 16 128 _) h
 
-skims_signed : (n : ℕ) (c : Cursor) (x : Result (Unit {0} × Cursor) Refusal) → 2 ≤ n → n < 5 → Takes (skim (part 8)) c x → Takes (skim (chosen values n)) c x
+skims_signed : (n : ℕ) (c : Cursor) (x : Result (Unit {0} × Cursor) Refusal) → (n ≡ 0 → ⊥) × (n ≡ 1 → ⊥) → n < 5 → Takes (skim (part 8)) c x → Takes (skim (chosen values n)) c x
 unfolding values at
-skims_signed zero c x l u h = absurd (omega arith)
-skims_signed (suc zero) c x l u h = absurd (omega arith)
+skims_signed zero c x l u h = absurd (l.0 refl)
+skims_signed (suc zero) c x l u h = absurd (l.1 refl)
 skims_signed (suc (suc zero)) c x l u h = skims_chosen values 2 (skim (part 8)) c x refl refl (signed_skim _) h
 skims_signed (suc (suc (suc zero))) c x l u h = skims_chosen values 3 (skim (part 8)) c x refl refl (signed_skim _) h
 skims_signed (suc (suc (suc (suc zero)))) c x l u h = skims_chosen values 4 (skim (part 8)) c x refl refl (signed_skim _) h
 skims_signed (suc (suc (suc (suc (suc n))))) c x l u h = absurd (omega arith)
 
-module _ (n : ℕ) {c : Cursor} (l : 2 ≤ n) (u : n < 5) where
+-- neither of the first two codes, and one of five
+module _ (n : ℕ) {c : Cursor} (l : (n ≡ 0 → ⊥) × (n ≡ 1 → ⊥)) (u : n < 5) where
   pub signed_taken : {d : Cursor} → TakesTo (skim (part 8)) c d tt → TakesTo (skim (chosen values n)) c d tt
   signed_taken {d} h = skims_signed n c (Ok (tt, d)) l u h
 
   pub signed_refused : {e : Refusal} → RefusesAt (skim (part 8)) c e → RefusesAt (skim (chosen values n)) c e
   signed_refused {e} h = skims_signed n c (Err e) l u h
-
--- neither of the first two codes
-pub two_on : (n : ℕ) → (n ≡ 0 → ⊥) → (n ≡ 1 → ⊥) → 2 ≤ n
-two_on n h l = omega arith
 
 -- ---- entity types
 

@@ -11,7 +11,7 @@ use lib.ListN.{length, drop, length-drop}
 use Rattle.script_spec.specs.Base.{Bytes, bytes, same, lookup}
 use Rattle.script_spec.specs.Tree.{IPAddr, Decimal, Datetime, Duration}
 use Rattle.script_spec.specs.Fields.{Read, got, bad, Reader, ◌>>=◌, pure, ensure, Entry, Earlier, marks, whole, text, ref, width, number, list, pair, value, operator, ext_type, entity_ref, coded}
-use Rattle.std.specs.Prelude.{Result, Ok, Err}
+use Rattle.std.specs.Prelude.{Ok, Err}
 use Rattle.refusal.specs.declared.Refusal.{Refusal}
 use Rattle.refusal.specs.declared.Refusal.TheVariants.{Misfit}
 use Rattle.refusal.specs.Numbers.{number as number_of}

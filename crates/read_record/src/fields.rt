@@ -2,6 +2,7 @@
 ghost use Rattle.std.specs.Prelude.{◌≡◌};
 ghost use Rattle.read_record.specs.Fields.{fields_of};
 
+use crate::Earlier;
 use crate::mark::Kind;
 use read_field::list::Item;
 
@@ -30,10 +31,16 @@ pub enum Field {
 #[derive(Clone, Copy)]
 pub struct Fields(pub Field, pub Field, pub Field);
 
-// The fields of a kind's body, after so many types, functions and terms.
-pub fn fields_of(kind: Kind, types: u32, funs: u32, terms: u32) -> Fields
-    ensures { result ≡ fields_of types funs terms kind }
+// The fields of a kind's body, after what stands before it.
+pub fn fields_of(kind: Kind, earlier: Earlier<'_>) -> Fields
+    ensures { result ≡ fields_of earlier.entry.types earlier.entry.funs earlier.entry.terms kind }
 {
+    let Earlier {
+        types,
+        funs,
+        terms,
+        ..
+    } = earlier;
     match kind {
         Kind::TB => Fields(Field::Nothing, Field::Nothing, Field::Nothing),
         Kind::TS => Fields(Field::Nothing, Field::Nothing, Field::Nothing),

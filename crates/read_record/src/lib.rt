@@ -5,7 +5,8 @@ pub mod body;
 pub mod fields;
 pub mod mark;
 
-ghost use Rattle.read_record.specs.Bodies.{earlier_with};
+ghost use Rattle.std.specs.Prelude.{◌≡◌};
+ghost use Rattle.read_record.specs.Bodies.{is_entity_at, earlier_with};
 ghost use Rattle.read_record.specs.Records.{NextRecord};
 
 use mark::Kind;
@@ -20,17 +21,34 @@ pub struct Record {
     pub end: usize,
 }
 
-// The record at a place of the file, after so many types, functions and terms; `offsets` has the places of the types.
-pub fn next_record(
-    file: &[u8],
-    at: usize,
-    types: u32,
-    funs: u32,
-    terms: u32,
-    offsets: &[u32],
-) -> Result<Record, Refusal>
-    ensures { NextRecord (earlier_with types funs terms file.now offsets.now) file.now at result }
+// What stands before a record: the file, the places of the types in it, and how many types, functions and terms there are.
+#[derive(Clone, Copy)]
+pub struct Earlier<'a> {
+    pub file: &'a [u8],
+    pub offsets: &'a [u32],
+    pub types: u32,
+    pub funs: u32,
+    pub terms: u32,
+}
+
+impl Earlier<'_> {
+    // Whether the record of type n has the mark `TE`.
+    fn is_entity(self, n: u32) -> bool
+        ensures { result ≡ is_entity_at self.entry.file.now self.entry.offsets.now n }
+    {
+        let i = n as usize;
+        if self.offsets.len() <= i {
+            return false;
+        }
+        read_field::part_of(self.file, self.offsets[i] as usize, 2) == b"TE".as_slice()
+    }
+}
+
+// The record at a place of the file, after what stands before it.
+pub fn next_record(earlier: Earlier<'_>, at: usize) -> Result<Record, Refusal>
+    ensures { NextRecord (earlier_with earlier.entry.types earlier.entry.funs earlier.entry.terms earlier.entry.file.now earlier.entry.offsets.now) earlier.entry.file.now at result }
 {
+    let file = earlier.file;
     if (Cursor { body: file, at }).left() < 6 {
         return Err(Refusal::CutShort);
     }
@@ -49,6 +67,6 @@ pub fn next_record(
         return Err(Refusal::CutShort);
     }
     let end = start + size;
-    body::read_body(kind, &file[start..end], types, funs, terms, file, offsets)?;
+    body::read_body(kind, &file[start..end], earlier)?;
     Ok(Record { kind, start, end })
 }

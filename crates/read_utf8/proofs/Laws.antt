@@ -9,6 +9,7 @@ use native.Mathlib.Nat.{not-suc-le-zero}
 use native.Mathlib.Omega.{arith}
 use borrow.Author.Tests.{lt-ltb}
 use denote.Ref.{Bor}
+use denote.Param.Members.{Mut}
 use lib.Dec.{ltb}
 use lib.ListN.{length, drop, length-drop}
 use lib.Seq.{drop-drop}
@@ -17,6 +18,11 @@ use Rattle.script_spec.specs.Utf8.{decode, code_points?, code_points, is_utf8}
 use Rattle.script_spec.specs.Walk.{low_enough}
 use Rattle.script_spec.proofs.Laws.{never}
 use Rattle.std.specs.Prelude.{Option as Optional, None, Some, Result, Ok, Err}
+use Rattle.std.specs.Result.{is_ok}
+use Rattle.std.specs.Option.{MatchOption}
+use Rattle.std.specs.List.{FoldsTo}
+use Rattle.std.specs.Fn.{Called}
+use Rattle.std.specs.Iterator.{Yields, ChecksAll}
 use Rattle.read_utf8.specs.declared.CodePoints.{CodePoints}
 use Rattle.read_utf8.specs.declared.Malformed.{Malformed}
 use Rattle.read_utf8.specs.Decoding.{First, nothing, malformed, point, longer, follow, led, first_point, points, points_by, next_said, Decodes, is_low}
@@ -222,6 +228,30 @@ unfolding next_said pointed utf8_then
 next_end {c} {d} F h =
     let e : first_point (left c) ≡ nothing = sym F.is ∙ ap (next_said (d.at - c.at)) h in
     (utf8_first (left c) ∙ ap (λ (f : First). utf8_then f (left c)) e, points_first (left c) ∙ ap (λ (f : First). pointed f (left c)) e)
+
+-- bytes that are not UTF-8 or a code point, by whether they are one
+utf8_stop : {c d : CodePoints} (r : Result ℕ Malformed) → Decodes (first_point (left c)) c d (Some r) → is_ok r ≡ false → is_utf8 (left c) ≡ false
+utf8_stop (Ok v) F h = never cc
+utf8_stop (Err m) F h = (next_malformed F refl).0
+
+utf8_more : {c d : CodePoints} (r : Result ℕ Malformed) → Decodes (first_point (left c)) c d (Some r) → is_ok r ≡ true → is_utf8 (left c) ≡ is_utf8 (left d)
+utf8_more (Ok v) F h = (next_point F refl).utf8
+utf8_more (Err m) F h = never cc
+
+-- what is answered where a test asks of each whether it is a code point
+module _ {F : Type 0} {test : Mut F (Result ℕ Malformed × Unit {0}) Bool} (asks : (x : Result ℕ Malformed) (b : Bool) (p q : F) → Called test p (x, tt) b q → b ≡ is_ok x) where
+  utf8_along : (xs : List (Result ℕ Malformed)) (c d : CodePoints) (p q : F) → Yields (λ c r d. Decodes (first_point (left c)) c d r) c xs d → FoldsTo (λ p x q. Called test p (x, tt) true q) p xs q
+      → is_utf8 (left c) ≡ is_utf8 (left d)
+  utf8_along [] c d p q y h = ap (λ (c : CodePoints). is_utf8 (left c)) y
+  utf8_along (x ∷ xs) c d p q y h = utf8_more x y.1 (sym (asks x true _ _ h.1)) ∙ utf8_along xs _ _ _ _ y.2 h.2
+
+  utf8_ends : (o : Optional (Result ℕ Malformed)) {c d : CodePoints} (q : F) {r : Bool} → Decodes (first_point (left c)) c d o
+      → MatchOption o (r ≡ true) (λ x. (r ≡ false) × ((h : F) × Called test q (x, tt) false h)) → r ≡ is_utf8 (left c)
+  utf8_ends None q e m = m ∙ sym (next_end e refl).0
+  utf8_ends (Some x) q e m = m.0 ∙ sym (utf8_stop x e (sym (asks x false _ _ m.1.1)))
+
+  pub utf8_all : {c d : CodePoints} {p : F} {r : Bool} → ChecksAll (λ c r d. Decodes (first_point (left c)) c d r) test c p r d → r ≡ is_utf8 (left c)
+  utf8_all a = utf8_ends a.1 a.2 a.3.2 a.5 ∙ sym (utf8_along a.0 _ _ _ _ a.3.1 a.4)
 
 -- ---- code points that SMT-LIB's strings have
 

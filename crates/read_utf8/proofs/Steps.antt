@@ -1,13 +1,13 @@
 -- One law for each way through the code that finds a code point.
 -- Assumes nothing.
 use mathlib.Core.Path.{◌≡◌, refl, sym, ap, ◌∙◌}
-use mathlib.Core.Bool.{Bool, true, false}
+use mathlib.Core.Bool.{true, false}
 use mathlib.Core.List.{◌∷◌}
 use Prim.Native.Nat.{ℕ, zero, suc, ◌+◌, ◌-◌, ◌*◌, ◌^◌, ◌≤◌, ◌<◌}
 use native.Mathlib.Nat.{mul-le-mul_right, mul-le-mul_left, one-le-pow, mul_assoc, pow-succ', le_refl, le_trans}
 use native.Mathlib.Numerals.{add-one, sub-one}
 use native.Mathlib.Omega.{arith}
-use borrow.Author.Tests.{lt-ltb, le-ltb}
+use borrow.Author.Tests.{lt-ltb, le-ltb, eq-eqb, ne_eqb}
 use lib.Dec.{eqb}
 use lib.ListN.{length, drop, get_or, drop_of_length-le}
 use lib.Seq.{drop-cons}
@@ -92,13 +92,12 @@ small_next (suc m) low high v b h s i j =
       to = omega arith;
     }
 
--- the bits of a first byte, with the range of the next byte chosen by tests
-pub small_chosen : (more low high v x y : ℕ) (t u : Bool) → low ≡ choose t x 128 → high ≡ choose u y 191 → 128 ≤ x → y ≤ 191 → (v + 1) * 64 ^ more ≤ 2097152
-    → Small more low high v
-small_chosen more low high v x y true true e f h k b = record { bits = b; from = omega arith; to = omega arith }
-small_chosen more low high v x y true false e f h k b = record { bits = b; from = omega arith; to = omega arith }
-small_chosen more low high v x y false true e f h k b = record { bits = b; from = omega arith; to = omega arith }
-small_chosen more low high v x y false false e f h k b = record { bits = b; from = omega arith; to = omega arith }
+-- a number chosen by an `if`
+pub chosen_then : {a b z : ℕ} (x y : ℕ) → a ≡ b → z ≡ x → z ≡ choose (eqb a b) x y
+chosen_then {a} {b} x y h e = rw (eq-eqb a b h) e
+
+pub chosen_else : {a b z : ℕ} (x y : ℕ) → (a ≡ b → ⊥) → z ≡ y → z ≡ choose (eqb a b) x y
+chosen_else {a} {b} x y h e = rw (ne_eqb a b h) e
 
 -- ---- a first byte of 128 or more, by its range
 

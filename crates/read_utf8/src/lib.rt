@@ -1,10 +1,11 @@
 // The code points of a text one by one, and tests of a whole text.
 #![tactic(auto)]
 
-ghost use Rattle.std.specs.Prelude.{◌≡◌, ◌<◌, Some, drop};
+ghost use Rattle.std.specs.Prelude.{◌≡◌, ◌<◌, ◌-◌, Some, drop, length};
+ghost use Rattle.std.specs.Iterator.{at_most};
 ghost use Rattle.script_spec.specs.Utf8.{is_utf8};
 ghost use Rattle.script_spec.specs.Walk.{low_enough};
-ghost use Rattle.read_utf8.specs.Decoding.{first_point, led, follow, points, Decodes, choose, is_low, Small};
+ghost use Rattle.read_utf8.specs.Decoding.{first_point, led, follow, points, Decodes, is_low, Small};
 
 // The highest code point that SMT-LIB's strings have.
 pub const HIGHEST: u32 = 196607;
@@ -20,13 +21,6 @@ pub struct Malformed;
 pub struct CodePoints<'a> {
     pub text: &'a [u8],
     pub at: usize,
-}
-
-// One of two numbers by a test.
-fn either(test: bool, x: u32, y: u32) -> u32
-    ensures { result ≡ choose test x y }
-{
-    if test { x } else { y }
 }
 
 impl<'a> CodePoints<'a> {
@@ -67,22 +61,28 @@ impl<'a> CodePoints<'a> {
             return self.continued(1, 128, 191, a - 192);
         }
         if a < 240 {
-            let low = either(a == 224, 160, 128);
-            let high = either(a == 237, 159, 191);
+            let low = if a == 224 { 160 } else { 128 };
+            let high = if a == 237 { 159 } else { 191 };
             return self.continued(2, low, high, a - 224);
         }
         if a < 245 {
-            let low = either(a == 240, 144, 128);
-            let high = either(a == 244, 143, 191);
+            let low = if a == 240 { 144 } else { 128 };
+            let high = if a == 244 { 143 } else { 191 };
             return self.continued(3, low, high, a - 240);
         }
         Err(Malformed)
     }
+}
+
+impl Iterator for CodePoints<'_> {
+    type Item = Result<u32, Malformed>;
+
+    ghost next_gives = { λ c r d. Decodes (first_point (drop c.at c.text.now)) c d r };
+
+    ghost remaining = { λ c. at_most (length c.text.now - c.at) };
 
     // The next code point, bytes that are not UTF-8, or nothing at the end.
-    pub fn next(&mut self) -> Option<Result<u32, Malformed>>
-        ensures { Decodes (first_point (drop self.old.at self.old.text.now)) self.old self.new result }
-    {
+    fn next(&mut self) -> Option<Result<u32, Malformed>> {
         if self.text.len() <= self.at {
             return None;
         }
@@ -99,13 +99,7 @@ impl<'a> CodePoints<'a> {
 pub fn is_utf8(s: &[u8]) -> bool
     ensures { result ≡ is_utf8 s.now }
 {
-    let mut rest = CodePoints::new(s);
-    while let Some(point) = rest.next() {
-        let Ok(_) = point else {
-            return false;
-        };
-    }
-    true
+    CodePoints::new(s).all(|point| point.is_ok())
 }
 
 // A code point that SMT-LIB's strings have, or the wildcard.
@@ -119,8 +113,7 @@ pub fn is_low(c: u32) -> bool
 pub fn low_enough(s: &[u8]) -> bool
     ensures { result ≡ low_enough (points s.now) }
 {
-    let mut rest = CodePoints::new(s);
-    while let Some(point) = rest.next() {
+    for point in CodePoints::new(s) {
         let Ok(c) = point else {
             return true;
         };

@@ -11,11 +11,11 @@ use Rattle.script_spec.specs.File.{TermFile, checked}
 use Rattle.script_spec.specs.Command.{Command, command_written, left}
 use Rattle.script_spec.specs.Walk.{encoded}
 use Rattle.script_spec.proofs.Demand.{encoded_faithful}
-use Rattle.std.specs.Prelude.{Result, Ok, Err}
+use Rattle.std.specs.Prelude.{Result}
 use Rattle.refusal.specs.declared.Refusal.{Refusal}
 use Rattle.refusal.specs.declared.Refused.{Refused}
 use Rattle.write_bytes.specs.Writing.{answer, length_of}
-use Rattle.smtlib_script.specs.Writes.{Writes}
+use Rattle.smtlib_script.specs.Alone.{WritesAlone}
 use Rattle.check_file.specs.Promise.{checked_as, without_records, Checks}
 use Rattle.encoder.specs.Printing.{written}
 use Rattle.encoder.specs.Promise.{encoded_as, Encodes}
@@ -81,7 +81,7 @@ checks_file {file} {work} {r = r} k e =
     }
 
 -- the promise of a call that writes a command
-pub writes_command : {c : Command} {x y : Bytes} {w : Result ℕ Refusal} {n r : ℕ} → Writes c x y w → SaysAnswer (answer w) n r → WritesCommand c x y n r
+pub writes_command : {c : Command} {x y : Bytes} {w : Result ℕ Refusal} {n r : ℕ} → WritesAlone c x y w → SaysAnswer (answer w) n r → WritesCommand c x y n r
 writes_command {c} {x} {n = n} {r = r} k s =
     let says : SaysAnswer (length_of (command_written c (length x))) n r = subst (λ (a : Answer ℕ). SaysAnswer a n r) k.leaves.says s in
     record { says = says; accepts = starts_zero (command_written c (length x)) (length x) says k.leaves.holds (command_numbered c (length x)); holds = k.leaves.holds }

@@ -1,16 +1,20 @@
 -- Laws of lists of texts that are written from the first to the last: lists that are lent, joined, and paired.
 -- Assumes nothing.
-use Prim.Native.Nat.{ℕ, zero, suc, ◌+◌, ◌-◌, ◌≤◌, ◌<◌, min}
+use Prim.Native.Nat.{ℕ, ◌+◌, ◌-◌, ◌≤◌, ◌<◌}
 use native.Mathlib.Nat.{not-suc-le-zero}
 use native.Mathlib.Numerals.{add-one}
 use native.Mathlib.Omega.{arith}
 use mathlib.Core.Path.{◌≡◌, refl, sym, ap, ◌∙◌}
+use mathlib.Core.Logic.{◌⊎◌, inl, inr}
 use mathlib.Core.List.{List, [], ◌∷◌, ◌++◌, append-nil, append_assoc, map, zip, zip_with}
-use lib.ListN.{length, take, drop, get_or, length-map, drop_of_length-le, get_or-map}
+use lib.ListN.{length, take, drop, get_or, drop_of_length-le, get_or-map}
 use lib.Seq.{drop-cons, take_all}
 use denote.Ref.{Bor}
 use Rattle.script_spec.specs.Base.{Bytes, bytes, joined, collect}
 use Rattle.script_spec.specs.Command.{spaced}
+use Rattle.write_bytes.specs.declared.writer.Writer.{Writer}
+use Rattle.write_bytes.specs.Writers.{Writes}
+use Rattle.write_bytes.proofs.Laws.{◌then◌, says}
 use Rattle.smtlib_script.specs.Arguments.{argument, arguments}
 
 -- an element of a lent list of texts
@@ -41,11 +45,6 @@ unfolding separated collect joined
 joined_cons sep t [] = append-nil t
 joined_cons sep t (u ∷ us) = rw (← joined_cons sep u us) (simp append_assoc)
 
--- the first text, and each other with a separator before it
-pub joined_first : (sep : Bytes) (ts : List Bytes) → 0 < length ts → get_or ts 0 [] ++ separated sep (drop 1 ts) ≡ joined sep ts
-joined_first sep [] h = absurd (not-suc-le-zero h)
-joined_first sep (t ∷ ts) h = joined_cons sep t ts
-
 -- the first text of a lent list, and each of the part after it, as that is lent, with a separator before it
 pub joined_rest : (sep : Bytes) (ts : List (Bor Bytes)) → 0 < length ts
     → (get_or ts 0 (record { ref_ptr = (0, 0); now = [] })).now ++ separated sep (map (λ x. x.now) (take (length ts - 1) (drop 1 ts))) ≡ joined sep (map (λ x. x.now) ts)
@@ -56,43 +55,38 @@ joined_rest sep (t ∷ ts) h =
 
 -- ---- paired
 
-pair : {x x' y y' : Bytes} → x ≡ x' → y ≡ y' → ◌≡◌ {A = Bytes × Bytes} (x, y) (x', y')
-pair e f i = (e i, f i)
+-- the arguments of the pairs of two lent lists
+abbrev pub lent_arguments : List (Bor Bytes) → List (Bor Bytes) → List Bytes
+lent_arguments xs ys = arguments (zip (map (λ x. x.now) xs) (map (λ x. x.now) ys))
 
-length_zip : (xs ys : List Bytes) → length (zip xs ys) ≡ min (length xs) (length ys)
+pub arguments_next : {xs ys rest others : List (Bor Bytes)} {x y : Bor Bytes} → xs ≡ x ∷ rest → ys ≡ y ∷ others → lent_arguments xs ys ≡ argument (x.now, y.now) ∷ lent_arguments rest others
 unfolding zip zip_with
-length_zip [] ys = search (arith)
-length_zip (x ∷ xs) [] = search (arith)
-length_zip (x ∷ xs) (y ∷ ys) = let h = length_zip xs ys in omega arith
+arguments_next e f = rw (e, f)
 
-get_or_map_zip : (f : Bytes × Bytes → Bytes) (xs ys : List Bytes) (i : ℕ) → i < length xs → i < length ys → f (get_or xs i [], get_or ys i []) ≡ get_or (map f (zip xs ys)) i []
+-- one of the two lists is over
+pub arguments_over : {S T : Type 0} {P : S → Type 0} {Q : T → Type 0} (xs ys : List (Bor Bytes)) → ((s : S) × ((length xs ≡ 0) × P s)) ⊎ ((t : T) × ((length ys ≡ 0) × Q t)) → lent_arguments xs ys ≡ []
 unfolding zip zip_with
-get_or_map_zip f [] ys i h k = absurd (not-suc-le-zero h)
-get_or_map_zip f (x ∷ xs) [] i h k = absurd (not-suc-le-zero k)
-get_or_map_zip f (x ∷ xs) (y ∷ ys) zero h k = refl
-get_or_map_zip f (x ∷ xs) (y ∷ ys) (suc i) h k = get_or_map_zip f xs ys i (omega arith) (omega arith)
+arguments_over [] ys e = refl
+arguments_over (x ∷ xs) [] e = refl
+arguments_over (x ∷ xs) (y ∷ ys) (inl a) = absurd (omega (arith, a.1.0))
+arguments_over (x ∷ xs) (y ∷ ys) (inr b) = absurd (omega (arith, b.1.0))
 
--- two lent lists, whose pairs are arguments
-module _ (xs ys : List (Bor Bytes)) where
-  length_arguments : length (arguments (zip (map (λ x. x.now) xs) (map (λ x. x.now) ys))) ≡ min (length xs) (length ys)
-  length_arguments = length-map (zip (map (λ x. x.now) xs) (map (λ x. x.now) ys)) argument ∙ length_zip (map (λ x. x.now) xs) (map (λ x. x.now) ys) ∙ (simp length-map)
+pub separated_next : (sep : Bytes) {ts us : List Bytes} {t : Bytes} → ts ≡ t ∷ us → separated sep ts ≡ (sep ++ t) ++ separated sep us
+unfolding separated collect
+separated_next sep e = rw e
 
-  pub arguments_none : min (length xs) (length ys) ≡ 0 → [] ≡ spaced (arguments (zip (map (λ x. x.now) xs) (map (λ x. x.now) ys)))
-  unfolding spaced joined
-  arguments_none h = go (arguments (zip (map (λ x. x.now) xs) (map (λ x. x.now) ys))) (length_arguments ∙ h)
-    where
-      go : (ts : List Bytes) → length ts ≡ 0 → [] ≡ joined (bytes " ") ts
-      go [] k = refl
-      go (t ∷ ts) k = absurd (omega arith)
+pub separated_over : (sep : Bytes) {ts : List Bytes} → ts ≡ [] → separated sep ts ≡ []
+unfolding separated collect
+separated_over sep e = rw e
 
-  pub arguments_more : (i : ℕ) → i < min (length xs) (length ys) → i < length (arguments (zip (map (λ x. x.now) xs) (map (λ x. x.now) ys)))
-  arguments_more i h = omega (arith, length_arguments)
+-- the first argument is written, and then the others: those that two iterators have left of two lists
+pub spaced_first : (xs ys : List (Bor Bytes)) {all every rest others : List (Bor Bytes)} {x y : Bor Bytes} {u v w : Writer}
+    → all ≡ x ∷ rest → every ≡ y ∷ others → all ≡ xs → every ≡ ys → Writes u v (argument (x.now, y.now)) → Writes v w (separated (bytes " ") (lent_arguments rest others)) → Writes u w (spaced (lent_arguments xs ys))
+unfolding spaced
+spaced_first xs ys {rest = rest} {others} {x} {y} e f h k first others_written =
+    says (joined_cons (bytes " ") (argument (x.now, y.now)) (lent_arguments rest others) ∙ ap (joined (bytes " ")) (sym (arguments_next (sym h ∙ e) (sym k ∙ f)))) (first then others_written)
 
-  pub arguments_all : (i : ℕ) → min (length xs) (length ys) ≤ i → length (arguments (zip (map (λ x. x.now) xs) (map (λ x. x.now) ys))) ≤ i
-  arguments_all i h = omega (arith, length_arguments)
-
-  pub argument_at : (i : ℕ) → i < min (length xs) (length ys)
-      → argument ((get_or xs i (record { ref_ptr = (0, 0); now = [] })).now, (get_or ys i (record { ref_ptr = (0, 0); now = [] })).now) ≡ get_or (arguments (zip (map (λ x. x.now) xs) (map (λ x. x.now) ys))) i []
-  argument_at i h =
-      ap argument (pair (text_at xs i) (text_at ys i))
-      ∙ get_or_map_zip argument (map (λ x. x.now) xs) (map (λ x. x.now) ys) i (simp length-map (omega arith)) (simp length-map (omega arith))
+pub spaced_over : {S T : Type 0} {P : S → Type 0} {Q : T → Type 0} (xs ys : List (Bor Bytes)) {all every : List (Bor Bytes)}
+    → ((s : S) × ((length all ≡ 0) × P s)) ⊎ ((t : T) × ((length every ≡ 0) × Q t)) → all ≡ xs → every ≡ ys → [] ≡ spaced (lent_arguments xs ys)
+unfolding spaced joined
+spaced_over xs ys o e f = rw (arguments_over xs ys (rw (e, f) at o))

@@ -1,4 +1,4 @@
 pub mod Arguments
 pub mod Opened
 pub mod Commands
-pub mod Writes
+pub mod Alone

@@ -4,10 +4,10 @@ ghost use mathlib.Core.List.{map, zip};
 ghost use Rattle.script_spec.specs.Base.{all, bytes};
 ghost use Rattle.script_spec.specs.Utf8.{is_utf8};
 ghost use Rattle.script_spec.specs.Command.{line, given, spaced, datatype_body, declare_datatype, declare_const, declare_fun, define_fun, set_option};
-ghost use Rattle.write_bytes.specs.Writers.{Writes as Put};
+ghost use Rattle.write_bytes.specs.Writers.{Writes};
 ghost use Rattle.smtlib_script.specs.Opened.{opened};
 ghost use Rattle.smtlib_script.specs.Commands.{command_of};
-ghost use Rattle.smtlib_script.specs.Writes.{Writes};
+ghost use Rattle.smtlib_script.specs.Alone.{WritesAlone};
 
 use crate::line::Word;
 use crate::{line, list};
@@ -34,7 +34,7 @@ pub enum Command<'a> {
 
 // A datatype's body; `par` stands where the parameters, joined, are not empty.
 fn put_datatype_body(w: &mut Writer<'_>, params: &[&[u8]], constructors: &[&[u8]])
-    ensures { Put w.old w.new (datatype_body (spaced (map (λ x. x.now) params.now)) (map (λ x. x.now) constructors.now)) }
+    ensures { Writes w.old w.new (datatype_body (spaced (map (λ x. x.now) params.now)) (map (λ x. x.now) constructors.now)) }
 {
     if list::is_blank(params) {
         return list::put_constructors(w, constructors);
@@ -48,7 +48,7 @@ fn put_datatype_body(w: &mut Writer<'_>, params: &[&[u8]], constructors: &[&[u8]
 
 // `(declare-datatype ID (CONSTRUCTORS))`, or `(declare-datatype ID (par (PARAMS) (CONSTRUCTORS)))`.
 fn put_declare_datatype(w: &mut Writer<'_>, id: &[u8], params: &[&[u8]], constructors: &[&[u8]])
-    ensures { Put w.old w.new (line (declare_datatype id.now (map (λ x. x.now) params.now) (map (λ x. x.now) constructors.now))) }
+    ensures { Writes w.old w.new (line (declare_datatype id.now (map (λ x. x.now) params.now) (map (λ x. x.now) constructors.now))) }
 {
     line::put_word(w, Word::DeclareDatatype);
     w.put(id);
@@ -59,7 +59,7 @@ fn put_declare_datatype(w: &mut Writer<'_>, id: &[u8], params: &[&[u8]], constru
 
 // `(declare-const ID SORT)`.
 fn put_declare_const(w: &mut Writer<'_>, id: &[u8], sort: &[u8])
-    ensures { Put w.old w.new (line (declare_const id.now sort.now)) }
+    ensures { Writes w.old w.new (line (declare_const id.now sort.now)) }
 {
     line::put_word(w, Word::DeclareConst);
     list::put_two(w, id, sort);
@@ -68,7 +68,7 @@ fn put_declare_const(w: &mut Writer<'_>, id: &[u8], sort: &[u8])
 
 // `(declare-fun ID (ARGS) SORT)`.
 fn put_declare_fun(w: &mut Writer<'_>, id: &[u8], args: &[&[u8]], sort: &[u8])
-    ensures { Put w.old w.new (line (declare_fun id.now (map (λ x. x.now) args.now) sort.now)) }
+    ensures { Writes w.old w.new (line (declare_fun id.now (map (λ x. x.now) args.now) sort.now)) }
 {
     line::put_word(w, Word::DeclareFun);
     w.put(id);
@@ -88,7 +88,7 @@ fn put_define_fun(
     sort: &[u8],
     body: &[u8],
 )
-    ensures { Put w.old w.new
+    ensures { Writes w.old w.new
         (line (define_fun id.now (zip (map (λ x. x.now) names.now) (map (λ x. x.now) sorts.now)) sort.now body.now)) }
 {
     line::put_define_fun(w);
@@ -102,7 +102,7 @@ fn put_define_fun(
 
 // `(WORD TEXT)`.
 fn put_one(w: &mut Writer<'_>, word: Word, text: &[u8])
-    ensures { Put w.old w.new (opened word ++ (text.now ++ bytes ")\n")) }
+    ensures { Writes w.old w.new (opened word ++ (text.now ++ bytes ")\n")) }
 {
     line::put_word(w, word);
     w.put(text);
@@ -111,7 +111,7 @@ fn put_one(w: &mut Writer<'_>, word: Word, text: &[u8])
 
 // `(set-option :OPTION VALUE)`.
 fn put_set_option(w: &mut Writer<'_>, option: &[u8], value: &[u8])
-    ensures { Put w.old w.new (line (set_option option.now value.now)) }
+    ensures { Writes w.old w.new (line (set_option option.now value.now)) }
 {
     line::put_word(w, Word::SetOption);
     w.put_byte(b':');
@@ -150,7 +150,7 @@ impl Command<'_> {
     // Writes its line.
     #[tactic(auto, unfolding(crate::specs::Commands::command_of))]
     pub fn put(self, w: &mut Writer<'_>)
-        ensures { Put w.old w.new (line (command_of self.entry)) }
+        ensures { Writes w.old w.new (line (command_of self.entry)) }
     {
         match self {
             Command::Comment(text) => line::comment(w, text),
@@ -174,7 +174,7 @@ impl Command<'_> {
 
     // Writes its line alone into a buffer, if its texts are UTF-8 and it fits: the length, and zeros past it; else zeros alone.
     pub fn write(self, out: &mut [u8]) -> Result<usize, Refusal>
-        ensures { Writes (command_of self.entry) out.old out.new result }
+        ensures { WritesAlone (command_of self.entry) out.old out.new result }
     {
         if !self.is_utf8() {
             write_bytes::clear(out, 0);

@@ -4,14 +4,14 @@
 
 ghost use mathlib.Core.List.{map, zip};
 ghost use Rattle.script_spec.specs.Command as command;
-ghost use Rattle.smtlib_script.specs.Writes.{Writes};
+ghost use Rattle.smtlib_script.specs.Alone.{WritesAlone};
 
 use crate::command::Command;
 use refusal::Refusal;
 
 // `; COMMENT`, on one line: 200 code points of it at most, and spaces for control characters.
 pub fn comment(comment: &[u8], out: &mut [u8]) -> Result<usize, Refusal>
-    ensures { Writes (command.comment comment.now) out.old out.new result }
+    ensures { WritesAlone (command.comment comment.now) out.old out.new result }
 {
     Command::Comment(comment).write(out)
 }
@@ -23,7 +23,7 @@ pub fn declare_datatype(
     constructors: &[&[u8]],
     out: &mut [u8],
 ) -> Result<usize, Refusal>
-    ensures { Writes (command.declare_datatype id.now (map (λ x. x.now) params.now) (map (λ x. x.now) constructors.now))
+    ensures { WritesAlone (command.declare_datatype id.now (map (λ x. x.now) params.now) (map (λ x. x.now) constructors.now))
         out.old out.new result }
 {
     Command::DeclareDatatype(id, params, constructors).write(out)
@@ -31,14 +31,14 @@ pub fn declare_datatype(
 
 // `(declare-const ID SORT)`.
 pub fn declare_const(id: &[u8], sort: &[u8], out: &mut [u8]) -> Result<usize, Refusal>
-    ensures { Writes (command.declare_const id.now sort.now) out.old out.new result }
+    ensures { WritesAlone (command.declare_const id.now sort.now) out.old out.new result }
 {
     Command::DeclareConst(id, sort).write(out)
 }
 
 // `(declare-fun ID (ARGS) SORT)`.
 pub fn declare_fun(id: &[u8], args: &[&[u8]], sort: &[u8], out: &mut [u8]) -> Result<usize, Refusal>
-    ensures { Writes (command.declare_fun id.now (map (λ x. x.now) args.now) sort.now)
+    ensures { WritesAlone (command.declare_fun id.now (map (λ x. x.now) args.now) sort.now)
         out.old out.new result }
 {
     Command::DeclareFun(id, args, sort).write(out)
@@ -53,7 +53,7 @@ pub fn define_fun(
     body: &[u8],
     out: &mut [u8],
 ) -> Result<usize, Refusal>
-    ensures { Writes (command.define_fun id.now (zip (map (λ x. x.now) names.now) (map (λ x. x.now) sorts.now)) sort.now body.now)
+    ensures { WritesAlone (command.define_fun id.now (zip (map (λ x. x.now) names.now) (map (λ x. x.now) sorts.now)) sort.now body.now)
         out.old out.new result }
 {
     Command::DefineFun(id, names, sorts, sort, body).write(out)
@@ -61,49 +61,49 @@ pub fn define_fun(
 
 // `(assert BODY)`.
 pub fn assert_that(body: &[u8], out: &mut [u8]) -> Result<usize, Refusal>
-    ensures { Writes (command.assert_that body.now) out.old out.new result }
+    ensures { WritesAlone (command.assert_that body.now) out.old out.new result }
 {
     Command::Assert(body).write(out)
 }
 
 // `(set-logic LOGIC)`.
 pub fn set_logic(logic: &[u8], out: &mut [u8]) -> Result<usize, Refusal>
-    ensures { Writes (command.set_logic logic.now) out.old out.new result }
+    ensures { WritesAlone (command.set_logic logic.now) out.old out.new result }
 {
     Command::SetLogic(logic).write(out)
 }
 
 // `(set-option :OPTION VALUE)`.
 pub fn set_option(option: &[u8], value: &[u8], out: &mut [u8]) -> Result<usize, Refusal>
-    ensures { Writes (command.set_option option.now value.now) out.old out.new result }
+    ensures { WritesAlone (command.set_option option.now value.now) out.old out.new result }
 {
     Command::SetOption(option, value).write(out)
 }
 
 // `(check-sat)`.
 pub fn check_sat(out: &mut [u8]) -> Result<usize, Refusal>
-    ensures { Writes command.check_sat out.old out.new result }
+    ensures { WritesAlone command.check_sat out.old out.new result }
 {
     Command::CheckSat.write(out)
 }
 
 // `(get-model)`.
 pub fn get_model(out: &mut [u8]) -> Result<usize, Refusal>
-    ensures { Writes command.get_model out.old out.new result }
+    ensures { WritesAlone command.get_model out.old out.new result }
 {
     Command::GetModel.write(out)
 }
 
 // `(reset)`.
 pub fn reset(out: &mut [u8]) -> Result<usize, Refusal>
-    ensures { Writes command.reset out.old out.new result }
+    ensures { WritesAlone command.reset out.old out.new result }
 {
     Command::Reset.write(out)
 }
 
 // `(exit)`.
 pub fn exit(out: &mut [u8]) -> Result<usize, Refusal>
-    ensures { Writes command.exit out.old out.new result }
+    ensures { WritesAlone command.exit out.old out.new result }
 {
     Command::Exit.write(out)
 }

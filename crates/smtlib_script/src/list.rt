@@ -13,20 +13,16 @@ use write_bytes::writer::Writer;
 pub fn are_utf8(texts: &[&[u8]]) -> bool
     ensures { result ≡ all is_utf8 (map (λ x. x.now) texts.now) }
 {
-    for text in texts {
-        if !read_utf8::is_utf8(text) {
-            return false;
-        }
-    }
-    true
+    texts.iter().all(|text| read_utf8::is_utf8(text))
 }
 
 // Whether each text of a pair is UTF-8; there are as many pairs as the shorter list has texts.
 pub fn pairs_are_utf8(xs: &[&[u8]], ys: &[&[u8]]) -> bool
     ensures { result ≡ all is_utf8 (collect (λ p. p.0 ∷ p.1 ∷ []) (zip (map (λ x. x.now) xs.now) (map (λ x. x.now) ys.now))) }
 {
-    let n = xs.len().min(ys.len());
-    are_utf8(&xs[..n]) && are_utf8(&ys[..n])
+    xs.iter()
+        .zip(ys)
+        .all(|(x, y)| read_utf8::is_utf8(x) && read_utf8::is_utf8(y))
 }
 
 // Whether the texts, with spaces between them, are nothing.
@@ -98,17 +94,17 @@ fn put_spaced_arguments(w: &mut Writer<'_>, names: &[&[u8]], sorts: &[&[u8]])
     ensures { Writes w.old w.new
         (spaced (arguments (zip (map (λ x. x.now) names.now) (map (λ x. x.now) sorts.now)))) }
 {
-    let n = names.len().min(sorts.len());
-    if n == 0 {
+    let mut pairs = names.iter().zip(sorts);
+    let Some((name, sort)) = pairs.next() else {
         return;
-    }
-    put_argument(w, names[0], sorts[0]);
-    for i in 1..n {
+    };
+    put_argument(w, name, sort);
+    for (name, sort) in pairs {
         if w.is_past() {
             return;
         }
         w.put_byte(b' ');
-        put_argument(w, names[i], sorts[i]);
+        put_argument(w, name, sort);
     }
 }
 

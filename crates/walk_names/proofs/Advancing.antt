@@ -3,7 +3,6 @@
 use Prim.Native.Nat.{ℕ, ◌<◌}
 use mathlib.Core.Path.{◌≡◌, refl, sym, ap, ◌∙◌, subst}
 use mathlib.Core.List.{List, [], ◌∷◌, ◌++◌, append-nil}
-use denote.Ref.{MutBor}
 use lib.ListN.{length}
 use Rattle.std.specs.Prelude.{Result, Ok, Err}
 use Rattle.script_spec.specs.Base.{Bytes, collect}
@@ -14,7 +13,7 @@ use Rattle.script_spec.specs.Walk as walk
 use Rattle.script_spec.proofs.Laws.{collect_append}
 use Rattle.refusal.specs.Numbers.{number}
 use Rattle.write_bytes.specs.Writing.{ceiling}
-use Rattle.write_bytes.specs.Writers.{Writes, Lends}
+use Rattle.write_bytes.specs.Writers.{Writes, Lends, past, within}
 use Rattle.write_bytes.proofs.Rest.{lent_size}
 use Rattle.write_bytes.specs.declared.writer.Writer.{Writer}
 use Rattle.write_bytes.proofs.Laws.{length_laid}
@@ -54,8 +53,9 @@ pub continues : {v w : Writer} {s : Bytes} → Writes v w s → Continues v w
 continues a = record { same = a.same; limit_is = a.limit_is; size = a.size }
 
 -- a line in the rest of it
-pub continues_lent : {v w : Writer} {P : MutBor Writer → MutBor Writer → Type 0} → Lends P v w → Continues v w
-continues_lent L = record { same = L.same; limit_is = L.limit_is; size = lent_size L }
+pub continues_lent : {v w : Writer} {P : Writer → Writer → Type 0} → Lends P v w → Continues v w
+continues_lent {v} (past far e) = subst (λ (w : Writer). Continues v w) (sym e) continues_refl
+continues_lent (within fits L) = record { same = L.same; limit_is = L.limit_is; size = lent_size L }
 
 pub remains_refl : {v : Walk} → Remains v v
 remains_refl {v} =

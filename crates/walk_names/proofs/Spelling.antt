@@ -4,7 +4,6 @@ use mathlib.Core.Path.{◌≡◌}
 use mathlib.Core.Bool.{Bool, true}
 use mathlib.Core.List.{[], ◌++◌}
 use lib.Dec.{ltb}
-use denote.Ref.{MutBor}
 use Rattle.script_spec.specs.Base.{Bytes}
 use Rattle.script_spec.specs.File.{TermFile}
 use Rattle.script_spec.specs.Walk.{State}
@@ -47,6 +46,5 @@ pub knowing : {records : Records} {j k : TermFile → Type 0} {v w : Writer} {t 
 knowing h A = record { same = A.same; go = λ f S I N k. A.go f S I N (h f I k) }
 
 -- a text in the rest of the script
-pub spells_lent : {records : Records} {known : TermFile → Type 0} {t : TermFile → State → Bytes} {v w : Writer} {P : MutBor Writer → MutBor Writer → Type 0}
-    → ((x y : MutBor Writer) → P x y → Spells records known t x.now y.now) → Lends P v w → Spells records known t v w
-spells_lent h L = record { same = continues_lent L; go = λ f S I N k. lent (λ x y p. (h x y p).go f S I N k) L }
+pub spells_lent : {records : Records} {known : TermFile → Type 0} {t : TermFile → State → Bytes} {v w : Writer} → Lends (Spells records known t) v w → Spells records known t v w
+spells_lent L = record { same = continues_lent L; go = λ f S I N k. lent (λ x y p. p.go f S I N k) L }

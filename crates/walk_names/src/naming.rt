@@ -19,25 +19,15 @@ pub enum Named {
 }
 
 impl Named {
-    // The column of the first equal records.
-    fn first(self) -> Column
-        ensures { number result ≡ first_of self }
+    // The column of the first equal records, and that of the names: those of depths, which only check needs, serve for types and terms.
+    fn columns(self) -> (Column, Column)
+        ensures first { number result.0 ≡ first_of self }
+        ensures names { number result.1 ≡ names_of self }
     {
         match self {
-            Named::Types => Column::TypeFirst,
-            Named::Funs => Column::FunFirst,
-            Named::Terms => Column::TermFirst,
-        }
-    }
-
-    // The column of the names: those of depths, which only check needs, serve for types and terms.
-    fn names(self) -> Column
-        ensures { number result ≡ names_of self }
-    {
-        match self {
-            Named::Types => Column::TypeDepth,
-            Named::Funs => Column::FunName,
-            Named::Terms => Column::TermDepth,
+            Named::Types => (Column::TypeFirst, Column::TypeDepth),
+            Named::Funs => (Column::FunFirst, Column::FunName),
+            Named::Terms => (Column::TermFirst, Column::TermDepth),
         }
     }
 }
@@ -49,8 +39,9 @@ const RAISE: u32 = 256;
 pub fn get(records: Records<'_>, named: Named, n: u32) -> Option<u32>
     ensures { place_said result ≡ place_of (name_at records.entry.work.now records.entry.sizes.rows (first_of named) (names_of named) n) }
 {
-    let at = records.get(named.first(), n);
-    records.get(named.names(), at).checked_sub(RAISE + 1)
+    let (first, names) = named.columns();
+    let at = records.get(first, n);
+    records.get(names, at).checked_sub(RAISE + 1)
 }
 
 // What is stored for a name, 0 where that does not fit.
@@ -64,8 +55,9 @@ fn raised(v: u32) -> u32
 pub fn set(records: &mut RecordsMut<'_>, named: Named, n: u32, v: u32)
     ensures { Becomes records.old records.new (name_stored records.old.work.now records.old.sizes.rows (names_of named) (cell records.old.work.now records.old.sizes.rows (first_of named) n) v) }
 {
-    let at = records.get(named.first(), n);
-    records.set(named.names(), at, raised(v))
+    let (first, names) = named.columns();
+    let at = records.get(first, n);
+    records.set(names, at, raised(v))
 }
 
 // Writes a name: its letter and its number. Nothing is written where there is no name.

@@ -4,17 +4,18 @@ use Prim.Native.Nat.{ℕ, ◌<◌}
 use mathlib.Core.Path.{◌≡◌, refl, sym, ap, ◌∙◌, subst}
 use mathlib.Core.Bool.{Bool, true, false}
 use mathlib.Core.List.{List, [], ◌∷◌, map}
-use mathlib.Core.Option.{none, some}
+use mathlib.Core.Logic.{inl, inr}
 use native.Mathlib.Omega.{arith}
 use lib.ListN.{length}
 use Rattle.std.specs.Prelude.{Result, Ok, Err}
 use Rattle.std.specs.Prelude as std
 use Rattle.std.specs.Option as option
 use Rattle.script_spec.specs.Base.{Bytes, any, is_some}
-use Rattle.script_spec.specs.Tree.{Tm, Ty, type_of, eq_ty, attributes, attribute}
+use Rattle.script_spec.specs.Tree.{Tm, Ty, type_of, eq_ty}
 use Rattle.script_spec.specs.File.{TermFile, types, term_at, type_at}
 use Rattle.script_spec.specs.Walk.{State, went, stopped, ◌>>◌, refuse_unless, record_get}
 use Rattle.script_spec.proofs.Laws.{any_place}
+use Rattle.refusal.specs.declared.Refusal.{Refusal}
 use Rattle.refusal.specs.declared.Refusal.TheVariants as refusal
 use Rattle.refusal.specs.Numbers.{number}
 use Rattle.index.specs.Cells.{cell, type_first, term_type}
@@ -27,10 +28,9 @@ use Rattle.walk_names.specs.Progress.{memory, rows, Indexed, Went, Advances}
 use Rattle.walk_names.specs.declared.walk.Walk.{Walk}
 use Rattle.walk_names.specs.declared.walk.Stopped.{Stopped}
 use Rattle.walk_names.proofs.Advancing.{advances_by, advances_passed, advances_stopped}
-use Rattle.walk_queries.specs.Searches.{FindsAttribute}
-use Rattle.walk_queries.proofs.AnswerLaws.{AttributeSaid, attribute_said}
-use Rattle.walk_queries.specs.declared.queries.Attribute.{Attribute}
-use Rattle.walk_queries.specs.declared.queries.Attribute.TheVariants as answer
+use Rattle.walk_queries.specs.Searches.{stands, attribute_answer, asked_attribute, FindsAttribute}
+use Rattle.walk_queries.specs.Searches as asked
+use Rattle.walk_queries.proofs.AnswerLaws.{attribute_there, attribute_nowhere}
 use Rattle.walk_new.specs.Steps.{TypedAt, ParentAt, attribute_walk, get_walk}
 
 -- ---- names
@@ -51,19 +51,16 @@ get_unnamed : (t : Tm) (a : Bytes) (ty : Ty) (S : State) → any (eq_ty ty) S.ty
 unfolding record_get ◌>>◌ refuse_unless
 get_unnamed t a ty S e = rw (e, record_get, ◌>>◌)
 
-get_plain : (t : Tm) (a : Bytes) (ty : Ty) (S : State) → any (eq_ty ty) S.types ≡ true → is_some (attributes ty) ≡ false → record_get t a (ty ∷ []) S ≡ stopped 17 t
-unfolding record_get ◌>>◌ refuse_unless
-get_plain t a ty S e h = rw (e, h, record_get, ◌>>◌)
+get_refused : (t : Tm) (a : Bytes) (ty : Ty) (S : State) {m : ℕ} → any (eq_ty ty) S.types ≡ true → asked.refusal m ≡ asked_attribute a ty → record_get t a (ty ∷ []) S ≡ stopped m t
+unfolding record_get ◌>>◌ refuse_unless is_some
+get_refused t a ty S e h = elim (attribute_nowhere a ty h) [
+  | inl w ↦ rw (e, w.0, w.1, record_get, ◌>>◌)
+  | inr w ↦ rw (e, w.0, w.1, w.2, record_get, ◌>>◌)
+]
 
-get_missing : (t : Tm) (a : Bytes) (ty : Ty) (S : State) → any (eq_ty ty) S.types ≡ true → is_some (attributes ty) ≡ true → is_some (attribute a ty) ≡ false
-    → record_get t a (ty ∷ []) S ≡ stopped 16 t
-unfolding record_get ◌>>◌ refuse_unless
-get_missing t a ty S e h g = rw (e, h, g, record_get, ◌>>◌)
-
-get_found : (t : Tm) (a : Bytes) (ty : Ty) (S : State) → any (eq_ty ty) S.types ≡ true → is_some (attributes ty) ≡ true → is_some (attribute a ty) ≡ true
-    → record_get t a (ty ∷ []) S ≡ went S
-unfolding record_get ◌>>◌ refuse_unless
-get_found t a ty S e h g = rw (e, h, g, record_get, ◌>>◌)
+get_found : (t : Tm) (a : Bytes) (ty : Ty) (S : State) {i : ℕ} → any (eq_ty ty) S.types ≡ true → stands i ≡ asked_attribute a ty → record_get t a (ty ∷ []) S ≡ went S
+unfolding record_get ◌>>◌ refuse_unless is_some
+get_found t a ty S e h = let w = attribute_there a ty h in rw (e, w.0, w.1, record_get, ◌>>◌)
 
 module _ {t : ℕ} (a : Bytes) {v : Walk} {named : Bool} (name : named ≡ is_some (place_of (name_at (memory v) (rows v) type_first type_names t))) where
   -- whether the type has a name
@@ -74,27 +71,17 @@ module _ {t : ℕ} (a : Bytes) {v : Walk} {named : Bool} (name : named ≡ is_so
   unfolding attribute_walk number
   attribute_unnamed {n} h = advances_stopped _ (λ f limit o S I r W. (r.below, get_unnamed (term_at f n) a (type_at f t) S (any_type I W r.type_below ∙ h)))
 
-  module _ {n : ℕ} {x : Attribute} (h : named ≡ true) (A : FindsAttribute v.records.now.file.now (memory v) v.records.now.sizes t a x) where
-    pub attribute_plain : x ≡ answer.NotRecord → Advances (TypedAt n t) (attribute_walk n t a) v v (Err (record { refusal = refusal.NotRecord; term = n }))
-    unfolding attribute_walk number AttributeSaid is_some
-    attribute_plain e =
+  module _ {n : ℕ} {x : Result ℕ Refusal} (h : named ≡ true) (A : FindsAttribute v.records.now.file.now (memory v) v.records.now.sizes t a x) where
+    pub attribute_refused : {r : Refusal} → x ≡ Err r → Advances (TypedAt n t) (attribute_walk n t a) v v (Err (record { refusal = r; term = n }))
+    unfolding attribute_walk attribute_answer
+    attribute_refused e =
         advances_stopped _ (λ f limit o S I r W.
-        let said : attributes (type_at f t) ≡ none = subst (λ (y : Attribute). AttributeSaid y a (type_at f t)) e (attribute_said x a (type_at f t) (A.go f I r.type_below)) in
-        (r.below, get_plain (term_at f n) a (type_at f t) S (any_type I W r.type_below ∙ h) (ap is_some said)))
+        (r.below, get_refused (term_at f n) a (type_at f t) S (any_type I W r.type_below ∙ h) (sym (ap attribute_answer e) ∙ A.go f I r.type_below)))
 
-    pub attribute_missing : x ≡ answer.Missing → Advances (TypedAt n t) (attribute_walk n t a) v v (Err (record { refusal = refusal.NoAttribute; term = n }))
-    unfolding attribute_walk number AttributeSaid is_some
-    attribute_missing e =
-        advances_stopped _ (λ f limit o S I r W.
-        let said : (is_some (attributes (type_at f t)) ≡ true) × (attribute a (type_at f t) ≡ none) = subst (λ (y : Attribute). AttributeSaid y a (type_at f t)) e (attribute_said x a (type_at f t) (A.go f I r.type_below)) in
-        (r.below, get_missing (term_at f n) a (type_at f t) S (any_type I W r.type_below ∙ h) said.0 (ap is_some said.1)))
-
-    pub attribute_found : {i : ℕ} → x ≡ answer.At i → Advances (TypedAt n t) (attribute_walk n t a) v v (Ok tt)
-    unfolding attribute_walk AttributeSaid is_some
-    attribute_found {i} e =
-        advances_passed (λ f limit o S I r W.
-        let said : (is_some (attributes (type_at f t)) ≡ true) × (attribute a (type_at f t) ≡ some i) = subst (λ (y : Attribute). AttributeSaid y a (type_at f t)) e (attribute_said x a (type_at f t) (A.go f I r.type_below)) in
-        get_found (term_at f n) a (type_at f t) S (any_type I W r.type_below ∙ h) said.0 (ap is_some said.1))
+    pub attribute_found : {i : ℕ} → x ≡ Ok i → Advances (TypedAt n t) (attribute_walk n t a) v v (Ok tt)
+    unfolding attribute_walk attribute_answer
+    attribute_found e =
+        advances_passed (λ f limit o S I r W. get_found (term_at f n) a (type_at f t) S (any_type I W r.type_below ∙ h) (sym (ap attribute_answer e) ∙ A.go f I r.type_below))
 
 -- ---- the first child
 

@@ -58,7 +58,7 @@ module _ {n : ℕ} {id : Bytes} {low : Bool} {v : Walk} (e : low ≡ low_enough 
       advances_by (λ f S I s. (s.at.at.below, ap (λ (b : Bool). refuse_unless 15 (term_at f n) b S) (ap low_enough (sym (utf8_points id s.utf8)) ∙ sym e))) (advances_tested low refusal.HighCodePoint n)
 
   -- an entity whose type is no enum: the text, then the definition
-  pub string_entity : {w : Walk} → low ≡ true → Advances (KnownAt n (PlainIs n)) (define_walk n) v w (Ok tt) → Advances (StringAt n id) (string_walk n id) v w (Ok tt)
+  pub string_entity : {w : Walk} {x : Result (Unit {0}) Stopped} → low ≡ true → Advances (KnownAt n (PlainIs n)) (define_walk n) v w x → Advances (StringAt n id) (string_walk n id) v w x
   unfolding string_walk test_walk
   string_entity h D =
       advances_then (test_walk (low_enough (code_points id)) 15 n) (define_walk n) (subst (λ (b : Bool). Advances (StringAt n id) (test_walk (low_enough (code_points id)) 15 n) v v (tested b refusal.HighCodePoint n)) h text_tested) D

@@ -1,7 +1,7 @@
 -- A term that is entered, alone or with the command that declares or defines it: the name is in memory before the command is written.
 -- Assumes nothing.
 use Prim.Native.Nat.{ℕ}
-use mathlib.Core.Path.{◌≡◌, refl, sym, ap, ◌∙◌, subst}
+use mathlib.Core.Path.{◌≡◌, refl, sym, subst}
 use mathlib.Core.Bool.{true}
 use mathlib.Core.List.{List, [], ◌∷◌}
 use Rattle.std.specs.Prelude.{Ok}
@@ -13,13 +13,12 @@ use Rattle.script_spec.specs.Command.{Command, script}
 use Rattle.script_spec.specs.Walk.{State, went, enter_term, write, declare_var, define_term, encode_new}
 use Rattle.script_spec.specs.Walk as walk
 use Rattle.script_spec.proofs.Laws.{never}
-use Rattle.write_bytes.specs.Writers.{Writes}
+use Rattle.write_bytes.specs.Writers.{Writes, Lends}
 use Rattle.write_bytes.proofs.Rest.{lent}
 use Rattle.write_bytes.specs.declared.writer.Writer.{Writer}
 use Rattle.index.specs.declared.Records.{Records}
-use Rattle.index.specs.declared.RecordsMut.{RecordsMut}
-use Rattle.walk_names.specs.Naming.{Numbers, IndexOf, NumbersOf}
-use Rattle.walk_names.specs.Progress.{memory, rows, Indexed, Went, Holds, Remains, Advances, Enters}
+use Rattle.walk_names.specs.Naming.{IndexOf, NumbersOf}
+use Rattle.walk_names.specs.Progress.{Went, Holds, Advances, Enters}
 use Rattle.walk_names.specs.declared.naming.Named.TheVariants as named
 use Rattle.walk_names.specs.declared.walk.Walk.{Walk}
 use Rattle.walk_names.proofs.Advancing.{continues_lent, script_one, indexed_remains, remains_trans, rewritten, remains_writes, went_writes}
@@ -27,8 +26,8 @@ use Rattle.walk_names.proofs.Entering.{remains_enters, enters_term}
 use Rattle.write_terms.specs.Lines.{SpellsVariable}
 use Rattle.write_terms.specs.Definitions.{SpellsDefinition}
 use Rattle.walk_new.specs.Steps.{NewAt, enter_walk, new_walk}
-use Rattle.walk_new.specs.News.{VariableAt, KnownAt, define_walk, Introduces}
-use denote.Ref.{MutBor}
+use Rattle.walk_types.proofs.Entering.{index_viewed, numbers_viewed}
+use Rattle.walk_new.specs.News.{VariableAt, KnownAt, define_walk}
 
 -- ---- alone
 
@@ -58,66 +57,38 @@ variable_step : (n : ℕ) (f : TermFile) (S : State) (id : Bytes) (ty : Ty) (ts 
 unfolding new_walk encode_new
 variable_step n f S id ty ts e = rw e
 
-module _ {n : ℕ} {writes : Records → MutBor Writer → MutBor Writer → Type 0} {v w : Walk} (D : Introduces n writes v w) where
-  -- the walk is as the name left it, with another script
-  remains_rewritten : Remains v (rewritten D.entered w.script.now) → Remains v w
-  remains_rewritten R =
-      let same = D.records_are in
-      record {
-        records_lent = ap (λ (r : MutBor RecordsMut). r.ghost_name) same ∙ R.records_lent;
-        records = rw same R.records;
-        script_lent = D.script_lent ∙ R.script_lent;
-        script = R.script;
-        kept = rw same R.kept;
-      }
-
-  went_rewritten : {f : TermFile} {limit : ℕ} {o : Bytes} {S : State} → Went f limit o (rewritten D.entered w.script.now) S → Went f limit o w S
-  went_rewritten W =
-      record {
-        numbers = rw D.records_are W.numbers;
-        types_are = D.types_are ∙ W.types_are;
-        funs_are = D.funs_are ∙ W.funs_are;
-        terms_are = D.terms_are ∙ W.terms_are;
-        limit_is = W.limit_is;
-        wrote = W.wrote;
-      }
-
-  -- the records that are read are those of the walk as the name left it
-  index_read : {f : TermFile} → Indexed f D.entered → IndexOf f D.records
-  index_read I = rw (D.file_is, D.memory_is, D.sizes_are) I
-
-  numbers_read : {f : TermFile} {S : State} → Numbers f (memory D.entered) (rows D.entered) S → NumbersOf f D.records S
-  numbers_read N = rw (D.memory_is, D.sizes_are) N
-
+module _ {n : ℕ} {v w : Walk} {x : Writer} (q : Records) (E : Enters named.Terms n v w)
+    (V : (q.file.now ≡ w.records.now.file.now) × (q.work.now ≡ w.records.now.work.now) × (q.sizes ≡ w.records.now.sizes)) where
   -- the command is written over the index and the names of the state where the term is entered
-  introduces : {ready : TermFile → State → Type 0} {step : TermFile → walk.Walk} → ((f : TermFile) (S : State) → ready f S → NewAt n f S)
-      → ((f : TermFile) (S : State) → ready f S → IndexOf f D.records → NumbersOf f D.records (enter_term (term_at f n) S)
-      → (cs : List Command) × ((x y : MutBor Writer) → writes D.records x y → Writes x.now y.now (script cs)) × (step f S ≡ went (write cs (enter_term (term_at f n) S))))
-      → Advances ready step v w (Ok tt)
-  introduces new h =
-      let E = remains_enters D.enters in
+  introduces : {P : Writer → Writer → Type 0} {ready : TermFile → State → Type 0} {step : TermFile → walk.Walk} → ((f : TermFile) (S : State) → ready f S → NewAt n f S)
+      → Lends P w.script.now x
+      → ((f : TermFile) (S : State) → ready f S → IndexOf f q → NumbersOf f q (enter_term (term_at f n) S)
+      → (cs : List Command) × ((a b : Writer) → P a b → Writes a b (script cs)) × (step f S ≡ went (write cs (enter_term (term_at f n) S))))
+      → Advances ready step v (rewritten w x) (Ok tt)
+  introduces new L h =
+      let R = remains_enters E in
       record {
-        remains = remains_rewritten (remains_trans E (remains_writes (continues_lent D.lends)));
+        remains = remains_trans R (remains_writes (continues_lent L));
         go = λ f limit o S I r W.
             let at = new f S r in
-            let G : Went f limit o D.entered (enter_term (term_at f n) S) = enters_term I W D.enters at.below at.new in
-            let g = h f S r (index_read (indexed_remains E I)) (numbers_read G.numbers) in
-            subst (Holds f limit o w (Ok tt)) (sym g.2) (went_rewritten (went_writes g.0 G (lent g.1 D.lends)));
+            let G : Went f limit o w (enter_term (term_at f n) S) = enters_term I W E at.below at.new in
+            let g = h f S r (index_viewed w q V (indexed_remains R I)) (numbers_viewed w q V G) in
+            subst (Holds f limit o (rewritten w x) (Ok tt)) (sym g.2) (went_writes g.0 G (lent g.1 L));
       }
 
   -- ---- definitions
 
-  pub defines : {known : TermFile → Type 0} → ((r : Records) (x y : MutBor Writer) → writes r x y → SpellsDefinition r n known x.now y.now) → Advances (KnownAt n known) (define_walk n) v w (Ok tt)
+  pub defines : {known : TermFile → Type 0} → Lends (SpellsDefinition q n known) w.script.now x → Advances (KnownAt n known) (define_walk n) v (rewritten w x) (Ok tt)
   unfolding define_walk define_term
-  defines h =
-      introduces (λ f S r. r.at) (λ f S r I N.
-      (_ ∷ [], (λ x y p. rw (← script_one _) ((h D.records x y p).go f (enter_term (term_at f n) S) I N (record { inside = r.at.below; known = r.is }))), refl))
+  defines L =
+      introduces (λ f S r. r.at) L (λ f S r I N.
+      (_ ∷ [], (λ a b p. rw (← script_one _) (p.go f (enter_term (term_at f n) S) I N (record { inside = r.at.below; known = r.is }))), refl))
 
   -- ---- declarations
 
-  pub declares : ((r : Records) (x y : MutBor Writer) → writes r x y → SpellsVariable r n x.now y.now) → Advances (VariableAt n) (new_walk n) v w (Ok tt)
+  pub declares : Lends (SpellsVariable q n) w.script.now x → Advances (VariableAt n) (new_walk n) v (rewritten w x) (Ok tt)
   unfolding declare_var
-  declares h =
-      introduces (λ f S r. r.at) (λ f S r I N.
+  declares L =
+      introduces (λ f S r. r.at) L (λ f S r I N.
       variable_is (term_at f n) r.is (λ id ty ts e.
-      (_ ∷ _ ∷ [], (λ x y p. (h D.records x y p id).go f (enter_term (term_at f n) S) I N (record { inside = r.at.below; type = ty; children = ts; tree = e })), variable_step n f S id ty ts e)))
+      (_ ∷ _ ∷ [], (λ a b p. (p id).go f (enter_term (term_at f n) S) I N (record { inside = r.at.below; type = ty; children = ts; tree = e })), variable_step n f S id ty ts e)))

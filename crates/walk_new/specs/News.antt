@@ -1,6 +1,5 @@
--- What the steps that declare or define a new term promise.
+-- What the steps that declare or define a new term are ready for, and the steps over it.
 -- Assumes nothing.
-use denote.MutBor.{MutBor}
 use Rattle.std.specs.Prelude.{ℕ, ◌<◌, ◌≡◌, true, length}
 use Rattle.script_spec.specs.Base.{Bytes}
 use Rattle.script_spec.specs.Utf8.{is_utf8, code_points}
@@ -9,14 +8,8 @@ use Rattle.script_spec.specs.File.{TermFile, types, members, type_at, term_at, n
 use Rattle.script_spec.specs.Walk as walk
 use Rattle.script_spec.specs.Walk.{State, ◌>>◌, low_enough, define_term, define_entity, operator_step, define_app}
 use Rattle.read_operator.specs.Operators.{op_of}
-use Rattle.index.specs.declared.Records.{Records}
-use Rattle.walk_names.specs.Progress.{memory, Enters}
-use Rattle.walk_names.specs.declared.naming.Named.TheVariants as named
 use Rattle.index_entry.specs.Terms.{children_in}
 use Rattle.index_entry.specs.declared.terms.Application.{Application}
-use Rattle.write_bytes.specs.declared.writer.Writer.{Writer}
-use Rattle.write_bytes.specs.Writers.{Lends}
-use Rattle.walk_names.specs.declared.walk.Walk.{Walk}
 use Rattle.write_atoms.specs.Records.{TermIs}
 use Rattle.write_terms.specs.Definitions.{PlainIs}
 use Rattle.walk_new.specs.Steps.{NewAt, test_walk}
@@ -75,21 +68,3 @@ ordinary_walk n op f = ◌>>◌ (operator_walk n op f) (define_walk n f)
 -- an application
 unfoldable pub app_walk : ℕ → Op ℕ → TermFile → walk.Walk
 app_walk n op f = define_app (members f) (term_at f n) (named_op f op) (negation (term_at f n))
-
--- ---- promises
-
--- The term with number n gets its name, and then the rest of the script is lent to what this says, with the records as the name left them; all
--- else is as the name left it.
-pub record Introduces (n : ℕ) (writes : Records → MutBor Writer → MutBor Writer → Type 0) (v w : Walk) : Type 0 where
-  pub entered : Walk
-  pub enters : Enters named.Terms n v entered
-  pub records : Records
-  pub file_is : records.file.now ≡ entered.records.now.file.now
-  pub memory_is : records.work.now ≡ memory entered
-  pub sizes_are : records.sizes ≡ entered.records.now.sizes
-  pub lends : Lends (writes records) entered.script.now w.script.now
-  pub records_are : w.records ≡ entered.records
-  pub script_lent : w.script.ghost_name ≡ entered.script.ghost_name
-  pub types_are : w.types ≡ entered.types
-  pub funs_are : w.funs ≡ entered.funs
-  pub terms_are : w.terms ≡ entered.terms

@@ -4,7 +4,7 @@ ghost use Rattle.walk_names.specs.Progress.{Advances};
 ghost use Rattle.write_terms.specs.Definitions.{OrdinaryIs};
 ghost use Rattle.walk_new.specs.News.{AppAt, KnownAt, operator_walk, ordinary_walk, app_walk};
 
-use crate::steps::{introduce, refuse_unless};
+use crate::steps::{define, refuse_unless};
 use index_entry::terms::Application;
 use read_operator::Op;
 use refusal::Refusal;
@@ -12,7 +12,7 @@ use walk_names::naming::Named;
 use walk_names::walk::{Stopped, Walk};
 use walk_queries::queries::Negated;
 use write_terms::applications::Comparison;
-use write_terms::definitions;
+use write_terms::definitions::Body;
 
 // What an operator asks for before its application is defined.
 fn operator_step(walk: &mut Walk, call: Application<'_>) -> Result<(), Stopped>
@@ -37,8 +37,7 @@ fn define_ordinary(walk: &mut Walk, call: Application<'_>) -> Result<(), Stopped
     ensures { Advances (KnownAt call.entry.number (OrdinaryIs call.entry)) (ordinary_walk call.entry.number (op_of call.entry.op)) walk.old walk.new result }
 {
     operator_step(walk, call)?;
-    introduce(walk, call.number, call, definitions::put_application);
-    Ok(())
+    define(walk, call.number, Body::Ordinary(call.op, call.arguments))
 }
 
 // Defines an application; the `false` of a `Bvnego` is entered alone.
@@ -58,10 +57,7 @@ pub fn define_app(walk: &mut Walk, call: Application<'_>) -> Result<(), Stopped>
                 arguments: call.arguments,
                 width,
             };
-            introduce(walk, call.number, compared, |records, w, compared| {
-                definitions::put_comparison(records, w, call.number, compared)
-            });
-            Ok(())
+            define(walk, call.number, Body::Comparison(compared))
         }
         Negated::Ordinary => define_ordinary(walk, call),
     }

@@ -9,7 +9,6 @@ use index_entry::terms::Application;
 use refusal::Refusal;
 use walk_names::naming::{self, Named};
 use walk_names::walk::{Stopped, Walk};
-use walk_queries::queries::Attribute;
 
 // Refuses the term with number n where the type with number t has no name, or is no record type with this attribute.
 fn check_attribute(walk: &Walk, n: u32, t: u32, a: &[u8]) -> Result<(), Stopped>
@@ -19,15 +18,8 @@ fn check_attribute(walk: &Walk, n: u32, t: u32, a: &[u8]) -> Result<(), Stopped>
     let named = naming::get(records, Named::Types, t).is_some();
     refuse_unless(named, Refusal::TypeNotDeclared, n)?;
     match walk_queries::queries::index_of_attr(records, t, a) {
-        Attribute::NotRecord => Err(Stopped {
-            refusal: Refusal::NotRecord,
-            term: n,
-        }),
-        Attribute::Missing => Err(Stopped {
-            refusal: Refusal::NoAttribute,
-            term: n,
-        }),
-        Attribute::At(_) => Ok(()),
+        Ok(_) => Ok(()),
+        Err(refusal) => Err(Stopped { refusal, term: n }),
     }
 }
 

@@ -2,20 +2,19 @@
 ghost use Rattle.walk_names.specs.Progress.{Advances};
 ghost use Rattle.walk_new.specs.News.{StringAt, EntityAt, string_walk, entity_walk};
 
-use crate::steps::{introduce, refuse_unless};
+use crate::steps::{define, refuse_unless};
 use refusal::Refusal;
 use walk_names::naming::Named;
 use walk_names::walk::{Stopped, Walk};
 use walk_queries::queries::Member;
-use write_terms::definitions;
+use write_terms::definitions::Body;
 
 // Defines the entity with number n, whose type is no enum.
 fn define_string_entity(walk: &mut Walk, n: u32, id: &[u8]) -> Result<(), Stopped>
     ensures { Advances (StringAt n id.now) (string_walk n id.now) walk.old walk.new result }
 {
     refuse_unless(read_utf8::low_enough(id), Refusal::HighCodePoint, n)?;
-    introduce(walk, n, n, definitions::put_definition);
-    Ok(())
+    define(walk, n, Body::Plain)
 }
 
 // Defines the entity with number n and the type with number t, or enters it where its type is an enum.

@@ -1,14 +1,15 @@
-// A test of a term before it is defined, and a term that is entered with the command that declares or defines it.
-
+// What the steps over a new term share: a test of it, its declaration and its definition.
 ghost use Rattle.std.specs.Prelude.{◌≡◌};
-ghost use Rattle.walk_new.specs.Steps.{tested};
-ghost use Rattle.walk_new.specs.News.{Introduces};
+ghost use Rattle.walk_names.specs.Progress.{Advances};
+ghost use Rattle.write_terms.specs.Definitions.{BodyIs};
+ghost use Rattle.walk_new.specs.Steps.{new_walk, tested};
+ghost use Rattle.walk_new.specs.News.{VariableAt, KnownAt, define_walk};
 
-use index::Records;
 use refusal::Refusal;
 use walk_names::naming::Named;
 use walk_names::walk::{Stopped, Walk};
-use write_bytes::writer::Writer;
+use write_terms::definitions::{Body, Definition};
+use write_terms::lines::VariableLines;
 
 // Refuses the term with number n, unless a test of it passes.
 pub(crate) fn refuse_unless(passes: bool, refusal: Refusal, n: u32) -> Result<(), Stopped>
@@ -20,16 +21,27 @@ pub(crate) fn refuse_unless(passes: bool, refusal: Refusal, n: u32) -> Result<()
     Err(Stopped { refusal, term: n })
 }
 
-// Names the term with number n and lends the rest of the script to what writes the command that declares or defines it.
-pub(crate) fn introduce<T, F: FnOnce(Records<'_>, &mut Writer<'_>, T)>(
-    walk: &mut Walk,
-    n: u32,
-    of: T,
-    write: F,
-)
-    requires { F.IsAlwaysCallable write }
-    ensures { Introduces n (λ records x y. F.post write records x of tt y) walk.old walk.new }
+// Enters the term with number n, a variable, and declares it.
+pub(crate) fn declare(walk: &mut Walk, n: u32) -> Result<(), Stopped>
+    ensures { Advances (VariableAt n) (new_walk n) walk.old walk.new result }
 {
     walk.enter(Named::Terms, n);
-    walk.script.lend(walk.records.view(), of, write)
+    walk.script.lend(VariableLines {
+        records: walk.records.view(),
+        number: n,
+    });
+    Ok(())
+}
+
+// Enters the term with number n, and defines it by what its body is.
+pub(crate) fn define(walk: &mut Walk, n: u32, body: Body<'_>) -> Result<(), Stopped>
+    ensures { Advances (KnownAt n (BodyIs n body.entry)) (define_walk n) walk.old walk.new result }
+{
+    walk.enter(Named::Terms, n);
+    walk.script.lend(Definition {
+        records: walk.records.view(),
+        number: n,
+        body,
+    });
+    Ok(())
 }

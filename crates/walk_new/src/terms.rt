@@ -2,11 +2,11 @@
 ghost use Rattle.walk_names.specs.Progress.{Advances};
 ghost use Rattle.walk_new.specs.Steps.{NewAt, new_walk};
 
-use crate::steps::introduce;
+use crate::steps::{declare, define};
 use index::Column;
-use index_entry::terms::{Application, Compound, TermEntry};
+use index_entry::terms::{Application, TermEntry};
 use walk_names::walk::{Stopped, Walk};
-use write_terms::{definitions, lines};
+use write_terms::definitions::Body;
 
 // Enters, declares, defines or refuses the term with number n.
 pub fn encode_new(walk: &mut Walk, n: u32) -> Result<(), Stopped>
@@ -14,35 +14,13 @@ pub fn encode_new(walk: &mut Walk, n: u32) -> Result<(), Stopped>
 {
     let offset = walk.records.get(Column::TermOffset, n);
     match index_entry::terms::term_at(walk.records.file, offset) {
-        TermEntry::Var(_, _) => {
-            introduce(walk, n, n, lines::put_declaration);
-            Ok(())
-        }
+        TermEntry::Var(_, _) => declare(walk, n),
         TermEntry::BoolLit(_) | TermEntry::BitVecLit(_, _) | TermEntry::Unreadable => Ok(()),
         TermEntry::StringLit(text) => crate::texts::check_literal(walk, n, text),
         TermEntry::Entity(t, id) => crate::entities::define_entity(walk, n, t, id),
-        TermEntry::Some(m) => {
-            introduce(walk, n, m, |records, w, m| {
-                definitions::put_some(records, w, n, m)
-            });
-            Ok(())
-        }
-        TermEntry::Set(_, children) => {
-            let term = Compound {
-                number: n,
-                children,
-            };
-            introduce(walk, n, term, definitions::put_set);
-            Ok(())
-        }
-        TermEntry::Record(children) => {
-            let term = Compound {
-                number: n,
-                children,
-            };
-            introduce(walk, n, term, definitions::put_record);
-            Ok(())
-        }
+        TermEntry::Some(m) => define(walk, n, Body::Some(m)),
+        TermEntry::Set(_, children) => define(walk, n, Body::Set(children)),
+        TermEntry::Record(children) => define(walk, n, Body::Record(children)),
         TermEntry::App(_, op, arguments) => {
             let call = Application {
                 number: n,
@@ -51,9 +29,6 @@ pub fn encode_new(walk: &mut Walk, n: u32) -> Result<(), Stopped>
             };
             crate::applications::define_app(walk, call)
         }
-        TermEntry::ExtLit(_) | TermEntry::None(_) => {
-            introduce(walk, n, n, definitions::put_definition);
-            Ok(())
-        }
+        TermEntry::ExtLit(_) | TermEntry::None(_) => define(walk, n, Body::Plain),
     }
 }

@@ -1,27 +1,17 @@
 -- What an answer says of an attribute of a type, and of a member of one, from document 01's answer for it.
 -- Assumes nothing.
 use Prim.Native.Nat.{ℕ}
-use native.Mathlib.Omega.{arith}
 use mathlib.Core.Path.{◌≡◌, refl, sym, ap}
 use mathlib.Core.Bool.{true}
 use mathlib.Core.List.{List}
 use mathlib.Core.Option.{Option, none, some}
+use mathlib.Core.Logic.{◌⊎◌, inl, inr}
 use Rattle.script_spec.specs.Base.{Bytes, is_some, and_then, same, place}
 use Rattle.script_spec.specs.Tree.{Ty, Enums, attributes, attribute, enum_of}
 use Rattle.script_spec.proofs.Laws.{never}
-use Rattle.walk_queries.specs.Searches.{stands, refusal, attribute_answer, place_or, asked_attribute, member_answer, asked_member}
-use Rattle.walk_queries.specs.declared.queries.Attribute.{Attribute}
-use Rattle.walk_queries.specs.declared.queries.Attribute.TheVariants as answer
+use Rattle.walk_queries.specs.Searches.{stands, refusal, place_or, asked_attribute, member_answer, asked_member}
 use Rattle.walk_queries.specs.declared.queries.Member.{Member}
 use Rattle.walk_queries.specs.declared.queries.Member.TheVariants as member
-
--- ---- attributes
-
--- what an answer says of an attribute of a type
-unfoldable pub AttributeSaid : Attribute → Bytes → Ty → Type 0
-AttributeSaid answer.NotRecord name ty = attributes ty ≡ none
-AttributeSaid answer.Missing name ty = (is_some (attributes ty) ≡ true) × (attribute name ty ≡ none)
-AttributeSaid (answer.At i) name ty = (is_some (attributes ty) ≡ true) × (attribute name ty ≡ some i)
 
 -- a place or a refusal tells the place
 place_missing : (n : ℕ) (p : Option ℕ) → refusal n ≡ place_or n p → p ≡ none
@@ -34,34 +24,40 @@ unfolding place_or
 place_there n i none e = never (cc)
 place_there n i (some j) e = let same_place : i ≡ j = cc in ap some (sym same_place)
 
--- 17 is not 16
-not_attribute : (m n : ℕ) (p : Option ℕ) → (m ≡ n → ⊥) → refusal m ≡ place_or n p → ⊥
-unfolding place_or
-not_attribute m n none h e = h (cc)
-not_attribute m n (some i) h e = never (cc)
+-- ---- attributes
 
-pub attribute_said : (r : Attribute) (name : Bytes) (ty : Ty) → attribute_answer r ≡ asked_attribute name ty → AttributeSaid r name ty
-unfolding AttributeSaid attribute_answer asked_attribute attribute and_then is_some
-attribute_said r name ty = by r (attributes ty) refl
+-- the type is a record type that has the attribute at a place
+pub attribute_there : {i : ℕ} (name : Bytes) (ty : Ty) → stands i ≡ asked_attribute name ty → (is_some (attributes ty) ≡ true) × (attribute name ty ≡ some i)
+unfolding asked_attribute attribute and_then is_some
+attribute_there {i} name ty = by (attributes ty) refl
   where
-    by : (r : Attribute) (o : Option (List Bytes)) → attributes ty ≡ o → attribute_answer r ≡ asked_attribute name ty → AttributeSaid r name ty
-    by answer.NotRecord none h e = h
-    by answer.NotRecord (some ns) h e = absurd (not_attribute 17 16 (place (same name) ns) (λ x. omega arith) (rw (asked_attribute, h) at e))
-    by answer.Missing none h e = never (cc)
-    by answer.Missing (some ns) h e = rw (attribute, h) (refl, place_missing 16 (place (same name) ns) (rw (asked_attribute, h) at e))
-    by (answer.At i) none h e = never (cc)
-    by (answer.At i) (some ns) h e = rw (attribute, h) (refl, place_there 16 i (place (same name) ns) (rw (asked_attribute, h) at e))
+    by : (o : Option (List Bytes)) → attributes ty ≡ o → stands i ≡ asked_attribute name ty → (is_some (attributes ty) ≡ true) × (attribute name ty ≡ some i)
+    by none h e = never (cc)
+    by (some ns) h e = rw (attribute, h) (refl, place_there 16 i (place (same name) ns) (rw (asked_attribute, h) at e))
 
-pub attribute_answer_lem : (r : Attribute) (name : Bytes) (ty : Ty) → AttributeSaid r name ty → attribute_answer r ≡ asked_attribute name ty
-unfolding AttributeSaid attribute_answer asked_attribute attribute and_then is_some place_or
-attribute_answer_lem r name ty = by r (attributes ty) refl
+-- the type is no record type, or one that lacks the attribute
+pub attribute_nowhere : {n : ℕ} (name : Bytes) (ty : Ty) → refusal n ≡ asked_attribute name ty
+    → ((n ≡ 17) × (attributes ty ≡ none)) ⊎ ((n ≡ 16) × (is_some (attributes ty) ≡ true) × (attribute name ty ≡ none))
+unfolding asked_attribute attribute and_then is_some place_or
+attribute_nowhere {n} name ty = by (attributes ty) refl
   where
-    by : (r : Attribute) (o : Option (List Bytes)) → attributes ty ≡ o → AttributeSaid r name ty → attribute_answer r ≡ asked_attribute name ty
-    by answer.NotRecord o h s = rw (asked_attribute, s)
-    by answer.Missing none h s = never (cc)
-    by answer.Missing (some ns) h s = rw (asked_attribute, h, rw (attribute, h) at s.1)
-    by (answer.At i) none h s = never (cc)
-    by (answer.At i) (some ns) h s = rw (asked_attribute, h, rw (attribute, h) at s.1)
+    lacking : (ns : List Bytes) (p : Option ℕ) → attributes ty ≡ some ns → place (same name) ns ≡ p → refusal n ≡ place_or 16 p → ((n ≡ 16) × (is_some (attributes ty) ≡ true) × (attribute name ty ≡ none))
+    lacking ns none h q e = let m : n ≡ 16 = cc in (m, ap is_some h, rw (attribute, h) q)
+    lacking ns (some i) h q e = never (cc)
+
+    by : (o : Option (List Bytes)) → attributes ty ≡ o → refusal n ≡ asked_attribute name ty
+        → ((n ≡ 17) × (attributes ty ≡ none)) ⊎ ((n ≡ 16) × (is_some (attributes ty) ≡ true) × (attribute name ty ≡ none))
+    by none h e = let m : n ≡ 17 = cc in inl (m, h)
+    by (some ns) h e = inr (lacking ns (place (same name) ns) h refl (rw (asked_attribute, h) at e))
+
+-- what is asked of a type that is no record type, and of one
+pub asked_plain : (name : Bytes) (ty : Ty) → attributes ty ≡ none → asked_attribute name ty ≡ refusal 17
+unfolding asked_attribute
+asked_plain name ty e = rw (asked_attribute, e)
+
+pub asked_record : (name : Bytes) (ty : Ty) {ns : List Bytes} → attributes ty ≡ some ns → asked_attribute name ty ≡ place_or 16 (place (same name) ns)
+unfolding asked_attribute place_or
+asked_record name ty e = rw (asked_attribute, e)
 
 -- ---- members
 

@@ -4,7 +4,7 @@ use Prim.Native.Nat.{ℕ, zero, suc, ◌+◌, ◌*◌, ◌-◌, ◌<◌, ◌≤�
 use native.Mathlib.Omega.{arith}
 use native.Mathlib.Decide.{ℕ_discrete}
 use mathlib.Core.Path.{◌≡◌, refl, ap, ◌∙◌}
-use mathlib.Core.Bool.{Bool, true, false}
+use mathlib.Core.Bool.{Bool, true}
 use mathlib.Core.List.{List}
 use lib.ListN.{length, drop}
 use Rattle.script_spec.specs.Base.{Bytes, ascending}
@@ -18,7 +18,6 @@ use Rattle.index_entry.specs.Places.{rest_after_text}
 use Rattle.index_entry.specs.declared.lists.Texts.{Texts}
 use Rattle.index_entry.proofs.Places.{length_texts}
 use Rattle.walk_queries.specs.Made.{RowsOf, Fits, rest_after_texts, RowsStored, RowsFilled, RowsMade, ListAt, left_out, made}
-use Rattle.walk_queries.proofs.Order.{untrue}
 use Rattle.index.proofs.Held.{stays_same, stays_store}
 
 -- ---- texts
@@ -73,19 +72,6 @@ module _ {body : Bytes} {k base rows from skip : ℕ} where
             rw (q, cell_store_same work k list_row (base + j) at (record { fits = omega (arith, F.stored.same_size); column_is = omega arith; index_is = omega arith })) F.here
         row fits m g (no q) =
             rw (cell_store_apart work k list_row (base + j) at list_row (base + m) (record { other = λ _ h. q (omega arith); facing = λ h _. omega arith })) ((F.filled fits).place m (omega arith))
-
-    pub filling_stop : RowsMade body k base rows from skip work₀ work false
-    filling_stop = record {
-      stored = record { same_size = F.stored.same_size; same = λ column i apart. F.stored.same column i (λ m g. apart m (omega (arith, F.most))) };
-      filled = λ h. untrue h;
-    }
-
-    pub filling_end : rows ≤ j → RowsMade body k base rows from skip work₀ work true
-    filling_end h =
-        record {
-          stored = record { same_size = F.stored.same_size; same = λ column i apart. F.stored.same column i (λ m g. apart m (omega (arith, F.most))) };
-          filled = λ _ fits. record { place = λ m g. (F.filled fits).place m (omega arith) };
-        }
 
 -- j rows are filled in the records that were u and are v
 pub record FillingRecords (among : Texts) (base rows : ℕ) (u v : RecordsMut) (at j : ℕ) : Type 0 where
@@ -145,9 +131,9 @@ module _ {u v w : RecordsMut} (column n : ℕ) where
         → ListAt among.body.now u.sizes.rows u.sizes.terms column n among.from among.left among.skip next u.work.now next w.work.now
     list_left T B = left_out T.taken v.work.now T.room T.stored (noted 0 T.stays B) refl
 
-    pub list_made : {rows : ℕ} {r : Bool} → RowsOf among.left rows → Fits u.sizes.rows u.sizes.terms next rows → Stays u v
+    pub list_made : {rows end : ℕ} {r : Bool} → RowsOf among.left rows → end ≡ next + rows → Fits u.sizes.rows u.sizes.terms next rows → Stays u v
         → RowsMade among.body.now u.sizes.rows next rows among.from among.skip u.work.now v.work.now r → r ≡ true → Becomes v w (store v.work.now v.sizes.rows column n (next + 1))
-        → ListAt among.body.now u.sizes.rows u.sizes.terms column n among.from among.left among.skip next u.work.now (next + rows) w.work.now
-    list_made {rows} R F S M t B =
+        → ListAt among.body.now u.sizes.rows u.sizes.terms column n among.from among.left among.skip next u.work.now end w.work.now
+    list_made {rows} R e F S M t B =
         let one : next + 1 ≡ suc next = omega arith in
-        made rows v.work.now (λ l. F.room) M.stored (noted (next + 1) S B ∙ ap (λ (x : ℕ). store v.work.now u.sizes.rows column n x) one) refl R (M.filled t)
+        made rows v.work.now (λ l. F.room) M.stored (noted (next + 1) S B ∙ ap (λ (x : ℕ). store v.work.now u.sizes.rows column n x) one) e R (M.filled t)

@@ -3,7 +3,7 @@
 use Prim.Native.Nat.{ℕ, suc, ◌+◌, ◌*◌, ◌<◌, ◌≤◌}
 use native.Mathlib.Omega.{arith}
 use native.Mathlib.Decide.{dec_lt}
-use mathlib.Core.Path.{◌≡◌, refl, sym, ap, ◌∙◌, subst}
+use mathlib.Core.Path.{◌≡◌, sym, ap, ◌∙◌, subst}
 use mathlib.Core.Bool.{true}
 use mathlib.Core.List.{List, []}
 use lib.ListN.{length, drop, get_or}
@@ -236,16 +236,6 @@ module _ {file : Bytes} {f : TermFile} {k terms : ℕ} {work₀ : List ℕ} (K :
           names_listed names h = sym h ∙ sym said.members_are ∙ ap (λ (y : ℕ). texts y x.left (drop x.from x.body.now)) said.dense
 
   -- ---- all lists
-
-  pub listing_start : Listing file f k work₀ 0 0 0 work₀
-  listing_start =
-      record {
-        same_size = refl;
-        same = λ column i l. refl;
-        slots = λ i. refl;
-        of_types = record { lists = record { list = λ n base l. absurd (omega arith) }; before = λ n base l. absurd (omega arith) };
-        of_enums = record { lists = record { list = λ n base l. absurd (omega arith) }; before = λ n base l. absurd (omega arith) };
-      }
 
   pub listing_end : {next : ℕ} {work : List ℕ} → Listing file f k work₀ (length (types f)) (length (enums f)) next work → Relisted file f k work₀ work
   listing_end L =

@@ -3,20 +3,26 @@
 use Prim.Native.Nat.{ℕ, ◌<◌, ◌≤◌}
 use native.Mathlib.Omega.{arith}
 use mathlib.Core.Path.{◌≡◌, refl, sym, ap, ◌∙◌, subst}
-use mathlib.Core.Bool.{true}
+use mathlib.Core.Bool.{Bool, true, false}
 use mathlib.Core.List.{List}
 use mathlib.Core.Option.{Option, none, some}
 use lib.ListN.{length}
 use denote.Ref.{Bor}
-use borrow.Author.Tests.{lt-ltb, le-ltb}
-use Rattle.script_spec.specs.Base.{Bytes, is_some, and_then, same, place}
-use Rattle.script_spec.specs.Tree.{Datatype, entity_name, attributes_of, attributes, attribute, enum_of}
+use borrow.Author.Tests.{lt-ltb, le-ltb, ltb-true, ltb-false}
+use lib.Dec.{ltb}
+use Rattle.script_spec.specs.Base.{Bytes, and_then, same, place}
+use Rattle.script_spec.specs.Tree.{Datatype, entity_name, attributes_of, attributes, enum_of}
 use Rattle.script_spec.specs.File.{TermFile, types, enums, members, type_at}
+use Rattle.refusal.specs.Numbers.{number}
+use Rattle.refusal.specs.declared.Refusal.{Refusal}
+use Rattle.refusal.specs.declared.Refusal.TheVariants.{NoAttribute, NotRecord}
 use Rattle.index.specs.Cells.{cell, type_offset, enum_offset, enum_list, type_list}
 use Rattle.index.specs.Standing.{body_at}
 use Rattle.index.specs.Meaning.{Index}
 use Rattle.index.specs.declared.Sizes.{Sizes}
 use Rattle.std.specs.Prelude as std
+use Rattle.std.specs.Bool.{then_some}
+use Rattle.std.specs.Option.{ok_or}
 use Rattle.index.specs.Lists.{Listed}
 use Rattle.index_entry.specs.Places.{texts_in}
 use Rattle.index_entry.specs.Terms.{names_of}
@@ -28,12 +34,11 @@ use Rattle.index_entry.specs.declared.types.TypeEntry.{TypeEntry}
 use Rattle.index_entry.specs.declared.types.TypeEntry.TheVariants as entry
 use Rattle.index_search.specs.Enums.{enum_at, members_at}
 use Rattle.index_search.proofs.EnumLaws.{number_members}
-use Rattle.walk_queries.specs.Searches.{FindsAttribute, IsEnum, IsEnumType, FindsIn, FindsMember}
-use Rattle.walk_queries.proofs.AnswerLaws.{AttributeSaid, attribute_answer_lem, MemberSaid, member_answer_lem}
+use Rattle.walk_queries.specs.Searches.{attribute_answer, place_or, FindsAttribute, IsEnum, IsEnumType, FindsIn, FindsMember}
+use Rattle.walk_queries.proofs.AnswerLaws.{asked_plain, asked_record, MemberSaid, member_answer_lem}
 use Rattle.walk_queries.specs.Found.{place_said, FindsText, Finds}
 use Rattle.walk_queries.proofs.Attributes.{datatype_said, datatype_here, attributes_here, attributes_inside, members_here}
 use Rattle.walk_queries.proofs.EntityLaws.{entity_named, entity_unnamed}
-use Rattle.walk_queries.specs.declared.queries.Attribute.TheVariants as answer
 use Rattle.walk_queries.specs.declared.queries.Member.TheVariants as member
 
 no_record : (r : TypeEntry) → ((c : Children) → r ≡ entry.Record c → ⊥) → and_then (datatype_said r) attributes_of ≡ none
@@ -48,13 +53,19 @@ no_record (entry.Ext x) h = refl
 no_record (entry.Record c) h = absurd (h c refl)
 no_record entry.Unreadable h = refl
 
+-- what is found, or the refusal
+answered : (o : std.Option ℕ) → place_or 16 (place_said o) ≡ attribute_answer (ok_or o NoAttribute)
+unfolding place_said attribute_answer number place_or
+answered (std.Some i) = refl
+answered std.None = refl
+
 module _ {file : Bytes} {work : List ℕ} {sizes : Sizes} {t : ℕ} {r : TypeEntry} (T : TypeAt file (cell work sizes.rows type_offset t) r) where
   -- ---- attributes
 
-  pub not_record : {name : Bytes} → ((c : Children) → r ≡ entry.Record c → ⊥) → FindsAttribute file work sizes t name answer.NotRecord
-  unfolding AttributeSaid attributes
+  pub not_record : {name : Bytes} → ((c : Children) → r ≡ entry.Record c → ⊥) → FindsAttribute file work sizes t name (std.Err NotRecord)
+  unfolding attribute_answer number attributes
   not_record h = record {
-    go = λ f I l. attribute_answer_lem answer.NotRecord _ _ (ap (λ (d : Option Datatype). and_then d attributes_of) (datatype_here T f I.rows l) ∙ no_record r h);
+    go = λ f I l. sym (asked_plain _ _ (ap (λ (d : Option Datatype). and_then d attributes_of) (datatype_here T f I.rows l) ∙ no_record r h));
   }
 
   module _ {c : Children} {among : Texts} {list : ℕ} {name : Bytes} {q : std.Option ℕ} (e : r ≡ entry.Record c) (n : among ≡ names_of c) (list-is : list ≡ cell work sizes.rows type_list t)
@@ -67,19 +78,8 @@ module _ {file : Bytes} {work : List ℕ} {sizes : Sizes} {t : ℕ} {r : TypeEnt
         subst (λ (s : Bytes). Listed s 4 (texts_in (names_of c)) work sizes.rows base) (sym (attributes_inside T e))
         (I.rows.listed.of_types.list t base l (sym list-is ∙ h) (texts_in (names_of c)) (attributes_here T e f I.rows l)))
 
-    attribute_here : (f : TermFile) → Index file f work sizes → t < length (types f) → (is_some (attributes (type_at f t)) ≡ true) × (attribute name (type_at f t) ≡ place_said q)
-    unfolding attribute and_then is_some
-    attribute_here f I l =
-        let are = attributes_here T e f I.rows l in
-        (ap is_some are, ap (λ (ns : Option (List Bytes)). and_then ns (place (same name))) are ∙ (found_here f I l).is)
-
-    pub attribute_at : {i : ℕ} → q ≡ std.Some i → FindsAttribute file work sizes t name (answer.At i)
-    unfolding AttributeSaid place_said
-    attribute_at {i} h = record { go = λ f I l. let a = attribute_here f I l in attribute_answer_lem (answer.At i) _ _ (a.0, a.1 ∙ ap place_said h) }
-
-    pub attribute_missing : q ≡ std.None → FindsAttribute file work sizes t name answer.Missing
-    unfolding AttributeSaid place_said
-    attribute_missing h = record { go = λ f I l. let a = attribute_here f I l in attribute_answer_lem answer.Missing _ _ (a.0, a.1 ∙ ap place_said h) }
+    pub attribute_found : {x : std.Result ℕ Refusal} → x ≡ ok_or q NoAttribute → FindsAttribute file work sizes t name x
+    attribute_found {x} h = record { go = λ f I l. ap attribute_answer h ∙ sym (asked_record name (type_at f t) (attributes_here T e f I.rows l) ∙ ap (place_or 16) (found_here f I l).is ∙ answered q) }
 
   -- ---- enums
 
@@ -94,7 +94,7 @@ module _ {file : Bytes} {work : List ℕ} {sizes : Sizes} {t : ℕ} {r : TypeEnt
         let named : entity_name (type_at f t) ≡ some name.now = entity_named T is f I.rows l in
         ap (λ (x : Option Bytes). and_then x (members f)) named ∙ number_members f name.now ∙ ap (members_at f) (sym (noted ∙ I.enum_noted t _ l named))
 
-    pub entity_enum : e < sizes.enums → IsEnumType file work sizes t (std.Some e)
+    entity_enum : e < sizes.enums → IsEnumType file work sizes t (std.Some e)
     unfolding IsEnum members_at
     entity_enum h = record {
       go = λ f I l.
@@ -102,9 +102,17 @@ module _ {file : Bytes} {work : List ℕ} {sizes : Sizes} {t : ℕ} {r : TypeEnt
           (inside, members_noted f I l ∙ (rw (members_at, lt-ltb e (length (enums f)) inside)));
     }
 
-    pub entity_alone : sizes.enums ≤ e → IsEnumType file work sizes t std.None
+    entity_alone : sizes.enums ≤ e → IsEnumType file work sizes t std.None
     unfolding IsEnum members_at
     entity_alone h = record { go = λ f I l. members_noted f I l ∙ (rw (members_at, le-ltb e (length (enums f)) (omega (arith, I.sizes_are.enums_are)))) }
+
+    entity_by : (b : Bool) → ltb e sizes.enums ≡ b → IsEnumType file work sizes t (then_some b e)
+    entity_by true h = entity_enum (ltb-true e sizes.enums h)
+    entity_by false h = entity_alone (ltb-false e sizes.enums h)
+
+    -- the noted number, where there is such an enum
+    pub entity_number : IsEnumType file work sizes t (then_some (ltb e sizes.enums) e)
+    entity_number = entity_by (ltb e sizes.enums) refl
 
 -- ---- members
 

@@ -1,17 +1,17 @@
 -- Where an attribute stands in a record type, and a member in an enum.
 -- Assumes nothing.
-use Rattle.std.specs.Prelude.{ℕ, ◌<◌, ◌≡◌, List, length}
+use Rattle.std.specs.Prelude.{ℕ, ◌<◌, ◌≡◌, List, length, Result, Ok, Err}
 use Rattle.std.specs.Prelude as std
 use Rattle.std.proofs.Math.Option.{Option, none, some}
 use Rattle.script_spec.specs.Base.{Bytes, same, place}
 use Rattle.script_spec.specs.Tree.{Ty, Enums, attributes, enum_of}
 use Rattle.script_spec.specs.File.{TermFile, types, enums, members, type_at}
+use Rattle.refusal.specs.Numbers.{number}
+use Rattle.refusal.specs.declared.Refusal.{Refusal}
 use Rattle.index.specs.Meaning.{Index}
 use Rattle.index.specs.declared.Sizes.{Sizes}
 use Rattle.index_search.specs.Enums.{enum_at}
 use Rattle.walk_queries.specs.Found.{place_said}
-use Rattle.walk_queries.specs.declared.queries.Attribute.{Attribute}
-use Rattle.walk_queries.specs.declared.queries.Attribute.TheVariants as answer
 use Rattle.walk_queries.specs.declared.queries.Member.{Member}
 use Rattle.walk_queries.specs.declared.queries.Member.TheVariants as member
 
@@ -21,10 +21,9 @@ pub data Asked : Type 0 where
   refusal : ℕ → Asked
 
 -- document 01's answer for each case of an attribute: its place in the type, or the refusal's number
-unfoldable pub attribute_answer : Attribute → Asked
-attribute_answer answer.NotRecord = refusal 17
-attribute_answer answer.Missing = refusal 16
-attribute_answer (answer.At i) = stands i
+unfoldable pub attribute_answer : Result ℕ Refusal → Asked
+attribute_answer (Ok i) = stands i
+attribute_answer (Err r) = refusal (number r)
 
 -- the place of a text in a list, or a refusal with this number
 unfoldable pub place_or : ℕ → Option ℕ → Asked
@@ -36,7 +35,7 @@ unfoldable pub asked_attribute : Bytes → Ty → Asked
 asked_attribute name ty = elim (attributes ty) [ none ↦ refusal 17 | some names ↦ place_or 16 (place (same name) names) ]
 
 -- an attribute of the type with number t, whatever file was accepted
-pub record FindsAttribute (file : Bytes) (work : List ℕ) (sizes : Sizes) (t : ℕ) (name : Bytes) (r : Attribute) : Type 0 where
+pub record FindsAttribute (file : Bytes) (work : List ℕ) (sizes : Sizes) (t : ℕ) (name : Bytes) (r : Result ℕ Refusal) : Type 0 where
   pub go : (f : TermFile) → Index file f work sizes → t < length (types f) → attribute_answer r ≡ asked_attribute name (type_at f t)
 
 -- document 01's answer for each case of a member: none for a type that is no enum, its place in the enum, or the refusal's number

@@ -1,7 +1,7 @@
 // The lists of the attributes of record types and of the members of enums, made after an accepted file is read. A list is made where
 // it has enough texts, and only while its rows fit before those of the terms, with which they share a column. An entity type, which has no
 // list, gets the number of its enum where another type has its list.
-ghost use Rattle.std.specs.Prelude.{◌≡◌, true, ◌+◌, ◌≤◌};
+ghost use Rattle.std.specs.Prelude.{◌≡◌, IfSome, ◌+◌, ◌≤◌};
 ghost use Rattle.index.specs.Cells.{number};
 ghost use Rattle.index.specs.Held.{Stays};
 ghost use Rattle.walk_queries.specs.Made.{RowsOf, Fits, RowsMade, ListAt, ListsType, ListsEnum, NotesEnum, MakesLists};
@@ -21,12 +21,12 @@ pub fn rows_of(count: u32) -> u32
     count.div_ceil(2)
 }
 
-// Whether so many rows fit from the next one on, before those of the terms.
-fn fits(sizes: Sizes, next: u32, rows: u32) -> bool
-    ensures { result ≡ true → Fits sizes.rows sizes.terms next rows }
+// The next free row after so many rows from the next one on, if these fit before those of the terms.
+fn fits(sizes: Sizes, next: u32, rows: u32) -> Option<u32>
+    ensures { IfSome result (λ end. (end ≡ next + rows) × Fits sizes.rows sizes.terms next rows) }
 {
-    let end = next as usize + rows as usize;
-    end < u32::MAX as usize && end + sizes.terms as usize <= sizes.rows
+    let end = next.checked_add(rows)?;
+    (end < u32::MAX && end as usize + sizes.terms as usize <= sizes.rows).then_some(end)
 }
 
 // Notes the place of every second text in so many rows, if all the places fit.
@@ -37,10 +37,10 @@ fn fill_rows(records: &mut RecordsMut<'_>, among: Texts<'_>, base: u32, rows: u3
 {
     let mut at = among.from;
     for j in 0..rows {
-        if (u32::MAX as usize) < at {
+        let Ok(place) = u32::try_from(at) else {
             return false;
-        }
-        records.set_row(Column::ListRow, base as usize + j as usize, at as u32);
+        };
+        records.set_row(Column::ListRow, base as usize + j as usize, place);
         let next = lists::after_text(among.body, at, among.skip);
         at = lists::after_text(among.body, next, among.skip);
     }
@@ -53,11 +53,12 @@ fn list_at(records: &mut RecordsMut<'_>, column: Column, n: u32, next: u32, amon
     ensures made { ListAt among.entry.body.now records.old.sizes.rows records.old.sizes.terms (number column) n among.entry.from among.entry.left among.entry.skip next records.old.work.now result records.new.work.now }
 {
     let rows = rows_of(among.left);
-    if ENOUGH <= among.left && fits(records.sizes, next, rows) {
-        if fill_rows(records, among, next, rows) {
-            records.set(column, n, next + 1);
-            return next + rows;
-        }
+    if ENOUGH <= among.left
+        && let Some(end) = fits(records.sizes, next, rows)
+        && fill_rows(records, among, next, rows)
+    {
+        records.set(column, n, next + 1);
+        return end;
     }
     records.set(column, n, 0);
     next
@@ -96,12 +97,9 @@ fn note_enum(records: &mut RecordsMut<'_>, t: u32)
     ensures made { NotesEnum records.old.file.now records.old.sizes t records.old.work.now records.new.work.now }
 {
     let offset = records.get(Column::TypeOffset, t);
-    match types::type_at(records.file, offset) {
-        TypeEntry::Entity(name) => {
-            let e = index_search::enums::find(records.view(), name);
-            records.set(Column::TypeList, t, e.unwrap_or(records.sizes.enums));
-        }
-        _ => {}
+    if let TypeEntry::Entity(name) = types::type_at(records.file, offset) {
+        let e = index_search::enums::find(records.view(), name);
+        records.set(Column::TypeList, t, e.unwrap_or(records.sizes.enums));
     }
 }
 

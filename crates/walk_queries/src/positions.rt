@@ -12,15 +12,15 @@ use index_entry::lists::{self, Texts};
 fn find_text(mut among: Texts<'_>, name: &[u8]) -> Option<u32>
     ensures { FindsText among.entry name.now result }
 {
-    let i = among.position(|text| check::same(name, text))?;
-    Some(i as u32)
+    let i = among.position(|text| text == name)?;
+    u32::try_from(i).ok()
 }
 
 // Whether a text stands strictly before the one at a place of the body.
 fn stands_before(name: &[u8], body: &[u8], at: usize) -> bool
     ensures { result ≡ before name.now (first_text (drop at body.now)) }
 {
-    check_rules::text::before(name, lists::text_at(body, at))
+    name < lists::text_at(body, at)
 }
 
 // The last of so many rows whose text does not stand behind this one, or the first row.
@@ -66,8 +66,8 @@ fn find_listed(records: Records<'_>, base: u32, among: Texts<'_>, name: &[u8]) -
 pub fn find(records: Records<'_>, list: u32, among: Texts<'_>, name: &[u8]) -> Option<u32>
     ensures { Finds records.entry.work.now records.entry.sizes.rows list among.entry name.now result }
 {
-    if list == 0 {
-        return find_text(among, name);
+    match list.checked_sub(1) {
+        None => find_text(among, name),
+        Some(base) => find_listed(records, base, among, name),
     }
-    find_listed(records, list - 1, among, name)
 }

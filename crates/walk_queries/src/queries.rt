@@ -9,6 +9,7 @@ use index_entry::terms::{self, Children, TermEntry};
 use index_entry::types::TypeEntry;
 use index_entry::{numbered, symbols};
 use read_operator::Op;
+use refusal::Refusal;
 
 // What a term is as a `Bvnego`: over an argument of so many bits a comparison, over any other `false`.
 #[derive(Clone, Copy)]
@@ -16,14 +17,6 @@ pub enum Negated {
     Ordinary,
     Falsehood,
     Comparison(u32),
-}
-
-// Where an attribute stands in a type, if the type is a record type.
-#[derive(Clone, Copy)]
-pub enum Attribute {
-    NotRecord,
-    Missing,
-    At(u32),
 }
 
 // Where a member stands in a type, if the type is an enum.
@@ -103,19 +96,14 @@ pub fn negation_of(records: Records<'_>, n: u32) -> Negated
 }
 
 // Where an attribute stands in the type with number t.
-pub fn index_of_attr(records: Records<'_>, t: u32, name: &[u8]) -> Attribute
+pub fn index_of_attr(records: Records<'_>, t: u32, name: &[u8]) -> Result<u32, Refusal>
     ensures { FindsAttribute records.entry.file.now records.entry.work.now records.entry.sizes t name.now result }
 {
-    match numbered::type_at(records, t) {
-        TypeEntry::Record(attributes) => {
-            let list = records.get(Column::TypeList, t);
-            match positions::find(records, list, attributes.names(), name) {
-                Some(i) => Attribute::At(i),
-                None => Attribute::Missing,
-            }
-        }
-        _ => Attribute::NotRecord,
-    }
+    let TypeEntry::Record(attributes) = numbered::type_at(records, t) else {
+        return Err(Refusal::NotRecord);
+    };
+    let list = records.get(Column::TypeList, t);
+    positions::find(records, list, attributes.names(), name).ok_or(Refusal::NoAttribute)
 }
 
 // The number of the enum that the type with number t is, if it is one.
@@ -125,11 +113,7 @@ fn enum_of(records: Records<'_>, t: u32) -> Option<u32>
     match numbered::type_at(records, t) {
         TypeEntry::Entity(_) => {
             let e = records.get(Column::TypeList, t);
-            if e < records.sizes.enums {
-                Some(e)
-            } else {
-                None
-            }
+            (e < records.sizes.enums).then_some(e)
         }
         _ => None,
     }

@@ -19,7 +19,6 @@ use Rattle.walk_names.specs.Naming.{IndexOf, NumbersOf}
 use Rattle.walk_names.specs.Progress.{Indexed, Went, Enters, Passes}
 use Rattle.walk_names.specs.declared.naming.Named.TheVariants as named
 use Rattle.walk_names.specs.declared.walk.Walk.{Walk}
-use denote.Ref.{MutBor}
 use Rattle.write_bytes.specs.Writers.{Lends}
 use Rattle.write_bytes.proofs.Rest.{lent}
 use Rattle.walk_names.proofs.Advancing.{script_one, continues_lent, indexed_remains, remains_trans, rewritten, remains_writes, went_writes, advances_passed, advances_writes}
@@ -70,8 +69,8 @@ module _ {t : ℕ} {v : Walk} {r : Records} {b : Bool} (V : (r.file.now ≡ v.re
 -- ---- a function
 
 -- a function's comment in the rest of the script
-pub id_lent : {r : Records} {g : ℕ} {v w : Writer} {P : MutBor Writer → MutBor Writer → Type 0} → ((x y : MutBor Writer) → P x y → SpellsFunId r g x.now y.now) → Lends P v w → SpellsFunId r g v w
-id_lent h L = record { same = continues_lent L; go = λ f I k. lent (λ x y p. (h x y p).go f I k) L }
+pub id_lent : {r : Records} {g : ℕ} {v w : Writer} → Lends (SpellsFunId r g) v w → SpellsFunId r g v w
+id_lent L = record { same = continues_lent L; go = λ f I k. lent (λ x y p. p.go f I k) L }
 
 module _ {g : ℕ} {v : Walk} where
   -- its comment

@@ -6,14 +6,15 @@ ghost use Rattle.walk_types.specs.Types.{declared_letter, IsDatatype, NewType, d
 use index::{Column, Records};
 use walk_names::naming::Named;
 use walk_names::walk::Walk;
-use write_types::{functions, lines};
+use write_types::functions::{FunComment, FunDeclaration};
+use write_types::lines::TypeLines;
 
 // Whether the second byte of a type's mark is that of an entity, extension or record type.
 #[tactic(auto, unfolding(crate::specs::Types::declared_letter))]
 fn is_declared(letter: u8) -> bool
     ensures { result ≡ declared_letter letter }
 {
-    letter == b'E' || letter == b'X' || letter == b'R'
+    matches!(letter, b'E' | b'X' | b'R')
 }
 
 // Whether the type with number t is an entity, extension or record type.
@@ -32,8 +33,10 @@ pub fn declare_type(walk: &mut Walk, t: u32)
         return;
     }
     walk.enter(Named::Types, t);
-    walk.script
-        .lend(walk.records.view(), t, lines::put_type_lines)
+    walk.script.lend(TypeLines {
+        records: walk.records.view(),
+        number: t,
+    })
 }
 
 // Writes the comment of the function with number g.
@@ -41,8 +44,10 @@ pub fn put_id(walk: &mut Walk, g: u32)
     ensures passes { Passes (fun_ready g) (id_walk g) walk.old walk.new }
     ensures records { walk.new.records ≡ walk.old.records }
 {
-    walk.script
-        .lend(walk.records.view(), g, functions::put_fun_comment)
+    walk.script.lend(FunComment {
+        records: walk.records.view(),
+        number: g,
+    })
 }
 
 // Names the function with number g and declares it.
@@ -50,6 +55,8 @@ pub fn declare_fun(walk: &mut Walk, g: u32)
     ensures { Passes (NewFun g) (declare_fun_walk g) walk.old walk.new }
 {
     walk.enter(Named::Funs, g);
-    walk.script
-        .lend(walk.records.view(), g, functions::put_fun_declaration)
+    walk.script.lend(FunDeclaration {
+        records: walk.records.view(),
+        number: g,
+    })
 }

@@ -1,14 +1,14 @@
 -- Numbers read byte by byte from the first 16 bytes of a list: what a loop has read, its start, its next step and its end.
 -- Assumes nothing.
-use mathlib.Core.Path.{◌≡◌, refl, ap, ◌∙◌}
-use mathlib.Core.List.{List, ◌∷◌}
-use Prim.Native.Nat.{ℕ, ◌+◌, ◌-◌, ◌*◌, ◌^◌, ◌≤◌, ◌<◌, min}
+use mathlib.Core.Path.{◌≡◌, refl, sym, ap, ◌∙◌}
+use mathlib.Core.List.{List, [], ◌∷◌, ◌++◌, append-nil, append_assoc}
+use Prim.Native.Nat.{ℕ, ◌+◌, ◌*◌, ◌^◌, ◌≤◌, ◌<◌, min}
 use native.Mathlib.Numerals.{add-one}
 use native.Mathlib.Nat.{lt_of_lt_of_le}
 use native.Mathlib.Omega.{arith}
-use lib.ListN.{length, get_or, take, drop, length-take, drop_of_length-le}
+use lib.ListN.{length, get_or, take, drop, length-take, length-append, drop_of_length-le}
 use lib.Pow.{pow_pos, pow_mono, pow-add}
-use lib.Seq.{drop-cons, get_or-take}
+use lib.Seq.{drop-cons, get_or-take, get_or-append_seam}
 use Rattle.script_spec.specs.Fields.{low, high}
 
 -- ---- sizes
@@ -27,50 +27,44 @@ byte_fits v b k h g e =
     let w : v < 2 ^ 120 = lt_of_lt_of_le e (pow_mono q) in
     omega arith
 
--- ---- the first 16 bytes
-
-first_length : (s : List ℕ) (i : ℕ) → min 16 (length s) ≤ i → length (take 16 s) ≤ i
-first_length s i h = rw (length-take 16 s) h
-
-first_cons : (s : List ℕ) (i : ℕ) → i < 16 → i < length s → drop i (take 16 s) ≡ get_or s i 0 ∷ drop (i + 1) (take 16 s)
-first_cons s i h g =
-    let b : i < length (take 16 s) = rw (length-take 16 s) (omega arith) in
-    rw (add-one, ← get_or-take 16 s i 0 h) (drop-cons (take 16 s) i 0 b)
-
 -- ---- low byte first
 
--- v is the number of the bytes from i on
-pub record Low (s : List ℕ) (v i : ℕ) : Type 0 where
-  pub first : i ≤ 16
-  pub inside : i ≤ length s
-  pub value : v ≡ low (drop i (take 16 s))
-  pub small : v < 2 ^ (8 * (16 - i))
+-- the bytes `left` are to be read, and v is the number of those of s after them
+pub record Low (s left : List ℕ) (v : ℕ) : Type 0 where
+  pub past : List ℕ
+  pub whole : left ++ past ≡ s
+  pub value : v ≡ low past
+  pub small : v < 2 ^ (8 * length past)
 
-pub low_start : (s : List ℕ) (i : ℕ) → i ≡ min (length s) 16 → Low s 0 i
+pub low_start : {s left : List ℕ} → left ≡ s → Low s left 0
 unfolding low
-low_start s i h =
-    record {
-      first = omega arith;
-      inside = omega arith;
-      value = rw (drop_of_length-le (take 16 s) {i = i} (first_length s i (omega arith)));
-      small = pow_pos (8 * (16 - i));
-    }
+low_start {s} {left} e = record { past = []; whole = append-nil left ∙ e; value = refl; small = pow_pos 0 }
 
-pub low_next : (s : List ℕ) (v b i : ℕ) → Low s v i → 0 < i → b ≡ get_or s (i - 1) 0 → b < 256 → Low s (v * 256 + b) (i - 1)
-unfolding low
-low_next s v b i r h e k =
-    let back : i - 1 + 1 ≡ i = omega arith in
-    let less : 16 - i + 1 ≡ 16 - (i - 1) = omega arith in
-    let c : drop (i - 1) (take 16 s) ≡ get_or s (i - 1) 0 ∷ drop i (take 16 s) = rw (first_cons s (i - 1) (omega arith) (omega arith), back) in
-    record {
-      first = omega arith;
-      inside = omega arith;
-      value = rw c (omega arith);
-      small = rw (← less) (bytes_lt v b (16 - i) k r.small);
-    }
+-- one of the bytes is read
+module _ (s : List ℕ) {left : List ℕ} (next : List ℕ) {v : ℕ} (b : ℕ) (bytes : (i : ℕ) → get_or s i 0 < 256) (l : Low (take 16 s) left v) (e : left ≡ next ++ (b ∷ [])) where
+  parts : next ++ (b ∷ l.past) ≡ take 16 s
+  parts = sym (append_assoc next (b ∷ []) l.past) ∙ (rw (← e) l.whole)
 
-pub low_end : (s : List ℕ) (v i : ℕ) → Low s v i → i ≤ 0 → v ≡ low (take 16 s)
-low_end s v i r h = let z : i ≡ 0 = omega arith in rw z at r.value
+  size : length next + (length l.past + 1) ≡ min 16 (length s)
+  size = ap (λ (n : ℕ). length next + n) (add-one (length l.past)) ∙ sym (length-append next (b ∷ l.past)) ∙ ap length parts ∙ length-take 16 s
+
+  is_byte : b < 256
+  is_byte =
+      let k : length next < 16 = omega (arith, size) in
+      let is : b ≡ get_or s (length next) 0 = sym (get_or-append_seam next b l.past 0) ∙ ap (λ (t : List ℕ). get_or t (length next) 0) parts ∙ get_or-take 16 s (length next) 0 k in
+      rw is (bytes (length next))
+
+  pub low_fits : v * 256 + b < 2 ^ 128
+  low_fits = byte_fits v b (length l.past) is_byte (omega (arith, size)) l.small
+
+  pub low_next : Low (take 16 s) next (v * 256 + b)
+  unfolding low
+  low_next = record {
+    past = b ∷ l.past;
+    whole = parts;
+    value = omega (arith, l.value);
+    small = rw (← add-one (length l.past)) (bytes_lt v b (length l.past) is_byte l.small);
+  }
 
 -- ---- high byte first
 
@@ -78,9 +72,6 @@ low_end s v i r h = let z : i ≡ 0 = omega arith in rw z at r.value
 pub record High (s : List ℕ) (v i : ℕ) : Type 0 where
   pub value : high v (drop i s) ≡ high 0 s
   pub small : v < 2 ^ (8 * i)
-
-pub high_start : (s : List ℕ) → High s 0 0
-high_start s = record { value = refl; small = pow_pos 0 }
 
 pub high_next : (s : List ℕ) (v b i : ℕ) → High s v i → i < length s → b ≡ get_or s i 0 → b < 256 → High s (v * 256 + b) (i + 1)
 unfolding high

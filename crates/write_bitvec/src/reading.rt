@@ -7,10 +7,8 @@ pub fn low_first(s: &[u8]) -> u128
     ensures { result ≡ low (take 16 s.now) }
 {
     let mut v = 0;
-    let mut i = s.len().min(16);
-    while 0 < i {
-        i -= 1;
-        v = v * 256 + u128::from(s[i]);
+    for byte in s[..s.len().min(16)].iter().rev() {
+        v = v * 256 + u128::from(*byte);
     }
     v
 }

@@ -10,12 +10,11 @@ use write_bytes::writer::Writer;
 fn put_decimal128(w: &mut Writer<'_>, n: u128)
     ensures { Writes w.old w.new (decimal n) }
 {
-    if n <= 0xffff_ffff_ffff_ffff {
-        return write_numeral::put_decimal(w, n as u64);
+    if let Ok(small) = u64::try_from(n) {
+        return write_numeral::put_decimal(w, small);
     }
-    let tenth = n / 10;
-    put_decimal128(w, tenth);
-    write_numeral::put_decimal(w, (n - tenth * 10) as u64)
+    put_decimal128(w, n / 10);
+    write_numeral::put_decimal(w, (n % 10) as u64)
 }
 
 // Writes a bit vector by its width and value.

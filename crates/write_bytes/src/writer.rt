@@ -16,6 +16,18 @@ pub struct Writer<'a> {
     pub at: usize,
 }
 
+// One line of a script or more, with all that it is written from.
+pub trait Line: Drop {
+    ghost use Rattle.write_bytes.specs.declared.writer.Writer.{Writer};
+
+    // What writing it does to a writer.
+    ghost written: { Self → Writer → Writer → Type 0 };
+
+    // Writes it.
+    fn write(self, w: &mut Writer<'_>)
+        ensures { written self w.old w.new };
+}
+
 impl<'a> Writer<'a> {
     // A writer at the start of a buffer, all of which counts.
     pub fn new(out: &'a mut [u8]) -> Writer<'a>
@@ -94,14 +106,16 @@ impl<'a> Writer<'a> {
         self.limit.min(LONGEST) < self.at
     }
 
-    // Lends the unwritten part of the buffer to what writes a line, and goes on after it.
-    pub fn lend<R, T, F: FnOnce(R, &mut Writer<'_>, T)>(&mut self, records: R, of: T, line: F)
-        requires { F.IsAlwaysCallable line }
-        ensures { Lends (λ x y. F.post line records x of tt y) self.old self.new }
+    // Lends the unwritten part of the buffer to a line, and goes on after it. Past the limit the line is not written.
+    pub fn lend<L: Line>(&mut self, line: L)
+        ensures { Lends (L.written line) self.old self.new }
     {
+        if self.is_past() {
+            return;
+        }
         let from = self.at.min(self.out.len());
         let room = self.room();
-        let length = write_line(&mut self.out[from..], room, records, of, line);
+        let length = write_line(&mut self.out[from..], room, line);
         self.at = self.after(length);
     }
 
@@ -119,21 +133,14 @@ impl<'a> Writer<'a> {
 }
 
 // Writes a line into the rest of a buffer, of which so many bytes count, and answers its length.
-fn write_line<R, T, F: FnOnce(R, &mut Writer<'_>, T)>(
-    rest: &mut [u8],
-    room: usize,
-    records: R,
-    of: T,
-    line: F,
-) -> usize
-    requires { F.IsAlwaysCallable line }
-    ensures { InRest (λ x y. F.post line records x of tt y) room rest.old rest.new result }
+fn write_line<L: Line>(rest: &mut [u8], room: usize, line: L) -> usize
+    ensures { InRest (L.written line) room rest.old rest.new result }
 {
     let mut w = Writer {
         out: rest,
         limit: room,
         at: 0,
     };
-    line(records, &mut w, of);
+    line.write(&mut w);
     w.at
 }

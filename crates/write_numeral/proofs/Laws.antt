@@ -91,10 +91,6 @@ digit_tenth n m k d h e = rw (div-div-eq-div-mul n 10 k, ← h) e
 pub tenth_of_hundredth : (n : ℕ) → digit (n / 100 / 10 % 10) ≡ digit (n / 1000 % 10)
 tenth_of_hundredth n = ap (λ (m : ℕ). digit (m % 10)) (div-div-eq-div-mul n 100 10)
 
--- two bytes that are these
-pub two_bytes : {a b x y : ℕ} → a ≡ x → b ≡ y → a ∷ b ∷ [] ≡ x ∷ y ∷ []
-two_bytes e f = rw (e, f) refl
-
 pub one_digit : {n a : ℕ} → n < 10 → a ≡ digit (n % 10) → a ∷ [] ≡ decimal n
 one_digit {n} h e = rw (e, mod-eq_of_lt h) (sym (decimal_one n h))
 

@@ -1,31 +1,24 @@
--- Laws of patterns: the element at a cursor, and how a pattern is spelled by its elements.
+-- Laws of patterns: the elements that bytes hold, and how a pattern is spelled by its elements.
 -- Assumes nothing.
-use mathlib.Core.Path.{◌≡◌, refl, sym, ap, subst, ◌∙◌}
+use mathlib.Core.Path.{◌≡◌, refl, sym, ap, ◌∙◌}
 use mathlib.Core.List.{List, [], ◌∷◌, ◌++◌, map, append-nil, append_assoc}
-use mathlib.Core.Bool.{true, false}
-use Prim.Native.Nat.{ℕ, suc, ◌-◌, ◌/◌, ◌≤◌, ◌<◌}
+use mathlib.Core.Bool.{Bool, ◌&&◌}
+use Prim.Native.Nat.{ℕ, suc, ◌+◌, ◌-◌, ◌/◌, ◌≤◌, ◌<◌}
 use native.Mathlib.Nat.{div-eq-sub-div, div-eq_of_lt}
 use native.Mathlib.Numerals.{add-one}
 use native.Mathlib.Omega.{arith}
 use borrow.Author.Tests.{eq-eqb, ne_eqb}
-use lib.Dec.{leb→le}
-use denote.Ref.{Bor}
 use lib.ListN.{length, take, drop, length-drop}
 use Rattle.script_spec.specs.Base.{Bytes, bytes, joined, collect}
 use Rattle.script_spec.specs.Tree.{wildcard}
-use Rattle.script_spec.specs.Fields.{low, u32}
+use Rattle.script_spec.specs.Fields.{low}
 use Rattle.script_spec.specs.Text.{literal, escaped, escape}
 use Rattle.script_spec.specs.Command.{headed, spaced}
 use Rattle.script_spec.specs.Spelling.{pattern_element, element_by, pattern}
 use Rattle.script_spec.specs.Walk.{low_enough}
-use Rattle.script_spec.proofs.Readers.{u32_inverse, u32_short}
 use Rattle.read_utf8.specs.Decoding.{is_low}
-use Rattle.std.specs.Prelude.{Result, Ok, Err}
-use Rattle.refusal.specs.declared.Refusal.{Refusal}
-use Rattle.refusal.specs.Numbers.{number}
-use Rattle.read_field.specs.declared.Cursor.{Cursor}
-use Rattle.read_field.specs.Reads.{as_read}
-use Rattle.read_field.specs.Takes.{TakesTo, RefusesAt, Takes}
+use Rattle.std.specs.Int.{w32, from_le_bytes}
+use Rattle.std.specs.List.{list_all}
 use Rattle.read_field.specs.Words.{words, elements}
 use Rattle.write_pattern.specs.Elements.{spaced_element, several}
 
@@ -57,45 +50,23 @@ elements_none : (s : Bytes) → length s < 4 → elements s ≡ []
 unfolding elements
 elements_none s h = words_none (length s / 4) s (quarter_none (length s) h)
 
--- ---- a cursor
+-- the word of the first four bytes
+word_low : (s : Bytes) {n : ℕ} → 4 ≤ length s → n ≡ from_le_bytes w32 (take 4 s) → n ≡ low (take 4 s)
+unfolding low
+word_low [] h e = absurd (omega (arith, h))
+word_low (a ∷ []) h e = absurd (omega (arith, h))
+word_low (a ∷ b ∷ []) h e = absurd (omega (arith, h))
+word_low (a ∷ b ∷ d ∷ []) h e = absurd (omega (arith, h))
+word_low (a ∷ b ∷ d ∷ f ∷ s) h e = omega (arith, e)
 
--- an element at a cursor c, and the cursor d after it
-pub record ElementAt (c d : Cursor) (a : ℕ) : Type 0 where
-  pub value : elements (drop c.at c.body.now) ≡ a ∷ elements (drop d.at d.body.now)
-  pub moves : length d.body.now - d.at < length c.body.now - c.at
+-- what `next` finds: an element before those that are left, or none
+pub next_first : (s : Bytes) {first rest : Bytes} {n : ℕ} → first ≡ take 4 s → rest ≡ drop 4 s → length rest + 4 ≡ length s → n ≡ from_le_bytes w32 first → elements s ≡ n ∷ elements rest
+next_first s {n = n} e h l w =
+    let long : 4 ≤ length s = omega arith in
+    rw h (elements_more s n long (word_low s long (rw e at w)))
 
-pub element_at : {c d : Cursor} (r : Result (ℕ × Cursor) Refusal) {a : ℕ} → Takes u32 c r → r ≡ Ok (a, d) → ElementAt c d a
-unfolding as_read
-element_at {c} {d} r {a} t h =
-    let s = c.body.now in
-    let took : TakesTo u32 c d a = subst (λ (x : Result (ℕ × Cursor) Refusal). Takes u32 c x) h t in
-    let w = u32_inverse (drop c.at s) took.reads.is in
-    let fits : 4 ≤ length (drop c.at s) = leb→le 4 (length (drop c.at s)) (rw w.fits tt) in
-    let l : length s - d.at ≡ length s - c.at - 4 = sym (length-drop d.at s) ∙ ap length (sym w.left) ∙ length-drop 4 (drop c.at s) ∙ ap (λ (n : ℕ). n - 4) (length-drop c.at s) in
-    let m : 4 ≤ length s - c.at = rw (length-drop c.at s) at fits in
-    let same : d.body.now ≡ s = ap (λ (b : Bor Bytes). b.now) took.body in
-    record {
-      value = elements_more (drop c.at s) a fits (sym w.is) ∙ ap (λ (x : Bytes). a ∷ elements x) w.left ∙ (rw same);
-      moves = rw same (omega arith);
-    }
-
-pub element_none : (c : Cursor) (r : Result (ℕ × Cursor) Refusal) {e : Refusal} → Takes u32 c r → r ≡ Err e → elements (drop c.at c.body.now) ≡ []
-unfolding as_read
-element_none c r {e} t h =
-    let refused : RefusesAt u32 c e = subst (λ (x : Result (ℕ × Cursor) Refusal). Takes u32 c x) h t in
-    elements_none (drop c.at c.body.now) (u32_short (drop c.at c.body.now) (number e) refused.reads.is)
-
--- a cursor at the start of a pattern
-pub whole : {c : Cursor} {p : Bor Bytes} → c.body ≡ p → c.at ≡ 0 → elements p.now ≡ elements (drop c.at c.body.now)
-whole e h = rw (e, h)
-
--- whether an element is left at a cursor
-pub none_left : (c : Cursor) {n : ℕ} → n ≡ length c.body.now - c.at → n < 4 → elements (drop c.at c.body.now) ≡ []
-none_left c e h = elements_none (drop c.at c.body.now) (simp length-drop (omega arith))
-
-pub some_left : (c : Cursor) {n : ℕ} → n ≡ length c.body.now - c.at → 4 ≤ n
-    → elements (drop c.at c.body.now) ≡ low (take 4 (drop c.at c.body.now)) ∷ elements (drop 4 (drop c.at c.body.now))
-some_left c e h = elements_more (drop c.at c.body.now) _ (simp length-drop (omega arith)) refl
+pub next_none : (s : Bytes) → length s < 4 → (elements s ≡ []) × (elements s ≡ [])
+next_none s h = let e = elements_none s h in (e, e)
 
 -- ---- spelling
 
@@ -128,7 +99,7 @@ pub pattern_one : (c : ℕ) (cs r : List ℕ) → cs ≡ c ∷ r → r ≡ [] �
 unfolding pattern
 pattern_one c cs r h k = rw (h, k)
 
-pub pattern_many : (c d : ℕ) (cs r q : List ℕ) → cs ≡ c ∷ r → r ≡ d ∷ q → several c r ≡ pattern cs
+pub pattern_many : (c d : ℕ) (cs r q : List ℕ) → cs ≡ c ∷ r → r ≡ d ∷ q → several c (d ∷ q) ≡ pattern cs
 unfolding pattern several headed spaced bytes
 pattern_many c d cs r q h k =
     let e : pattern_element c ++ (collect spaced_element (d ∷ q) ++ bytes ")") ≡ joined (bytes " ") (map pattern_element (c ∷ d ∷ q)) ++ bytes ")"
@@ -137,14 +108,7 @@ pattern_many c d cs r q h k =
 
 -- ---- code points that SMT-LIB's strings have
 
-pub low_more : (c : ℕ) (cs r : List ℕ) → cs ≡ c ∷ r → is_low c ≡ true → low_enough cs ≡ low_enough r
+pub low_all : (cs : List ℕ) → list_all is_low cs ≡ low_enough cs
 unfolding low_enough is_low
-low_more c cs r h k = rw (h, k)
-
-pub low_stop : (c : ℕ) (cs r : List ℕ) → cs ≡ c ∷ r → is_low c ≡ false → low_enough cs ≡ false
-unfolding low_enough is_low
-low_stop c cs r h k = rw (h, k)
-
-pub low_none : (cs : List ℕ) → cs ≡ [] → low_enough cs ≡ true
-unfolding low_enough
-low_none cs h = rw h
+low_all [] = refl
+low_all (c ∷ cs) = ap (λ (t : Bool). is_low c && t) (low_all cs)

@@ -3,6 +3,12 @@
 use Rattle.std.specs.Prelude.{List, ◌∷◌, ◌++◌, ℕ}
 use Rattle.script_spec.specs.Base.{Bytes, bytes, collect}
 use Rattle.script_spec.specs.Spelling.{pattern_element}
+use Rattle.read_field.specs.Words.{elements}
+use Rattle.write_pattern.specs.declared.Elements.{Elements}
+
+-- the elements that are left
+abbrev pub elements_in : Elements → List ℕ
+elements_in e = elements e.bytes.now
 
 -- an element with a space before it
 unfoldable pub spaced_element : ℕ → Bytes

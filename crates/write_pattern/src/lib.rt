@@ -1,29 +1,42 @@
 // The patterns of `StringLike`, read from their bytes in the file: elements of four bytes, low byte first.
 #![tactic(auto)]
 
-ghost use Rattle.std.specs.Prelude.{◌≡◌, drop};
+ghost use Rattle.std.specs.Prelude.{◌≡◌, ◌∷◌, length};
+ghost use Rattle.std.specs.Iterator.{YieldsFirst, at_most};
 ghost use Rattle.script_spec.specs.Base.{collect};
 ghost use Rattle.script_spec.specs.Spelling.{pattern_element, pattern};
 ghost use Rattle.script_spec.specs.Walk.{low_enough};
 ghost use Rattle.write_bytes.specs.Writers.{Writes};
 ghost use Rattle.read_field.specs.Words.{elements};
-ghost use Rattle.write_pattern.specs.Elements.{spaced_element, several};
+ghost use Rattle.write_pattern.specs.Elements.{elements_in, spaced_element, several};
 
-use read_field::Cursor;
 use write_bytes::writer::Writer;
+
+// The elements of a pattern that are left, by their bytes.
+#[derive(Clone, Copy)]
+struct Elements<'a> {
+    bytes: &'a [u8],
+}
+
+impl Iterator for Elements<'_> {
+    type Item = u32;
+
+    ghost next_gives = { YieldsFirst elements_in };
+
+    ghost remaining = { λ e. at_most (length e.bytes.now) };
+
+    fn next(&mut self) -> Option<u32> {
+        let (first, rest) = self.bytes.split_first_chunk::<4>()?;
+        self.bytes = rest;
+        Some(u32::from_le_bytes(*first))
+    }
+}
 
 // Whether SMT-LIB's strings have every code point of a pattern.
 pub fn low_enough(p: &[u8]) -> bool
     ensures { result ≡ low_enough (elements p.now) }
 {
-    let mut rest = Cursor::new(p);
-    while let Ok((c, after)) = rest.u32_le() {
-        if !read_utf8::is_low(c) {
-            return false;
-        }
-        rest = after;
-    }
-    true
+    Elements { bytes: p }.all(read_utf8::is_low)
 }
 
 // Writes an element: the wildcard, or a code point.
@@ -38,27 +51,27 @@ fn put_element(w: &mut Writer<'_>, c: u32)
     w.put(b"\")")
 }
 
-// Writes the elements that are left, each with a space before it. Past the limit none is looked at.
-fn put_elements(w: &mut Writer<'_>, from: Cursor<'_>)
-    ensures { Writes w.old w.new (collect spaced_element (elements (drop from.entry.at from.entry.body.now))) }
+// Writes elements, each with a space before it, as far as the limit.
+fn put_elements(w: &mut Writer<'_>, elements: Elements<'_>)
+    ensures { Writes w.old w.new (collect spaced_element (elements_in elements.entry)) }
 {
-    let mut rest = from;
-    while !w.is_past() {
-        let Ok((c, after)) = rest.u32_le() else {
+    for c in elements {
+        if w.is_past() {
             return;
-        };
+        }
         w.put_byte(b' ');
         put_element(w, c);
-        rest = after;
     }
 }
 
-// Writes an element and those that are left, after one another.
-fn put_several(w: &mut Writer<'_>, first: u32, rest: Cursor<'_>)
-    ensures { Writes w.old w.new (several first (elements (drop rest.entry.at rest.entry.body.now))) }
+// Writes two elements and those that are left, after one another.
+fn put_several(w: &mut Writer<'_>, first: u32, second: u32, rest: Elements<'_>)
+    ensures { Writes w.old w.new (several first (second ∷ elements_in rest.entry)) }
 {
     w.put(b"(re.++ ");
     put_element(w, first);
+    w.put_byte(b' ');
+    put_element(w, second);
     put_elements(w, rest);
     w.put_byte(b')')
 }
@@ -67,11 +80,12 @@ fn put_several(w: &mut Writer<'_>, first: u32, rest: Cursor<'_>)
 pub fn put_pattern(w: &mut Writer<'_>, p: &[u8])
     ensures { Writes w.old w.new (pattern (elements p.now)) }
 {
-    let Ok((first, rest)) = Cursor::new(p).u32_le() else {
+    let mut elements = Elements { bytes: p };
+    let Some(first) = elements.next() else {
         return w.put(b"(str.to_re \"\")");
     };
-    if rest.left() < 4 {
+    let Some(second) = elements.next() else {
         return put_element(w, first);
-    }
-    put_several(w, first, rest)
+    };
+    put_several(w, first, second, elements)
 }

@@ -27,12 +27,10 @@ use Rattle.index_entry.specs.Terms.{children_in}
 use Rattle.index_entry.specs.declared.terms.Application.{Application}
 use Rattle.index_entry.specs.declared.terms.Children.{Children}
 use Rattle.write_atoms.specs.Records.{TermIs}
-use Rattle.walk_names.specs.Spells.{Spells}
 use Rattle.walk_names.proofs.Spelling.{written, spells_as, knowing, ◌next◌}
 use Rattle.write_terms.specs.Arguments.{atoms, SpellsArguments, SpellsClosed}
 use Rattle.write_terms.specs.Applications.{types_at, head_of, SpellsOperatorHead, SpellsApplied, SpellsOperator, SpellsComparison, SpellsLike}
-use Rattle.write_terms.specs.Lines.{own_body, Known}
-use Rattle.write_terms.specs.Definitions.{OrdinaryIs, ComparisonIs}
+use Rattle.write_terms.specs.Definitions.{OrdinaryIs, ComparisonIs, SpellsBodyOf}
 use Rattle.write_terms.specs.declared.applications.Comparison.{Comparison}
 use Rattle.write_terms.proofs.ArgumentLaws.{headed_closed, headed_last}
 use Rattle.write_terms.proofs.HeadLaws.{op_cases}
@@ -83,14 +81,14 @@ app_here T e ν args z h = app_is e ν _ _ _ args z (h ∙ ap negation (sym T.tr
 
 module _ {records : Records} {v w : Writer} where
   -- an application in full: by its operator
-  pub spells_ordinary : {call : Application} → SpellsOperator records call v w → Spells records (Known call.number (OrdinaryIs call)) (λ f S. own_body f S call.number) v w
+  pub spells_ordinary : {call : Application} → SpellsOperator records call v w → SpellsBodyOf records call.number (OrdinaryIs call) v w
   unfolding negated MarkInRange
   spells_ordinary {call} P =
       spells_as (λ f S I N k. app_here k.known.is (members f) (names S) _ ordinary (sym k.known.becomes) ∙ over_children k.known.is S)
       (knowing (λ f I k. record { number = call.number; op_in_range = k.known.is.in_range.1; below = below_more call.number (length (terms f)) (omega (arith, k.inside)) _ k.known.is.below }) P)
 
   -- or as a comparison
-  pub spells_compared : {n : ℕ} (c : Comparison) → SpellsComparison records c v w → Spells records (Known n (ComparisonIs n c.width (children_in c.arguments))) (λ f S. own_body f S n) v w
+  pub spells_compared : {n : ℕ} (c : Comparison) → SpellsComparison records c v w → SpellsBodyOf records n (ComparisonIs n c.width (children_in c.arguments)) v w
   unfolding negated
   spells_compared {n} c P =
       spells_as (λ f S I N k.

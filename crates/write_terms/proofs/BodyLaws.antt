@@ -39,15 +39,14 @@ use Rattle.walk_queries.specs.declared.queries.Member.{Member}
 use Rattle.walk_queries.specs.declared.queries.Member.TheVariants as member
 use Rattle.write_types.specs.Sorts.{SpellsSort}
 use Rattle.write_atoms.specs.Records.{TermSound, TermIs}
-use Rattle.walk_names.specs.Spells.{Spells}
 use Rattle.write_atoms.specs.Atoms.{SpellsAtom}
 use Rattle.walk_names.proofs.Spelling.{written, spells_as, knowing, ◌next◌}
 use Rattle.write_atoms.proofs.Rows.{EntryIs, term_here, entry_is}
 use Rattle.write_atoms.proofs.AtomLaws.{inlined_is}
 use Rattle.write_terms.specs.Arguments.{atoms}
 use Rattle.write_terms.specs.Values.{sort_at, SpellsConstant, SpellsSome, SpellsSet, SpellsRecord}
-use Rattle.write_terms.specs.Lines.{is_compound, own_body, Known, TextIs, SpellsConstructed, SpellsEntityBody, SpellsBody}
-use Rattle.write_terms.specs.Definitions.{PlainIs, SomeIs, SetIs, RecordIs}
+use Rattle.write_terms.specs.Lines.{is_compound, own_body, TextIs, SpellsConstructed, SpellsEntityBody, SpellsBody}
+use Rattle.write_terms.specs.Definitions.{PlainIs, SomeIs, SetIs, RecordIs, SpellsBodyOf}
 
 -- ---- entities
 
@@ -124,20 +123,20 @@ unfolding named_mark body spelling.body_over
 record_is {f} {rs = rs} T S = ap (λ (ty : Bytes). record_value ty (atoms f S rs)) (sort_is T S) ∙ body_is T S
 
 module _ {records : Records} {v w : Writer} where
-  pub body_plain : {n : ℕ} → SpellsBody records n v w → Spells records (Known n (PlainIs n)) (λ f S. own_body f S n) v w
+  pub body_plain : {n : ℕ} → SpellsBody records n v w → SpellsBodyOf records n (PlainIs n) v w
   body_plain P = knowing (λ f I k. record { inside = k.inside; known = k.known.plain }) P
 
-  pub body_some : {n m : ℕ} → SpellsSome records m v w → Spells records (Known n (SomeIs n m)) (λ f S. own_body f S n) v w
+  pub body_some : {n m : ℕ} → SpellsSome records m v w → SpellsBodyOf records n (SomeIs n m) v w
   unfolding named_mark body spelling.body_over atoms Below All
   body_some P = spells_as (λ f S I N k. body_is k.known.is S) (knowing (λ f I k. omega (arith, k.inside, k.known.is.below.0)) P)
 
   module _ {c : Compound} where
-    pub body_set : SpellsSet records c v w → Spells records (Known c.number (SetIs c.number (children_in c.children))) (λ f S. own_body f S c.number) v w
+    pub body_set : SpellsSet records c v w → SpellsBodyOf records c.number (SetIs c.number (children_in c.children)) v w
     body_set P =
         spells_as (λ f S I N k. set_is k.known.is S)
         (knowing (λ f I k. record { inside = k.inside; below = below_more c.number (length (terms f)) (omega (arith, k.inside)) _ k.known.is.below }) P)
 
-    pub body_record : SpellsRecord records c v w → Spells records (Known c.number (RecordIs c.number (children_in c.children))) (λ f S. own_body f S c.number) v w
+    pub body_record : SpellsRecord records c v w → SpellsBodyOf records c.number (RecordIs c.number (children_in c.children)) v w
     body_record P =
         spells_as (λ f S I N k. record_is k.known.is S)
         (knowing (λ f I k. record { inside = k.inside; below = below_more c.number (length (terms f)) (omega (arith, k.inside)) _ k.known.is.below }) P)

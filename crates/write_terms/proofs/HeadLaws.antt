@@ -2,6 +2,7 @@
 -- Assumes nothing.
 use mathlib.Core.Path.{◌≡◌, refl, sym, ap, ◌∙◌}
 use mathlib.Core.List.{List, [], ◌∷◌, ◌++◌}
+use mathlib.Core.Logic.{inl, inr}
 use mathlib.Core.Option.{none, some}
 use Prim.Native.Nat.{ℕ, ◌<◌}
 use lib.ListN.{length}
@@ -29,10 +30,9 @@ use Rattle.read_operator.specs.declared.Op.TheVariants as op
 use Rattle.index_entry.specs.Terms.{children_in}
 use Rattle.index_entry.specs.declared.terms.Children.{Children}
 use Rattle.index_entry.specs.declared.terms.Application.{Application}
-use Rattle.walk_queries.specs.Searches.{FindsAttribute}
-use Rattle.walk_queries.proofs.AnswerLaws.{AttributeSaid, attribute_said}
-use Rattle.walk_queries.specs.declared.queries.Attribute.{Attribute}
-use Rattle.walk_queries.specs.declared.queries.Attribute.TheVariants as answer
+use Rattle.refusal.specs.declared.Refusal.{Refusal}
+use Rattle.walk_queries.specs.Searches.{attribute_answer, asked_attribute, FindsAttribute}
+use Rattle.walk_queries.proofs.AnswerLaws.{attribute_there, attribute_nowhere}
 use Rattle.write_atoms.specs.Symbols.{symbol, symbol_of}
 use Rattle.write_atoms.specs.Parts.{SpellsNumbered}
 use Rattle.walk_names.proofs.Spelling.{written, spells_as, unwritten, knowing}
@@ -46,11 +46,13 @@ selector_first : (ν : Names) (f : TermFile) (a : Bytes) (n : ℕ) (ns : List �
 unfolding types_at forest types_of selector
 selector_first ν f a n ns ty e = ap (λ (t : Ty). selector_by (sort ν t) (attribute a t)) e
 
-no_attribute : (r : Attribute) (a : Bytes) (ty : Ty) → ((i : ℕ) → r ≡ answer.At i → ⊥) → AttributeSaid r a ty → attribute a ty ≡ none
-unfolding AttributeSaid attribute and_then
-no_attribute answer.NotRecord a ty h s = rw s
-no_attribute answer.Missing a ty h s = s.1
-no_attribute (answer.At i) a ty h s = absurd (h i refl)
+no_attribute : (r : std.Result ℕ Refusal) (a : Bytes) (ty : Ty) → ((i : ℕ) → r ≡ std.Ok i → ⊥) → attribute_answer r ≡ asked_attribute a ty → attribute a ty ≡ none
+unfolding attribute_answer attribute and_then
+no_attribute (std.Ok i) a ty h e = absurd (h i refl)
+no_attribute (std.Err x) a ty h e = elim (attribute_nowhere a ty e) [
+  | inl w ↦ rw w.1
+  | inr w ↦ w.2
+]
 
 module _ (records : Records) (c : Children) (name : Bytes) where
   -- no argument
@@ -58,26 +60,26 @@ module _ (records : Records) (c : Children) (name : Bytes) where
   unfolding types_at forest types_of selector
   selector_none e = unwritten (λ f S I N b. rw e)
 
-  module _ {n t : ℕ} {ns : List ℕ} {r : Attribute} (cs : children_in c ≡ n ∷ ns) (e : t ≡ cell records.work.now records.sizes.rows term_type n) (F : FindsAttribute records.file.now records.work.now records.sizes t name r) where
+  module _ {n t : ℕ} {ns : List ℕ} {r : std.Result ℕ Refusal} (cs : children_in c ≡ n ∷ ns) (e : t ≡ cell records.work.now records.sizes.rows term_type n) (F : FindsAttribute records.file.now records.work.now records.sizes t name r) where
     -- the type of the first argument
     first_child : {P : Type 0} (f : TermFile) → IndexOf f records → HasTerms (children_in c) f
-        → (t < length (types f) → type_at f t ≡ type_of (term_at f n) → AttributeSaid r name (type_at f t) → P) → P
+        → (t < length (types f) → type_at f t ≡ type_of (term_at f n) → attribute_answer r ≡ asked_attribute name (type_at f t) → P) → P
     unfolding Below All
     first_child f I b next =
         let below = rw cs at b in
         let row = I.rows.term_row n below.0 in
         let inside : t < length (types f) = rw e row.type_below in
-        next inside (rw e row.type_is) (attribute_said r name (type_at f t) (F.go f I inside))
+        next inside (rw e row.type_is) (F.go f I inside)
 
-    pub selector_at : {i : ℕ} {v w : Writer} → r ≡ answer.At i → SpellsNumbered records t (bytes "_a") i v w → SpellsSelector records c name v w
-    unfolding AttributeSaid selector_by attribute_name
+    pub selector_at : {i : ℕ} {v w : Writer} → r ≡ std.Ok i → SpellsNumbered records t (bytes "_a") i v w → SpellsSelector records c name v w
+    unfolding attribute_answer selector_by attribute_name
     selector_at {i} h P =
         spells_as (λ f S I N b.
         first_child f I b (λ inside ty said.
-        let found : attribute name (type_at f t) ≡ some i = (rw h at said).1 in
+        let found : attribute name (type_at f t) ≡ some i = (attribute_there name (type_at f t) (sym (ap attribute_answer h) ∙ said)).1 in
         ap (selector_by (sort (names S) (type_at f t))) (sym found) ∙ selector_first (names S) f name n ns _ ty ∙ (rw cs))) (knowing (λ f I b. first_child f I b (λ inside ty said. inside)) P)
 
-    pub selector_nowhere : {v : Writer} → ((i : ℕ) → r ≡ answer.At i → ⊥) → SpellsSelector records c name v v
+    pub selector_nowhere : {v : Writer} → ((i : ℕ) → r ≡ std.Ok i → ⊥) → SpellsSelector records c name v v
     unfolding selector_by
     selector_nowhere h =
         unwritten (λ f S I N b.

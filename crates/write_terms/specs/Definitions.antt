@@ -1,23 +1,22 @@
 -- What writing the definition of a term as a line promises.
 -- Assumes nothing.
-use denote.MutBor.{MutBor}
-use Rattle.std.specs.Prelude.{ℕ, ◌<◌, ◌≡◌, false, List, [], ◌∷◌}
-use Rattle.script_spec.specs.Base.{Bytes, bytes}
+use Rattle.std.specs.Prelude.{ℕ, ◌≡◌, false, List, [], ◌∷◌}
+use Rattle.script_spec.specs.Base.{Bytes}
 use Rattle.script_spec.specs.Tree.{Op, Some, Set, Record, App, type_of, ordinary, comparison, negation}
 use Rattle.script_spec.specs.File.{TermFile, term_at}
 use Rattle.script_spec.specs.Command.{line, define_fun}
 use Rattle.script_spec.specs.Spelling.{sort}
 use Rattle.script_spec.specs.Walk.{State, names}
 use Rattle.write_bytes.specs.declared.writer.Writer.{Writer}
-use Rattle.write_bytes.specs.Writing.{ceiling}
-use Rattle.write_bytes.specs.Writers.{Writes}
 use Rattle.read_operator.specs.Operators.{op_of}
 use Rattle.index.specs.declared.Records.{Records}
 use Rattle.index_entry.specs.Terms.{children_in}
 use Rattle.index_entry.specs.declared.terms.Application.{Application}
 use Rattle.write_atoms.specs.Records.{TermIs}
 use Rattle.walk_names.specs.Spells.{Spells}
-use Rattle.write_terms.specs.Lines.{is_compound, own_body, Known, SpellsHead}
+use Rattle.write_terms.specs.Lines.{is_compound, own_body, Known}
+use Rattle.write_terms.specs.declared.definitions.Body.{Body}
+use Rattle.write_terms.specs.declared.definitions.Body.TheVariants as body
 
 -- ---- what is known of the term with number n
 
@@ -52,7 +51,20 @@ pub record ComparisonIs (n w : ℕ) (rs : List ℕ) (f : TermFile) : Type 0 wher
   pub is : TermIs f n (App result op) rs
   pub becomes : negation (term_at f n) ≡ comparison w
 
+-- it is what a body says
+unfoldable pub BodyIs : ℕ → Body → TermFile → Type 0
+BodyIs n body.Plain = PlainIs n
+BodyIs n (body.Some m) = SomeIs n m
+BodyIs n (body.Set c) = SetIs n (children_in c)
+BodyIs n (body.Record c) = RecordIs n (children_in c)
+BodyIs n (body.Ordinary op c) = OrdinaryIs (record { op = op; arguments = c; number = n })
+BodyIs n (body.Comparison c) = ComparisonIs n c.width (children_in c.arguments)
+
 -- ---- its line
+
+-- the term is written in full, where that is known of it
+abbrev pub SpellsBodyOf : Records → ℕ → (TermFile → Type 0) → Writer → Writer → Type 0
+SpellsBodyOf records n is = Spells records (Known n is) (λ f S. own_body f S n)
 
 -- the definition of the term with number n
 abbrev pub definition_line : ℕ → TermFile → State → Bytes
@@ -61,8 +73,3 @@ definition_line n f S = line (define_fun ((names S).term (term_at f n)) [] (sort
 -- the definition is written, where that is known of the term
 abbrev pub SpellsDefinition : Records → ℕ → (TermFile → Type 0) → Writer → Writer → Type 0
 SpellsDefinition records n is = Spells records (Known n is) (definition_line n)
-
--- the definition is written by a writer of its body, which is handed what it is of; or the place is past the limit already
-pub data Defines {T : Type 0} (records : Records) (n : ℕ) (of : T) (Body : Records → MutBor Writer → T → Unit {0} → MutBor Writer → Type 0) (v w : Writer) : Type 0 where
-  past : ceiling v.limit < v.at → w ≡ v → Defines records n of Body v w
-  whole : (x y : MutBor Writer) → SpellsHead records n v x.now → Body records x of tt y → Writes y.now w (bytes ")\n") → Defines records n of Body v w

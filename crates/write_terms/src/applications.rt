@@ -11,7 +11,6 @@ use index::{Column, Records};
 use index_entry::terms::{Application, Children};
 use read_operator::Op;
 use walk_names::naming::Named;
-use walk_queries::queries::Attribute;
 use write_atoms::parts::PartName;
 use write_bytes::writer::Writer;
 
@@ -34,14 +33,8 @@ fn put_selector(records: Records<'_>, w: &mut Writer<'_>, arguments: Children<'_
         return;
     };
     let t = records.get(Column::TermType, first);
-    match walk_queries::queries::index_of_attr(records, t, name) {
-        Attribute::At(i) => write_atoms::parts::put_numbered(
-            records,
-            w,
-            b"_a",
-            PartName { of: t, place: i },
-        ),
-        _ => {}
+    if let Ok(i) = walk_queries::queries::index_of_attr(records, t, name) {
+        write_atoms::parts::put_numbered(records, w, b"_a", PartName { of: t, place: i })
     }
 }
 

@@ -1,70 +1,72 @@
-// The definitions of terms as lines.
-ghost use Rattle.index_entry.specs.Terms.{children_in};
-ghost use Rattle.write_terms.specs.Definitions.{PlainIs, SomeIs, SetIs, RecordIs, OrdinaryIs, ComparisonIs, Defines, SpellsDefinition};
+// The definition of a term as a line.
+ghost use Rattle.write_terms.specs.Definitions.{BodyIs, SpellsBodyOf, SpellsDefinition};
 
-use crate::applications::{Comparison, put_comparison as put_compared, put_operator};
+use crate::applications::{Comparison, put_comparison, put_operator};
 use crate::{lines, values};
 use index::Records;
-use index_entry::terms::{Application, Compound};
-use write_bytes::writer::Writer;
+use index_entry::terms::{Application, Children, Compound};
+use read_operator::Op;
+use write_bytes::writer::{Line, Writer};
 
-// Defines the term with number n by a writer of its body, which is handed what it is of. Past the limit it is not called.
-fn define<T: Copy, F: FnOnce(Records<'_>, &mut Writer<'_>, T)>(
-    records: Records<'_>,
-    w: &mut Writer<'_>,
-    n: u32,
-    of: T,
-    body: F,
-)
-    requires { F.IsAlwaysCallable body }
-    ensures { Defines records.entry n of (F.post body) w.old w.new }
+// What the body of a definition is: a term that is not compound, the option of a term, a set, a record, an application by its operator, or
+// one as a comparison.
+#[derive(Clone, Copy)]
+pub enum Body<'a> {
+    Plain,
+    Some(u32),
+    Set(Children<'a>),
+    Record(Children<'a>),
+    Ordinary(Op<'a>, Children<'a>),
+    Comparison(Comparison<'a>),
+}
+
+// The definition of the term with this number.
+#[derive(Clone, Copy)]
+pub struct Definition<'a> {
+    pub records: Records<'a>,
+    pub number: u32,
+    pub body: Body<'a>,
+}
+
+// Writes the term with number n in full, by what its body is.
+fn put_body(records: Records<'_>, w: &mut Writer<'_>, n: u32, body: Body<'_>)
+    ensures { SpellsBodyOf records.entry n (BodyIs n body.entry) w.old w.new }
 {
-    if w.is_past() {
-        return;
+    match body {
+        Body::Plain => lines::put_body(records, w, n),
+        Body::Some(m) => values::put_some(records, w, m),
+        Body::Set(children) => {
+            let term = Compound {
+                number: n,
+                children,
+            };
+            values::put_set(records, w, term)
+        }
+        Body::Record(children) => {
+            let term = Compound {
+                number: n,
+                children,
+            };
+            values::put_record(records, w, term)
+        }
+        Body::Ordinary(op, arguments) => {
+            let call = Application {
+                number: n,
+                op,
+                arguments,
+            };
+            put_operator(records, w, call)
+        }
+        Body::Comparison(compared) => put_comparison(records, w, compared),
     }
-    lines::put_head(records, w, n);
-    body(records, w, of);
-    w.put(b")\n")
 }
 
-// The term with number n, which is not compound.
-pub fn put_definition(records: Records<'_>, w: &mut Writer<'_>, n: u32)
-    ensures { SpellsDefinition records.entry n (PlainIs n) w.old w.new }
-{
-    define(records, w, n, n, lines::put_body)
-}
+impl Line for Definition<'_> {
+    ghost written = { λ term. SpellsDefinition term.records term.number (BodyIs term.number term.body) };
 
-// The term with number n, the option of the term with number m.
-pub fn put_some(records: Records<'_>, w: &mut Writer<'_>, n: u32, m: u32)
-    ensures { SpellsDefinition records.entry n (SomeIs n m) w.old w.new }
-{
-    define(records, w, n, m, values::put_some)
-}
-
-// A set.
-pub fn put_set(records: Records<'_>, w: &mut Writer<'_>, term: Compound<'_>)
-    ensures { SpellsDefinition records.entry term.entry.number (SetIs term.entry.number (children_in term.entry.children)) w.old w.new }
-{
-    define(records, w, term.number, term, values::put_set)
-}
-
-// A record.
-pub fn put_record(records: Records<'_>, w: &mut Writer<'_>, term: Compound<'_>)
-    ensures { SpellsDefinition records.entry term.entry.number (RecordIs term.entry.number (children_in term.entry.children)) w.old w.new }
-{
-    define(records, w, term.number, term, values::put_record)
-}
-
-// An application, by its operator.
-pub fn put_application(records: Records<'_>, w: &mut Writer<'_>, call: Application<'_>)
-    ensures { SpellsDefinition records.entry call.entry.number (OrdinaryIs call.entry) w.old w.new }
-{
-    define(records, w, call.number, call, put_operator)
-}
-
-// The application with number n, as the comparison of its argument with the least signed number of a width.
-pub fn put_comparison(records: Records<'_>, w: &mut Writer<'_>, n: u32, compared: Comparison<'_>)
-    ensures { SpellsDefinition records.entry n (ComparisonIs n compared.entry.width (children_in compared.entry.arguments)) w.old w.new }
-{
-    define(records, w, n, compared, put_compared)
+    fn write(self, w: &mut Writer<'_>) {
+        lines::put_head(self.records, w, self.number);
+        put_body(self.records, w, self.number, self.body);
+        w.put(b")\n")
+    }
 }

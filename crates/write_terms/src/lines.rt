@@ -8,7 +8,7 @@ use index::Records;
 use index_entry::terms::TermEntry;
 use smtlib_script::line::{self, Word};
 use walk_queries::queries::Member;
-use write_bytes::writer::Writer;
+use write_bytes::writer::{Line, Writer};
 
 // Writes an entity of the type with number t, which is no enum, by its id.
 fn put_constructed(records: Records<'_>, w: &mut Writer<'_>, t: u32, id: &[u8])
@@ -66,39 +66,60 @@ fn put_id(w: &mut Writer<'_>, id: &[u8])
     w.put_byte(b'\n')
 }
 
-// Writes the declaration of the term with number n by its name and its sort as a line.
-fn put_const(records: Records<'_>, w: &mut Writer<'_>, n: u32)
-    ensures { SpellsConst records.entry n w.old w.new }
-{
-    line::put_word(w, Word::DeclareConst);
-    write_atoms::parts::put_term_name(records, w, n);
-    w.put_byte(b' ');
-    values::put_term_sort(records, w, n);
-    w.put(b")\n")
+// The declaration of the term with this number by its name and its sort.
+#[derive(Clone, Copy)]
+struct ConstDeclaration<'a> {
+    records: Records<'a>,
+    number: u32,
 }
 
-// Declares the term with number n, if that is a variable: its id in a comment, and its declaration in the rest. Past the limit its record is
-// not read.
-pub fn put_declaration(records: Records<'_>, w: &mut Writer<'_>, n: u32)
-    ensures { SpellsVariable records.entry n w.old w.new }
-{
-    if w.is_past() {
-        return;
-    }
-    if let TermEntry::Var(id, _) = index_entry::numbered_terms::term_at(records, n) {
-        put_id(w, id);
-        w.lend(records, n, put_const)
+impl Line for ConstDeclaration<'_> {
+    ghost written = { λ term. SpellsConst term.records term.number };
+
+    fn write(self, w: &mut Writer<'_>) {
+        line::put_word(w, Word::DeclareConst);
+        write_atoms::parts::put_term_name(self.records, w, self.number);
+        w.put_byte(b' ');
+        values::put_term_sort(self.records, w, self.number);
+        w.put(b")\n")
     }
 }
 
-// Writes the assertion of the term with number n as a line.
-pub fn put_assertion(records: Records<'_>, w: &mut Writer<'_>, n: u32)
-    ensures { SpellsAssertion records.entry n w.old w.new }
-{
-    if w.is_past() {
-        return;
+// The lines that declare the term with this number, if that is a variable: its id in a comment, and its declaration in the rest.
+#[derive(Clone, Copy)]
+pub struct VariableLines<'a> {
+    pub records: Records<'a>,
+    pub number: u32,
+}
+
+impl Line for VariableLines<'_> {
+    ghost written = { λ term. SpellsVariable term.records term.number };
+
+    fn write(self, w: &mut Writer<'_>) {
+        let term = index_entry::numbered_terms::term_at(self.records, self.number);
+        if let TermEntry::Var(id, _) = term {
+            put_id(w, id);
+            w.lend(ConstDeclaration {
+                records: self.records,
+                number: self.number,
+            })
+        }
     }
-    line::put_word(w, Word::Assert);
-    write_atoms::atoms::put_atom(records, w, n);
-    w.put(b")\n")
+}
+
+// The assertion of the term with this number.
+#[derive(Clone, Copy)]
+pub struct Assertion<'a> {
+    pub records: Records<'a>,
+    pub number: u32,
+}
+
+impl Line for Assertion<'_> {
+    ghost written = { λ term. SpellsAssertion term.records term.number };
+
+    fn write(self, w: &mut Writer<'_>) {
+        line::put_word(w, Word::Assert);
+        write_atoms::atoms::put_atom(self.records, w, self.number);
+        w.put(b")\n")
+    }
 }

@@ -6,7 +6,7 @@ use mathlib.Core.List.{[], ◌∷◌, ◌++◌, append_assoc}
 use Prim.Native.Nat.{ℕ, suc, ◌+◌, ◌≤◌, ◌<◌}
 use native.Mathlib.Numerals.{add-one}
 use native.Mathlib.Omega.{arith}
-use lib.ListN.{length, take, drop, get_or, drop_of_length-le}
+use lib.ListN.{length, take, drop, get_or}
 use lib.Seq.{take-suc, drop-cons}
 use Rattle.script_spec.specs.Base.{Bytes, between}
 use Rattle.script_spec.specs.Text.{begun, cut_after}
@@ -36,9 +36,6 @@ pub record Kept (s : Bytes) (n at sum : ℕ) : Type 0 where
   pub few : sum ≤ 200
   pub goes : (r : Bytes) → cut_after n (s ++ r) ≡ take at s ++ cut_after sum (drop at s ++ r)
 
-pub kept_none : (s : Bytes) (n : ℕ) → n ≤ 200 → Kept s n 0 n
-kept_none s n h = record { inside = omega arith; few = h; goes = λ r. refl }
-
 module _ {s : Bytes} {n at sum d : ℕ} (h : at < length s) (e : d ≡ begun (get_or s at 0)) (k : Kept s n at sum) where
   here : (r : Bytes) → drop at s ++ r ≡ get_or s at 0 ∷ (drop (suc at) s ++ r)
   here r = ap (λ (l : Bytes). l ++ r) (drop-cons s at 0 h)
@@ -62,9 +59,3 @@ module _ {s : Bytes} {n at sum d : ℕ} (h : at < length s) (e : d ≡ begun (ge
         ∙ ap (λ (t : Bytes). take at s ++ cut_after sum t) (here r)
         ∙ ap (λ (t : Bytes). take at s ++ t) (cut_off sum (get_or s at 0) (drop (suc at) s ++ r) (rw (← e) l) ∙ sym (cut_over (sum + d) r l));
   }
-
-pub kept_all : {s : Bytes} {n at sum : ℕ} → length s ≤ at → Kept s n at sum → Cuts s n (record { end = at; points = sum })
-kept_all {s} {n} {at} {sum} h k = record {
-  inside = k.inside;
-  kept = λ r. k.goes r ∙ ap (λ (t : Bytes). take at s ++ cut_after sum (t ++ r)) (drop_of_length-le s h);
-}

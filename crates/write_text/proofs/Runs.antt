@@ -3,21 +3,25 @@
 use mathlib.Core.Path.{◌≡◌, refl, sym, ap, ◌∙◌}
 use mathlib.Core.Bool.{Bool, true, false, not, ◌||◌}
 use mathlib.Core.List.{List, [], ◌∷◌, ◌++◌}
-use Prim.Native.Nat.{ℕ, ◌+◌, ◌-◌, ◌≤◌, ◌<◌, min}
+use Prim.Native.Nat.{ℕ, zero, suc, ◌+◌, ◌-◌, ◌≤◌, ◌<◌}
 use native.Mathlib.Numerals.{add-one}
 use native.Mathlib.Omega.{arith}
 use lib.Dec.{T, eqb}
 use borrow.Author.Tests.{eqb-false, not-false}
-use lib.ListN.{length, take, drop, get_or, length-take, length-drop, take-append-drop, drop_of_length-le}
+use lib.ListN.{length, take, drop, get_or, length-drop, take-append-drop, drop_of_length-le}
 use lib.Seq.{take-suc, take_all, drop-drop, drop-cons}
-use Rattle.std.proofs.lemmas.List.{take-take}
+use Rattle.std.specs.Prelude.{Option, None, Some}
+use Rattle.std.specs.List.{AllWithin, HoldsAt}
+use Rattle.std.specs.Option.{MatchOption, unwrap_or}
 use Rattle.script_spec.specs.Base.{Bytes, between, all, collect}
-use Rattle.script_spec.specs.Text.{literal, escaped, debug, is_control, space_if, blanked}
-use Rattle.script_spec.specs.Utf8.{is_utf8}
+use Rattle.script_spec.specs.Text.{literal, escaped, is_control, space_if, blanked}
 use Rattle.script_spec.proofs.Laws.{all_append, and_parts, is_false, or_false}
+use Rattle.write_bytes.specs.declared.writer.Writer.{Writer}
+use Rattle.write_bytes.specs.Writers.{Writes}
+use Rattle.write_bytes.proofs.Loop.{Along, along_step}
 use Rattle.read_utf8.specs.declared.CodePoints.{CodePoints}
 use Rattle.read_utf8.specs.Decoding.{points}
-use Rattle.read_utf8.proofs.Laws.{points_ascii, utf8_points, PointAt}
+use Rattle.read_utf8.proofs.Laws.{points_ascii, PointAt}
 use Rattle.write_text.specs.declared.Quotes.{Quotes}
 use Rattle.write_text.specs.declared.Quotes.TheVariants.{Literal, Debug}
 use Rattle.write_text.specs.declared.Place.TheVariants.{Comment}
@@ -30,22 +34,26 @@ unfolding all
 keeps_one stop b h = rw h tt
 
 module _ {stop : ℕ → Bool} {s : Bytes} where
-  pub passed_none : Passed stop s 0
+  passed_none : Passed stop s 0
   unfolding all
   passed_none = record { inside = omega arith; keeps = tt }
 
-  pub passed_more : {i : ℕ} → i < length s → stop (get_or s i 0) ≡ false → Passed stop s i → Passed stop s (i + 1)
+  passed_more : {i : ℕ} → i < length s → stop (get_or s i 0) ≡ false → Passed stop s i → Passed stop s (suc i)
   passed_more {i} h k p = record {
     inside = omega arith;
-    keeps = rw (add-one, take-suc s i 0 h) (all_append (λ c. not (stop c)) (take i s) (get_or s i 0 ∷ []) p.keeps (keeps_one stop (get_or s i 0) k));
+    keeps = rw (take-suc s i 0 h) (all_append (λ c. not (stop c)) (take i s) (get_or s i 0 ∷ []) p.keeps (keeps_one stop (get_or s i 0) k));
   }
 
--- a run at the start of a part at the start
-pub passed_take : {stop : ℕ → Bool} (s : Bytes) {n : ℕ} (m : ℕ) → Passed stop (take m s) n → Passed stop s n
-passed_take {stop} s {n} m p =
-    let short : n ≤ min m (length s) = rw length-take at p.inside in
-    let same : take n (take m s) ≡ take n s = take-take n m s (omega (arith, short)) in
-    record { inside = omega arith; keeps = rw same at p.keeps }
+  -- as far as each byte is no stop
+  passed_until : (n : ℕ) → n ≤ length s → AllWithin (λ b. stop b ≡ false) s 0 n → Passed stop s n
+  passed_until zero h k = passed_none
+  passed_until (suc n) h k = passed_more (omega arith) (k n 0 (omega arith) (omega arith)) (passed_until n (omega arith) (λ i d l m. k i d l (omega arith)))
+
+  -- up to the first stop, as an iterator's `position` finds it
+  pub passed_first : (r : Option ℕ) {n : ℕ} → n ≡ unwrap_or r (length s)
+      → MatchOption r (AllWithin (λ b. stop b ≡ false) s 0 (length s)) (λ i. (i < length s) × HoldsAt (λ b. stop b ≡ true) s i × AllWithin (λ b. stop b ≡ false) s 0 i) → Passed stop s n
+  passed_first None e k = rw e (passed_until (length s) (omega arith) k)
+  passed_first (Some i) e k = rw e (passed_until i (omega (arith, k.0)) k.2)
 
 -- the part of a text from a place on, as it is lent
 lent : (s : Bytes) (at : ℕ) → take (length s - at) (drop at s) ≡ drop at s
@@ -83,11 +91,17 @@ points_run quotes (b ∷ r) s h =
     let l : b ≤ 126 = printable_small b (plain_parts b e).2 in
     rw (points_ascii b (r ++ s) (omega arith), ← spelling_plain quotes b e) (ap (λ (t : Bytes). b ∷ t) (points_run quotes r s q.1))
 
-pub points_passed : (s : Bytes) (at : ℕ) {n : ℕ} (quotes : Quotes) → Passed (stops place.Quotes) (take (length s - at) (drop at s)) n
+points_passed : (s : Bytes) (at : ℕ) {n : ℕ} (quotes : Quotes) → Passed (stops place.Quotes) (take (length s - at) (drop at s)) n
     → collect (spelling quotes) (points (drop at s)) ≡ take n (take (length s - at) (drop at s)) ++ collect (spelling quotes) (points (drop (at + n) s))
 points_passed s at {n} quotes p =
     let run = rw (lent s at) at p in
     rw (lent s at) (ap (λ (t : Bytes). collect (spelling quotes) (points t)) (run_split s at n) ∙ points_run quotes (take n (drop at s)) (drop (at + n) s) run.keeps)
+
+-- a run of the rest is written
+pub points_on : {v w x : Writer} (quotes : Quotes) (c : CodePoints) {n : ℕ} {whole : Bytes} → Along v w (collect (spelling quotes) (points (drop c.at c.text.now))) whole
+    → Passed (stops place.Quotes) (take (length c.text.now - c.at) (drop c.at c.text.now)) n → Writes w x (take n (take (length c.text.now - c.at) (drop c.at c.text.now)))
+    → Along v x (collect (spelling quotes) (points (drop (c.at + n) c.text.now))) whole
+points_on quotes c l p f = along_step l (points_passed c.text.now c.at quotes p) f
 
 pub points_next : {v : ℕ} {c d : CodePoints} (quotes : Quotes) → PointAt c d v
     → collect (spelling quotes) (points (drop c.at c.text.now)) ≡ spelling quotes v ++ collect (spelling quotes) (points (drop d.at d.text.now))
@@ -102,11 +116,6 @@ pub quoted_literal : (cs : List ℕ) → quoted Literal cs ≡ literal cs
 unfolding quoted spelling literal escaped
 quoted_literal cs = refl
 
--- an id that is UTF-8
-pub quoted_debug : (id : Bytes) → is_utf8 id ≡ true → quoted Debug (points id) ≡ debug id
-unfolding quoted spelling debug
-quoted_debug id h = rw (utf8_points id h)
-
 -- ---- texts with spaces for control characters
 
 blanked_run : (r s : Bytes) → T (all (λ b. not (stops Comment b)) r) → blanked (r ++ s) ≡ r ++ blanked s
@@ -116,10 +125,15 @@ blanked_run (b ∷ r) s h =
     let q = and_parts (not (stops Comment b)) (all (λ c. not (stops Comment c)) r) h in
     rw (is_false (stops Comment b) q.0) (ap (λ (t : Bytes). b ∷ t) (blanked_run r s q.1))
 
-pub blanked_passed : (s : Bytes) (at : ℕ) {n : ℕ} → Passed (stops Comment) (take (length s - at) (drop at s)) n → blanked (drop at s) ≡ take n (take (length s - at) (drop at s)) ++ blanked (drop (at + n) s)
+blanked_passed : (s : Bytes) (at : ℕ) {n : ℕ} → Passed (stops Comment) (take (length s - at) (drop at s)) n → blanked (drop at s) ≡ take n (take (length s - at) (drop at s)) ++ blanked (drop (at + n) s)
 blanked_passed s at {n} p =
     let run = rw (lent s at) at p in
     rw (lent s at) (ap blanked (run_split s at n) ∙ blanked_run (take n (drop at s)) (drop (at + n) s) run.keeps)
+
+-- a run of the rest is written
+pub blanked_on : {v w x : Writer} (s : Bytes) (from : ℕ) {n : ℕ} {whole : Bytes} → Along v w (blanked (drop from s)) whole → Passed (stops Comment) (take (length s - from) (drop from s)) n
+    → Writes w x (take n (take (length s - from) (drop from s))) → Along v x (blanked (drop (from + n) s)) whole
+blanked_on s from l p f = along_step l (blanked_passed s from p) f
 
 pub blanked_byte : (s : Bytes) (to : ℕ) {b : ℕ} → b ≡ space_if (is_control (get_or s to 0)) (get_or s to 0) → to < length s → blanked (drop to s) ≡ (b ∷ []) ++ blanked (drop (to + 1) s)
 unfolding blanked

@@ -116,12 +116,7 @@ fn is_stop(place: Place, b: u8) -> bool
 fn run(place: Place, s: &[u8]) -> usize
     ensures { Passed (stops place) s.now result }
 {
-    for (i, b) in s.iter().enumerate() {
-        if is_stop(place, *b) {
-            return i;
-        }
-    }
-    s.len()
+    s.iter().position(|b| is_stop(place, *b)).unwrap_or(s.len())
 }
 
 // Writes the bytes at the start of a text that are written as they are, as far as there is room, and tells how many they are.

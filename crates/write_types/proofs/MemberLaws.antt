@@ -11,7 +11,6 @@ use Rattle.script_spec.specs.Base.{Bytes, bytes, joined}
 use Rattle.script_spec.specs.Text.{decimal}
 use Rattle.script_spec.specs.Command.{line, spelled, headed, listed, spaced, constructor_list, datatype_body, declare_datatype}
 use Rattle.script_spec.specs.Spelling.{member_name, numbered_from, entity_constructors}
-use denote.Ref.{MutBor}
 use Rattle.write_bytes.specs.Writers.{Writes, Lends}
 use Rattle.write_bytes.specs.declared.writer.Writer.{Writer}
 use Rattle.write_bytes.proofs.Laws.{◌then◌, says}
@@ -72,8 +71,8 @@ spells_enum A N B M C = record {
 }
 
 -- the declaration of an enum in the rest of the script
-pub enum_lent : {name : Option ℕ} {n : ℕ} {v w : Writer} {P : MutBor Writer → MutBor Writer → Type 0} → ((x y : MutBor Writer) → P x y → SpellsEnum name n x.now y.now) → Lends P v w → SpellsEnum name n v w
-enum_lent h L = record { same = continues_lent L; go = λ ms e. lent (λ x y p. (h x y p).go ms e) L }
+pub enum_lent : {name : Option ℕ} {n : ℕ} {v w : Writer} → Lends (SpellsEnum name n) v w → SpellsEnum name n v w
+enum_lent L = record { same = continues_lent L; go = λ ms e. lent (λ x y p. p.go ms e) L }
 
 -- a declaration by its name and its constructors
 pub datatype_pieces : (n : Bytes) (cs : List Bytes) → bytes "(declare-datatype " ++ (spaced (n ∷ constructor_list cs ∷ []) ++ bytes ")\n") ≡ line (declare_datatype n [] cs)

@@ -1,18 +1,18 @@
 -- The parts of a record type, one after the other: what is left, after what was written, makes the whole.
 -- Assumes nothing.
-use mathlib.Core.Path.{◌≡◌, refl, sym, ap, ◌∙◌}
+use mathlib.Core.Path.{◌≡◌, refl, sym, ◌∙◌}
 use mathlib.Core.List.{List, [], ◌∷◌, ◌++◌, append_assoc, append-nil}
-use Prim.Native.Nat.{ℕ, zero, suc, ◌+◌, ◌-◌, ◌<◌, ◌≤◌}
+use Prim.Native.Nat.{ℕ, suc, ◌+◌, ◌<◌}
 use native.Mathlib.Numerals.{add-one}
 use native.Mathlib.Omega.{arith}
 use mathlib.Core.Option.{Option}
 use lib.Dec.{ltb}
-use lib.ListN.{length, drop}
+use lib.ListN.{length}
 use Rattle.script_spec.specs.Base.{Bytes, bytes, joined}
 use Rattle.index.specs.First.{All, Below}
-use Rattle.script_spec.specs.File.{TermFile, types, type_at}
+use Rattle.script_spec.specs.File.{TermFile, types}
 use Rattle.script_spec.specs.Command.{headed, spaced, line, spelled, datatype_body, constructor_list, declare_datatype}
-use Rattle.script_spec.specs.Spelling.{Names, sort, attribute_name, numbered_from, record_constructor}
+use Rattle.script_spec.specs.Spelling.{Names, attribute_name, numbered_from, record_constructor}
 use Rattle.script_spec.specs.Walk.{State, names}
 use Rattle.write_bytes.specs.Writers.{Writes}
 use Rattle.write_bytes.specs.declared.writer.Writer.{Writer}
@@ -65,9 +65,9 @@ module _ {records : Records} {ty : RecordType} {v : Writer} where
           (along_step left.0 (rw (add-one i)) (A.go f S I N left.1.0), left.1.1);
     }
 
-    -- the number of the part after it fits
-    pub parts_fit : {p : ℕ} {ps : List ℕ} → children_in c ≡ p ∷ ps → ty.attributes.left < 4294967296 → i + 1 < 4294967296
-    parts_fit {ps = ps} e fits = let s : i + suc (length ps) ≡ ty.attributes.left = rw e at L.sum in omega arith
+    -- the numbers of the parts that are left fit
+    pub parts_fit : ty.attributes.left < 4294967296 → i + length (children_in c) < 18446744073709551616
+    parts_fit fits = rw L.sum (omega arith)
 
     pub parts_past : {b : Bool} → b ≡ ltb (ceiling w.limit) w.at → b ≡ true → SpellsParts records ty v w
     parts_past e h = record { same = L.same; go = λ f S I N b. along_past (L.go f S I N b).0 e h }

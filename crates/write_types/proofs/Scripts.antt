@@ -2,7 +2,7 @@
 -- Assumes nothing.
 use mathlib.Core.Path.{◌≡◌}
 use mathlib.Core.List.{List, [], ◌∷◌, ◌++◌, map, append-nil}
-use mathlib.Core.Option.{Option, some}
+use mathlib.Core.Option.{Option}
 use Prim.Native.Nat.{ℕ}
 use Rattle.script_spec.specs.Base.{Bytes, place, collect}
 use Rattle.script_spec.specs.Tree.{Ty, ExtType, Enums, Datatype, entity, extension, record_of, Declared, node, nil, forest, children, eq_ty, datatype, datatype_mark}

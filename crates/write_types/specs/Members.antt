@@ -1,7 +1,7 @@
 -- The constructors of an enum's members, and what writing them promises.
 -- Assumes nothing.
 use Rattle.std.specs.Prelude.{ℕ, zero, suc, ◌≡◌, List, [], ◌∷◌, ◌++◌, length}
-use Rattle.std.proofs.Math.Option.{Option, some}
+use Rattle.std.proofs.Math.Option.{Option, none, some}
 use Rattle.script_spec.specs.Base.{Bytes, bytes, joined}
 use Rattle.script_spec.specs.Command.{line, listed, declare_datatype}
 use Rattle.script_spec.specs.Spelling.{member_name, entity_constructors}
@@ -22,6 +22,10 @@ member_text name i = bytes "\n  " ++ listed (member_name name i ∷ [])
 unfoldable pub members_text : Bytes → ℕ → ℕ → Bytes
 members_text name i zero = []
 members_text name i (suc n) = member_text name i ++ members_text name (suc i) n
+
+-- the declaration of an entity type that is no enum is written as a line
+abbrev pub SpellsEntity : Option ℕ → Writer → Writer → Type 0
+SpellsEntity name v w = Writes v w (line (declare_datatype (entity_symbol name) [] (entity_constructors (entity_symbol name) none)))
 
 -- the constructors of an enum with n members are written, each on a line of its own
 pub record SpellsMembers (name : Option ℕ) (n : ℕ) (v w : Writer) : Type 0 where

@@ -1,18 +1,17 @@
 // The declarations of entity types, enums and extension types.
 
 ghost use Rattle.std.specs.Prelude.{[], ◌∷◌};
-ghost use Rattle.std.proofs.Math.Option.{none};
 ghost use Rattle.script_spec.specs.Command.{line, spaced, constructor_list, declare_datatype};
-ghost use Rattle.script_spec.specs.Spelling.{ext_name, ext_constructors, entity_constructors};
+ghost use Rattle.script_spec.specs.Spelling.{ext_name, ext_constructors};
 ghost use Rattle.write_bytes.specs.Writers.{Writes};
 ghost use Rattle.walk_names.specs.Naming.{place_said};
 ghost use Rattle.index_entry.specs.Types.{ext_type_said};
-ghost use Rattle.write_types.specs.Members.{entity_symbol, member_text, members_text, SpellsMembers, SpellsEnum};
+ghost use Rattle.write_types.specs.Members.{entity_symbol, member_text, members_text, SpellsEntity, SpellsMembers, SpellsEnum};
 
 use index_entry::types::ExtType;
 use smtlib_script::line::Word;
 use walk_names::naming;
-use write_bytes::writer::Writer;
+use write_bytes::writer::{Line, Writer};
 
 // The name and the constructors of an extension type.
 fn put_ext_type(w: &mut Writer<'_>, x: ExtType)
@@ -37,17 +36,24 @@ pub fn declare_ext_type(w: &mut Writer<'_>, x: ExtType)
     w.put(b")\n")
 }
 
-// Writes the declaration of an entity type that is no enum as a line, by its name.
-pub fn put_entity_declaration(w: &mut Writer<'_>, name: Option<u32>)
-    ensures { Writes w.old w.new (line (declare_datatype (entity_symbol (place_said name)) [] (entity_constructors (entity_symbol (place_said name)) none))) }
-{
-    smtlib_script::line::put_word(w, Word::DeclareDatatype);
-    naming::put_name(w, b'E', name);
-    w.put(b" (\n  (");
-    naming::put_name(w, b'E', name);
-    w.put(b" (");
-    naming::put_name(w, b'E', name);
-    w.put(b"_eid String))))\n")
+// The declaration of an entity type that is no enum, by its name.
+#[derive(Clone, Copy)]
+pub struct EntityDeclaration {
+    pub name: Option<u32>,
+}
+
+impl Line for EntityDeclaration {
+    ghost written = { λ type. SpellsEntity (place_said type.name) };
+
+    fn write(self, w: &mut Writer<'_>) {
+        smtlib_script::line::put_word(w, Word::DeclareDatatype);
+        naming::put_name(w, b'E', self.name);
+        w.put(b" (\n  (");
+        naming::put_name(w, b'E', self.name);
+        w.put(b" (");
+        naming::put_name(w, b'E', self.name);
+        w.put(b"_eid String))))\n")
+    }
 }
 
 // Writes the constructor of the i-th member on a line of its own.
@@ -83,13 +89,21 @@ fn put_lines(w: &mut Writer<'_>, name: Option<u32>, n: u32)
     put_members(w, name, n)
 }
 
-// Writes the declaration of an enum with n members as a line.
-pub fn put_enum_declaration(w: &mut Writer<'_>, name: Option<u32>, n: u32)
-    ensures { SpellsEnum (place_said name) n w.old w.new }
-{
-    smtlib_script::line::put_word(w, Word::DeclareDatatype);
-    naming::put_name(w, b'E', name);
-    w.put(b" (");
-    put_lines(w, name, n);
-    w.put(b"))\n")
+// The declaration of an enum, by its name and how many members it has.
+#[derive(Clone, Copy)]
+pub struct EnumDeclaration {
+    pub name: Option<u32>,
+    pub members: u32,
+}
+
+impl Line for EnumDeclaration {
+    ghost written = { λ type. SpellsEnum (place_said type.name) type.members };
+
+    fn write(self, w: &mut Writer<'_>) {
+        smtlib_script::line::put_word(w, Word::DeclareDatatype);
+        naming::put_name(w, b'E', self.name);
+        w.put(b" (");
+        put_lines(w, self.name, self.members);
+        w.put(b"))\n")
+    }
 }

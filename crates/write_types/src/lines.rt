@@ -4,18 +4,19 @@ ghost use Rattle.write_bytes.specs.Writers.{Writes};
 ghost use Rattle.walk_names.specs.Naming.{place_said};
 ghost use Rattle.write_types.specs.Lines.{entity_lines, SpellsRecordLines, SpellsEnumLines, SpellsEntityLines, SpellsType};
 
-use crate::records::{self, RecordType};
+use crate::datatypes::{EntityDeclaration, EnumDeclaration};
+use crate::records::{self, RecordDeclaration, RecordType};
 use index::{Column, Records};
 use index_entry::types::TypeEntry;
 use walk_names::naming::{self, Named};
-use write_bytes::writer::Writer;
+use write_bytes::writer::{Line, Writer};
 
 // Declares a record type.
 fn declare_record_type(records: Records<'_>, w: &mut Writer<'_>, ty: RecordType<'_>)
     ensures { SpellsRecordLines records.entry ty.entry w.old w.new }
 {
     records::put_record_comment(w, ty.attributes);
-    w.lend(records, ty, records::put_record_declaration)
+    w.lend(RecordDeclaration { records, ty })
 }
 
 // Declares the entity type `text`, whose members are those of the enum with number i.
@@ -30,8 +31,9 @@ fn declare_enum_type(
 {
     let members = index_entry::symbols::enum_at(records.file, records.get(Column::EnumOffset, i));
     crate::datatype_comments::put_enum_comment(w, text, members);
-    w.lend(name, members.left, |name, w, n| {
-        crate::datatypes::put_enum_declaration(w, name, n)
+    w.lend(EnumDeclaration {
+        name,
+        members: members.left,
     })
 }
 
@@ -40,9 +42,7 @@ fn declare_plain_type(w: &mut Writer<'_>, text: &[u8], name: Option<u32>)
     ensures { Writes w.old w.new (entity_lines text.now (place_said name) none) }
 {
     smtlib_script::line::comment(w, text);
-    w.lend((), name, |_, w, name| {
-        crate::datatypes::put_entity_declaration(w, name)
-    })
+    w.lend(EntityDeclaration { name })
 }
 
 // Declares the entity type `text`, which is an enum if one of the file's enums has its name.
@@ -55,22 +55,27 @@ fn declare_entity_type(records: Records<'_>, w: &mut Writer<'_>, text: &[u8], na
     }
 }
 
-// Writes what declares the type with number t: nothing for one that is no datatype. Past the limit it is not looked at.
-pub fn put_type_lines(records: Records<'_>, w: &mut Writer<'_>, t: u32)
-    ensures { SpellsType records.entry t w.old w.new }
-{
-    if w.is_past() {
-        return;
-    }
-    let name = naming::get(records, Named::Types, t);
-    match index_entry::numbered::type_at(records, t) {
-        TypeEntry::Entity(text) => declare_entity_type(records, w, text, name),
-        TypeEntry::Ext(x) => crate::datatypes::declare_ext_type(w, x),
-        TypeEntry::Record(attributes) => declare_record_type(
-            records,
-            w,
-            RecordType { name, attributes },
-        ),
-        _ => {}
+// The lines that declare the type with this number: none for one that is no datatype.
+#[derive(Clone, Copy)]
+pub struct TypeLines<'a> {
+    pub records: Records<'a>,
+    pub number: u32,
+}
+
+impl Line for TypeLines<'_> {
+    ghost written = { λ type. SpellsType type.records type.number };
+
+    fn write(self, w: &mut Writer<'_>) {
+        let name = naming::get(self.records, Named::Types, self.number);
+        match index_entry::numbered::type_at(self.records, self.number) {
+            TypeEntry::Entity(text) => declare_entity_type(self.records, w, text, name),
+            TypeEntry::Ext(x) => crate::datatypes::declare_ext_type(w, x),
+            TypeEntry::Record(attributes) => declare_record_type(
+                self.records,
+                w,
+                RecordType { name, attributes },
+            ),
+            _ => {}
+        }
     }
 }

@@ -13,7 +13,7 @@ use index::Records;
 use index_entry::terms::Children;
 use smtlib_script::line::Word;
 use walk_names::naming;
-use write_bytes::writer::Writer;
+use write_bytes::writer::{Line, Writer};
 use write_text::comment::Comment;
 
 // A record type as it is declared: its name, and its attributes with their types.
@@ -24,17 +24,17 @@ pub struct RecordType<'a> {
 }
 
 // Writes the start of the i-th part of the record type with this name: its selector.
-fn put_selector(w: &mut Writer<'_>, name: Option<u32>, i: u32)
+fn put_selector(w: &mut Writer<'_>, name: Option<u32>, i: usize)
     ensures { Writes w.old w.new (bytes " (" ++ attribute_name (record_name (place_said name)) i) }
 {
     w.put(b" (");
     naming::put_name(w, b'R', name);
     w.put(b"_a");
-    write_numeral::put_decimal(w, u64::from(i))
+    write_numeral::put_decimal(w, i as u64)
 }
 
 // Writes the i-th part of the record type with this name, which has the type with number p.
-fn put_part(records: Records<'_>, w: &mut Writer<'_>, name: Option<u32>, i: u32, p: u32)
+fn put_part(records: Records<'_>, w: &mut Writer<'_>, name: Option<u32>, i: usize, p: u32)
     ensures { SpellsPart records.entry (place_said name) i p w.old w.new }
 {
     put_selector(w, name, i);
@@ -47,13 +47,11 @@ fn put_part(records: Records<'_>, w: &mut Writer<'_>, name: Option<u32>, i: u32,
 fn put_parts(records: Records<'_>, w: &mut Writer<'_>, name: Option<u32>, attributes: Children<'_>)
     ensures { SpellsParts records.entry (record { name = name; attributes = attributes.entry }) w.old w.new }
 {
-    let mut i = 0;
-    for part in attributes {
+    for (i, part) in attributes.enumerate() {
         if w.is_past() {
             return;
         }
         put_part(records, w, name, i, part);
-        i += 1;
     }
 }
 
@@ -67,16 +65,24 @@ fn put_spaced_parts(records: Records<'_>, w: &mut Writer<'_>, ty: RecordType<'_>
     put_parts(records, w, ty.name, ty.attributes)
 }
 
-// Writes the declaration of a record type as a line.
-pub fn put_record_declaration(records: Records<'_>, w: &mut Writer<'_>, ty: RecordType<'_>)
-    ensures { SpellsRecordType records.entry ty.entry w.old w.new }
-{
-    smtlib_script::line::put_word(w, Word::DeclareDatatype);
-    naming::put_name(w, b'R', ty.name);
-    w.put(b" (\n  (");
-    naming::put_name(w, b'R', ty.name);
-    put_spaced_parts(records, w, ty);
-    w.put(b")))\n")
+// The declaration of a record type.
+#[derive(Clone, Copy)]
+pub struct RecordDeclaration<'a> {
+    pub records: Records<'a>,
+    pub ty: RecordType<'a>,
+}
+
+impl Line for RecordDeclaration<'_> {
+    ghost written = { λ declared. SpellsRecordType declared.records declared.ty };
+
+    fn write(self, w: &mut Writer<'_>) {
+        smtlib_script::line::put_word(w, Word::DeclareDatatype);
+        naming::put_name(w, b'R', self.ty.name);
+        w.put(b" (\n  (");
+        naming::put_name(w, b'R', self.ty.name);
+        put_spaced_parts(self.records, w, self.ty);
+        w.put(b")))\n")
+    }
 }
 
 // Writes the comment of a record type with these attributes as a line.

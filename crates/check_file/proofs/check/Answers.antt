@@ -3,12 +3,12 @@
 use mathlib.Core.Path.{ap, ◌∙◌}
 use Prim.Native.Nat.{ℕ}
 use lib.ListN.{replicate}
-use Rattle.std.proofs.lemmas.Result.{err_from_is_err_and}
+use Rattle.read_field.proofs.Laws.{handed_on}
 use Rattle.check_file.proofs.Checking.{check_refused, check_accepted}
 use Rattle.check_file.proofs.check.Goals as goal
 
 pub returns-in_err-fill : goal.returns-in_err-fill
-returns-in_err-fill c = let p = err_from_is_err_and c.from_residual.result c.from_residual.ensures.1 in rw (p.1, p.2) (check_refused _ _ c.in_err-fill.ensures)
+returns-in_err-fill c = rw (handed_on _ c.from_residual.ensures.1) (check_refused _ _ c.in_err-fill.ensures)
 
 pub returns : goal.returns
-returns c = check_accepted _ _ _ _ c.in_ok-fill.ensures (c.clear.ensures ∙ ap (λ (m : ℕ). replicate m 0) c.fill.auto.work)
+returns c = check_accepted _ _ _ _ c.in_ok-fill.ensures (c.fill-2.ensures.after (λ y e. e) ∙ ap (λ (m : ℕ). replicate m 0) c.fill.auto.work)

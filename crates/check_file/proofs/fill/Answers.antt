@@ -2,9 +2,10 @@
 -- Assumes nothing.
 use mathlib.Core.Path.{refl, sym, ap, ◌∙◌}
 use native.Mathlib.Omega.{arith}
+use Rattle.std.proofs.Common.{rules}
 use Rattle.index.specs.declared.Sizes.{Sizes}
 use Rattle.check_file.proofs.Loop.{begins, same_length}
-use Rattle.check_file.proofs.Filling.{fills_long, fills_narrow, fills_done, fills_broken}
+use Rattle.check_file.proofs.Filling.{fills_long, fills_narrow, fills_done, fills_broken, reached}
 use Rattle.check_file.proofs.fill.Goals as goal
 
 pub returns-then-file-gt-MOST_BYTES : goal.returns-then-file-gt-MOST_BYTES
@@ -20,12 +21,12 @@ pub returns-in-Ok : goal.returns-in-Ok
 returns-in-Ok c =
     let B = c.clear_column.ensures in
     let E = c.in-Ok.ensures in
-    rw (c.work-in-Ok-1.given.1.1 (sym (c.enter_all.ensures.kept.lent ∙ B.lent)))
-    (fills_done _ _ (ap (λ x. x.now) B.file_is) (omega arith) (omega arith) E (ap (λ (s : Sizes). s.rows) B.sizes_are ∙ c.capacity.ensures))
+    fills_done _ _ (ap (λ x. x.now) B.file_is) (omega arith) (omega arith) E (ap (λ (s : Sizes). s.rows) B.sizes_are ∙ c.capacity.ensures)
+    (reached (sym (c.enter_all.ensures.kept.lent ∙ B.lent)) (λ a. grind rules))
 
 pub returns-in-Err : goal.returns-in-Err
 returns-in-Err c =
     let B = c.clear_column.ensures in
     let E = c.in-Err.ensures in
-    rw (c.work-in-Err-1.given.1.1 (sym (c.enter_all.ensures.kept.lent ∙ B.lent)))
-    (fills_broken _ _ (ap (λ x. x.now) B.file_is) (omega arith) (omega arith) E c.together-place.ensures c.refuse-in-Err.ensures (same_length B))
+    fills_broken _ _ (ap (λ x. x.now) B.file_is) (omega arith) (omega arith) E c.together-place.ensures c.refuse-in-Err.ensures (same_length B)
+    (reached (sym (c.enter_all.ensures.kept.lent ∙ B.lent)) (λ a. grind rules))

@@ -1,10 +1,11 @@
 -- `encoder::encode` meets its contract: zeros past the script, or zeros alone.
 -- Assumes nothing.
-use Rattle.encoder.proofs.EndLaws.{encodes_script, encodes_refusal}
+use mathlib.Core.Path.{◌∙◌}
+use Rattle.encoder.proofs.EndLaws.{encodes, encodes_refused}
 use Rattle.encoder.proofs.encode.Goals as goal
 
-pub returns-in-Ok : goal.returns-in-Ok
-returns-in-Ok c = encodes_script _ _ _ _ c.written-answer.auto.script c.clear_words.ensures c.written-answer.auto.work (rw c.in-Ok.is at c.written-answer.ensures) c.clear.ensures
-
 pub returns-in-Err : goal.returns-in-Err
-returns-in-Err c = encodes_refusal _ _ _ _ c.written-answer.auto.script c.clear_words.ensures c.written-answer.auto.work (rw c.in-Err.is at c.written-answer.ensures) c.clear-in-Err.ensures
+returns-in-Err c = encodes_refused _ _ _ c.in-Err.ensures c.clear.ensures
+
+pub returns-in-Ok : goal.returns-in-Ok
+returns-in-Ok c = encodes _ _ _ _ c.written-answer.auto.script c.clear_words.ensures (c.written-answer.auto.work ∙ c.fill.auto.work) _ (c.written-answer.ensures.go _ c.in-Ok.ensures) (rw (← c.unwrap_or.ensures) c.clear-in-Ok.ensures)

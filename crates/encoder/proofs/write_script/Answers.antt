@@ -2,15 +2,14 @@
 -- Assumes nothing.
 use mathlib.Core.Path.{refl}
 use native.Mathlib.Omega.{arith}
-use Rattle.std.proofs.lemmas.Result.{err_from_is_err_and}
+use Rattle.read_field.proofs.Laws.{handed_on}
 use Rattle.refusal.specs.Numbers.{number}
 use Rattle.encoder.proofs.CloseLaws.{script_refused, script_written, script_past}
 use Rattle.encoder.proofs.write_script.Goals as goal
 
 pub returns-in_err-write_records : goal.returns-in_err-write_records
 returns-in_err-write_records c =
-    let p = err_from_is_err_and c.from_residual.result c.from_residual.ensures.1 in
-    rw (p.1, p.2) (script_refused c.make_lists.ensures.stays c.make_lists.ensures.made refl c.put_start.ensures refl refl refl c.write_records.ensures c.in_err-write_records.was)
+    rw (handed_on _ c.from_residual.ensures.1) (script_refused c.make_lists.ensures.stays c.make_lists.ensures.made refl c.put_start.ensures refl refl refl c.write_records.ensures c.in_err-write_records.was)
 
 pub returns-then-walk : goal.returns-then-walk
 unfolding number

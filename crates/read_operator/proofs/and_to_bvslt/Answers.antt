@@ -51,4 +51,4 @@ returns-in-9 c = operand_plain 9 tree.Bvsle c.in-9.is (λ funs. refl) refl
 
 pub returns-in_default : goal.returns-in_default
 unfolding op_of operators at
-returns-in_default c = operand_plain 10 tree.Bvslt (past_last 0 10 _ zero-le c.requires c.in_default.in_default-own.rest) (λ funs. refl) refl
+returns-in_default c = operand_plain 10 tree.Bvslt (past_last 0 10 _ zero-le c.requires search) (λ funs. refl) refl

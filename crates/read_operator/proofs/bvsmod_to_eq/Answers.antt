@@ -46,4 +46,4 @@ returns-in-19 c = operand_plain 19 tree.Bvurem c.in-19.is (λ funs. refl) refl
 
 pub returns-in_default : goal.returns-in_default
 unfolding op_of operators at
-returns-in_default c = operand_plain 20 tree.Eq (past_last 11 9 _ (c.requires).0 (c.requires).1 c.in_default.in_default-own.rest) (λ funs. refl) refl
+returns-in_default c = operand_plain 20 tree.Eq (past_last 11 9 _ c.requires.0 c.requires.1 search) (λ funs. refl) refl

@@ -1,13 +1,12 @@
 -- The code of an extension operator, below ten.
 -- Assumes nothing.
-use Rattle.std.proofs.lemmas.Result.{err_from_is_err_and}
 use mathlib.Core.Path.{refl}
 use native.Mathlib.Nat.{le_trans}
 use lib.Dec.{lit≤}
 use Rattle.script_spec.specs.Fields.{pure, ext_op, coded}
 use Rattle.refusal.specs.Numbers.{number}
 use Rattle.read_field.proofs.Coded.{chosen_refused, at_map}
-use Rattle.read_field.proofs.Laws.{takes_next, refuses_next, refuses_stop, takes_pure}
+use Rattle.read_field.proofs.Laws.{handed_on, takes_next, refuses_next, refuses_stop, takes_pure}
 use Rattle.read_field.specs.Reads.{chosen}
 use Rattle.read_operator.specs.Operators.{op_of, ext_ops, ext_operator}
 use Rattle.read_operator.proofs.Laws.{takes_chosen}
@@ -15,7 +14,7 @@ use Rattle.read_operator.proofs.ext.Goals as goal
 
 pub returns-in_err-code : goal.returns-in_err-code
 unfolding ext_operator ext_op coded
-returns-in_err-code c = let p = err_from_is_err_and c.from_residual.result c.from_residual.ensures.1 in rw (p.1, p.2) (refuses_stop _ (refuses_stop _ c.in_err-code.ensures))
+returns-in_err-code c = rw (handed_on _ c.from_residual.ensures.1) (refuses_stop _ (refuses_stop _ c.in_err-code.ensures))
 
 pub returns-then-code-lt-EXT_OPS : goal.returns-then-code-lt-EXT_OPS
 unfolding ext_operator ext_op coded chosen op_of ext_ops

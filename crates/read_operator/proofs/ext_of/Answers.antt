@@ -44,4 +44,4 @@ returns-in-8 c = record { is = rw c.in-8.is }
 
 pub returns-in_default : goal.returns-in_default
 unfolding ext_ops ext_of at
-returns-in_default c = record { is = rw (past_last 0 9 _ zero-le c.requires c.in_default.in_default-own.rest) }
+returns-in_default c = record { is = rw (past_last 0 9 _ zero-le c.requires search) }

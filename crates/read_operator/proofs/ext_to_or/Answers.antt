@@ -26,4 +26,4 @@ returns-in-24 c = takes_chosen _ 24 c.in-24.is refl (takes_pure _)
 
 pub returns-in_default : goal.returns-in_default
 unfolding op_of operators at plain ext_operator
-returns-in_default c = takes_chosen _ 25 (past_last 21 4 _ (c.requires).0 (c.requires).1 c.in_default.in_default-own.rest) refl (takes_pure _)
+returns-in_default c = takes_chosen _ 25 (past_last 21 4 _ c.requires.0 c.requires.1 search) refl (takes_pure _)

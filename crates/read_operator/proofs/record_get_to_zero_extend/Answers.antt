@@ -41,4 +41,4 @@ returns-in-32 g c = by_chosen _ _ _ 32 c.in-32.is refl (by_any _ _ c.zero_extend
 
 pub returns-in_default : goal.returns-in_default
 unfolding operators number
-returns-in_default g c = by_any _ _ (record { reads = chosen_refused _ _ (past 26 7 _ c.requires c.in_default.in_default-own.rest) })
+returns-in_default g c = by_any _ _ (record { reads = chosen_refused _ _ (past 26 7 _ c.requires search) })

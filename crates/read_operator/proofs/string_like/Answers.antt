@@ -1,8 +1,7 @@
 -- The count of elements, and the elements, tested or not.
 -- Assumes nothing.
-use Rattle.std.proofs.lemmas.Result.{err_from_is_err_and}
 use Rattle.script_spec.specs.Fields.{list}
-use Rattle.read_field.proofs.Laws.{takes_next, refuses_next, refuses_stop, takes_pure}
+use Rattle.read_field.proofs.Laws.{handed_on, takes_next, refuses_next, refuses_stop, takes_pure}
 use Rattle.read_field.specs.Items.{item_reader}
 use Rattle.read_operator.specs.Operators.{op_of, string_like}
 use Rattle.read_operator.proofs.Laws.{takes_elements, elements_refused}
@@ -11,11 +10,11 @@ use Rattle.read_operator.proofs.string_like.Goals as goal
 
 pub returns-in_err-n : goal.returns-in_err-n
 unfolding string_like list
-returns-in_err-n g c = let p = err_from_is_err_and c.from_residual.result c.from_residual.ensures.1 in rw (p.1, p.2) (by_any _ _ (refuses_stop _ (refuses_stop _ c.in_err-n.ensures)))
+returns-in_err-n g c = rw (handed_on _ c.from_residual.ensures.1) (by_any _ _ (refuses_stop _ (refuses_stop _ c.in_err-n.ensures)))
 
 pub returns-in_err-rest : goal.returns-in_err-rest
 unfolding string_like list item_reader
-returns-in_err-rest g c = let p = err_from_is_err_and c.from_residual-in_err-rest.result c.from_residual-in_err-rest.ensures.1 in rw (p.1, p.2) (tested_if _ (λ b. string_like) _ c.if-this-ne0.true (refuses_stop _ (refuses_next _ c.in_ok-n.ensures (elements_refused _ c.in_err-rest.ensures))))
+returns-in_err-rest g c = rw (handed_on _ c.from_residual-in_err-rest.ensures.1) (tested_if _ (λ b. string_like) _ c.if-this-ne0.true (refuses_stop _ (refuses_next _ c.in_ok-n.ensures (elements_refused _ c.in_err-rest.ensures))))
 
 pub returns-then-this-ne0 : goal.returns-then-this-ne0
 unfolding string_like list op_of item_reader
@@ -23,7 +22,7 @@ returns-then-this-ne0 g c = tested_if _ (λ b. string_like) _ c.if-this-ne0.true
 
 pub returns-in_err-elements : goal.returns-in_err-elements
 unfolding any_pattern
-returns-in_err-elements g c = let p = err_from_is_err_and c.from_residual-in_err-elements.result c.from_residual-in_err-elements.ensures.1 in rw c.if-this-ne0.false (rw (p.1, p.2) (untested (pattern_again _ (refuses_next _ c.in_ok-n.ensures (refuses_stop _ c.in_err-elements.ensures)))))
+returns-in_err-elements g c = rw (c.if-this-ne0.false, handed_on _ c.from_residual-in_err-elements.ensures.1) (untested (pattern_again _ (refuses_next _ c.in_ok-n.ensures (refuses_stop _ c.in_err-elements.ensures))))
 
 pub returns : goal.returns
 unfolding any_pattern op_of

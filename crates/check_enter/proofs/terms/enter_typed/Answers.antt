@@ -1,23 +1,21 @@
 -- `check_enter::terms::enter_typed` meets its contract: rules 9 and 10, the type, the count, the depth, and then the row.
 -- Assumes nothing.
 use mathlib.Core.Path.{sym, ◌∙◌}
-use Rattle.std.proofs.lemmas.Result.{err_from_is_err_and}
+use Rattle.read_field.proofs.Laws.{handed_on}
 use Rattle.check_enter.proofs.Rewritten.{keeps_left, keeps_then}
 use Rattle.check_enter.proofs.TermRules.{given, not_given, term_broken, term_unlisted, term_many, term_deep, term_entered}
 use Rattle.check_enter.proofs.terms.enter_typed.Goals as goal
 
 pub returns-in_err-broken_rule : goal.returns-in_err-broken_rule
 returns-in_err-broken_rule c =
-    let p = err_from_is_err_and c.from_residual.result c.from_residual.ensures.1 in
     let U = c.broken_rule.ensures.unchanged in
-    rw (p.1, p.2) (record { kept = keeps_left U; go = λ M T. term_broken _ c.octets.ensures (rw (c.view.ensures.0, c.view.ensures.1, c.view.ensures.2) at c.greatest-deepest.ensures) (c.broken_rule.ensures.told M) U _ c.in_err-broken_rule.was })
+    rw (handed_on _ c.from_residual.ensures.1) (record { kept = keeps_left U; go = λ M T. term_broken _ c.octets.ensures (rw (c.view.ensures.0, c.view.ensures.1, c.view.ensures.2) at c.greatest-deepest.ensures) (c.broken_rule.ensures.told M) U _ c.in_err-broken_rule.was })
 
 pub returns-in_err-ty : goal.returns-in_err-ty
 returns-in_err-ty c =
-    let p = err_from_is_err_and c.from_residual-in_err-ty.result c.from_residual-in_err-ty.ensures.1 in
     let U = c.broken_rule.ensures.unchanged in
     let g = not_given (sym c.ok_or.ensures.value ∙ c.in_err-ty.was) in
-    rw (p.1, p.2, g.1) (record { kept = keeps_left U; go = λ M T. term_unlisted _ c.octets.ensures (rw (c.view.ensures.0, c.view.ensures.1, c.view.ensures.2) at c.greatest-deepest.ensures) (c.broken_rule.ensures.told M) U _ T c.in_ok-broken_rule.was g.0 })
+    rw (handed_on _ c.from_residual-in_err-ty.ensures.1, g.1) (record { kept = keeps_left U; go = λ M T. term_unlisted _ c.octets.ensures (rw (c.view.ensures.0, c.view.ensures.1, c.view.ensures.2) at c.greatest-deepest.ensures) (c.broken_rule.ensures.told M) U _ T c.in_ok-broken_rule.was g.0 })
 
 pub returns-then-records-ge-MOST : goal.returns-then-records-ge-MOST
 returns-then-records-ge-MOST c =

@@ -1,6 +1,5 @@
 -- The list of a record type, and true for any other kind.
 -- Assumes nothing.
-use borrow.Enum.Refused.{opened}
 use Rattle.check_rules.proofs.RecordLaws.{ascends_none, ascends_other, ascends_record}
 use Rattle.check_rules.proofs.record.attributes_ascend.Goals as goal
 
@@ -11,4 +10,4 @@ pub returns-in-TR : goal.returns-in-TR
 returns-in-TR c = ascends_record _ _ c.kind_at.ensures (rw (← c.in-TR.is) c.in-Some.is) c.body_at.ensures c.new.ensures c.list_ascends.ensures
 
 pub returns-in_default-kind : goal.returns-in_default-kind
-returns-in_default-kind c = ascends_other _ _ c.kind_at.ensures c.in-Some.is (opened c.in_default-kind.in_default-kind-own.keys2)
+returns-in_default-kind c = ascends_other _ _ c.kind_at.ensures c.in-Some.is search

@@ -1,14 +1,13 @@
--- What a cursor at the place takes, where the place is there.
+-- What a cursor after the references before it takes, where they are there.
 -- Assumes nothing.
-use native.Mathlib.Omega.{arith}
-use Rattle.check_rules.proofs.References.{ref_past, ref_taken, ref_refused}
+use Rattle.check_rules.proofs.References.{ref_none, ref_taken, ref_refused}
 use Rattle.check_rules.proofs.repeats.ref_at.Goals as goal
 
-pub returns-then-left-step : goal.returns-then-left-step
-returns-then-left-step c = let a = c.args in ref_past a.list.body.now a.list.at a.i (omega (arith, c.left.ensures, c.if-left-step.true))
+pub returns-in_default : goal.returns-in_default
+returns-in_default c = ref_none c.args.list c.args.i c.in_default.ensures
 
-pub returns-in-Ok : goal.returns-in-Ok
-returns-in-Ok c = ref_taken c.args.list c.args.i (rw c.in-Ok.is at c.u32_le.ensures)
+pub returns-in-Ok-u32_le : goal.returns-in-Ok-u32_le
+returns-in-Ok-u32_le c = ref_taken c.args.list c.args.i c.in-Ok.ensures c.in-Ok-u32_le.ensures
 
 pub returns-in-Err : goal.returns-in-Err
-returns-in-Err c = ref_refused c.args.list c.args.i (rw c.in-Err.is at c.u32_le.ensures)
+returns-in-Err c = ref_refused c.args.list c.args.i c.in-Ok.ensures c.in-Err.ensures

@@ -2,7 +2,6 @@
 -- Assumes nothing.
 use mathlib.Core.Path.{sym, ◌∙◌}
 use mathlib.Core.Logic.{inl, inr}
-use borrow.Enum.Refused.{opened}
 use Rattle.check_rules.proofs.Decided.{leaves, leaves_so}
 use Rattle.check_rules.proofs.TermLaws.{no_rule, set_kept, set_broken, record_kept, record_broken, app_kept, app_broken}
 use Rattle.check_rules.proofs.terms.broken_rule.Goals.{else-depth-eq0-via-then-depth-eq0+else-byte_at-ne-RECORD_GET, else-depth-eq0-via-else-depth-eq0}
@@ -31,4 +30,4 @@ returns-else-depth-eq0 c =
     ]))
 
 pub returns-in_default : goal.returns-in_default
-returns-in_default c = leaves (λ M. no_rule _ _ _ M (opened c.in_default.in_default-own.keys4))
+returns-in_default c = leaves (λ M. no_rule _ _ _ M search)

@@ -1,29 +1,25 @@
--- `check_types::Sought::hash` meets its contract: kind by kind.
+-- `check_types::Sought::hash` meets its contract: way by way.
 -- Assumes nothing.
-use Rattle.check_types.proofs.Hashes.{no_such, bool_hashed, string_hashed, width_hashed, code_hashed, option_hashed, set_hashed, record_hashed}
-use borrow.Enum.Refused.{opened}
+use Rattle.check_types.proofs.Hashes.{bool_hashed, string_hashed, width_hashed, code_hashed, option_hashed, set_hashed, record_hashed}
 use Rattle.check_types.proofs.Sought.hash.Goals as goal
 
-pub returns-in-TB : goal.returns-in-TB
-returns-in-TB c = λ W. bool_hashed W c.in-TB.is c.bare_hash.ensures
+pub returns-in-Bool : goal.returns-in-Bool
+returns-in-Bool c = λ o W. bool_hashed c.octets.ensures W c.in-Bool.is (rw c.letter-letter.ensures at c.segment_hash.ensures)
 
-pub returns-in-TS : goal.returns-in-TS
-returns-in-TS c = λ W. string_hashed W c.in-TS.is c.bare_hash-in-TS.ensures
+pub returns-in-String : goal.returns-in-String
+returns-in-String c = λ o W. string_hashed c.octets.ensures W c.in-String.is (rw c.letter-letter.ensures at c.segment_hash-in-String.ensures)
 
-pub returns-in-TV : goal.returns-in-TV
-returns-in-TV c = λ W. width_hashed W c.octets.ensures c.in-TV.is c.width_at.ensures c.number_hash.ensures
+pub returns-in-BitVec : goal.returns-in-BitVec
+returns-in-BitVec c = λ o W. width_hashed c.octets.ensures W c.in-BitVec.is c.to_le_bytes.ensures (rw c.letter-letter.ensures at c.segment_hash-in-BitVec.ensures)
 
-pub returns-in-TX : goal.returns-in-TX
-returns-in-TX c = λ W. code_hashed W c.octets.ensures c.in-TX.is c.value_code.ensures c.code_hash.ensures
+pub returns-in-Extension : goal.returns-in-Extension
+returns-in-Extension c = λ o W. code_hashed c.octets.ensures W c.in-Extension.is (rw c.letter-letter.ensures at c.segment_hash-in-Extension.ensures)
 
-pub returns-in-TO : goal.returns-in-TO
-returns-in-TO c = λ W. option_hashed W c.octets.ensures c.in-TO.is c.part_hash.ensures
+pub returns-in-Option : goal.returns-in-Option
+returns-in-Option c = λ o W. option_hashed c.octets.ensures W c.in-Option.is (rw c.letter-letter.ensures at c.segment_hash-in-Option.ensures)
 
-pub returns-in-TC : goal.returns-in-TC
-returns-in-TC c = λ W. set_hashed W c.octets.ensures c.in-TC.is c.part_hash-in-TC.ensures
+pub returns-in-Set : goal.returns-in-Set
+returns-in-Set c = λ o W. set_hashed c.octets.ensures W c.in-Set.is (rw c.letter-letter.ensures at c.segment_hash-in-Set.ensures)
 
-pub returns-in-TR : goal.returns-in-TR
-returns-in-TR c = λ W. record_hashed W c.octets.ensures c.in-TR.is c.listed_hash.ensures
-
-pub returns-in_default : goal.returns-in_default
-returns-in_default c = λ W. no_such W (opened c.in_default.in_default-own.keys8)
+pub returns-in-Record : goal.returns-in-Record
+returns-in-Record c = λ o W. record_hashed c.octets.ensures W c.in-Record.is c.listed_hash.ensures

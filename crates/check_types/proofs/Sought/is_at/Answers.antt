@@ -1,38 +1,32 @@
--- `check_types::Sought::is_at` meets its contract: kinds of other letters differ, and types of one letter are compared by their fields.
+-- `check_types::Sought::is_at` meets its contract: types of other letters differ, and types of one letter are compared by their fields.
 -- Assumes nothing.
-use mathlib.Core.Path.{sym, ap, ◌∙◌}
-use Prim.Native.Nat.{ℕ}
-use lib.Dec.{eqb}
+use mathlib.Core.Path.{sym, ◌∙◌}
 use Rattle.check_types.specs.Sought.{part_at}
-use Rattle.check_types.proofs.Same.{other_letter, no_such, same_bools, same_strings, same_widths, same_codes, same_options, same_sets, same_records}
-use borrow.Enum.Refused.{opened}
+use Rattle.check_types.proofs.Same.{other_letter, same_bools, same_strings, same_widths, same_codes, same_options, same_sets, same_records}
 use Rattle.check_types.proofs.Sought.is_at.Goals as goal
 
-pub returns-then-letter_at-letter_of : goal.returns-then-letter_at-letter_of
-returns-then-letter_at-letter_of c = λ W. other_letter W c.letter_at.ensures (λ q. c.if-letter_at-letter_of.true (q ∙ sym c.letter_of.ensures))
+pub returns-then-letter_at-letter : goal.returns-then-letter_at-letter
+returns-then-letter_at-letter c = λ o W. other_letter c.octets.ensures W c.letter_at.ensures (λ q. c.if-letter_at-letter.true (q ∙ sym c.letter.ensures))
 
-pub returns-in-TB : goal.returns-in-TB
-returns-in-TB c = λ W. same_bools W c.letter_at.ensures (c.if-letter_at-letter_of.false ∙ c.letter_of.ensures) c.in-TB.is
+pub returns-in-Bool : goal.returns-in-Bool
+returns-in-Bool c = λ o W. same_bools c.octets.ensures W c.letter_at.ensures (c.if-letter_at-letter.false ∙ c.letter.ensures) c.in-Bool.is
 
-pub returns-in-TS : goal.returns-in-TS
-returns-in-TS c = λ W. same_strings W c.letter_at.ensures (c.if-letter_at-letter_of.false ∙ c.letter_of.ensures) c.in-TS.is
+pub returns-in-String : goal.returns-in-String
+returns-in-String c = λ o W. same_strings c.octets.ensures W c.letter_at.ensures (c.if-letter_at-letter.false ∙ c.letter.ensures) c.in-String.is
 
-pub returns-in-TV : goal.returns-in-TV
-returns-in-TV c = λ W. same_widths W c.letter_at.ensures (c.if-letter_at-letter_of.false ∙ c.letter_of.ensures) c.octets.ensures c.in-TV.is (λ i. eqb (c.width_at.ensures i) (c.width_at-in-TV.ensures i))
+pub returns-in-BitVec : goal.returns-in-BitVec
+returns-in-BitVec c = λ o W. same_widths c.octets.ensures W c.letter_at.ensures (c.if-letter_at-letter.false ∙ c.letter.ensures) c.in-BitVec.is c.width_at.ensures
 
-pub returns-in-TX : goal.returns-in-TX
-returns-in-TX c = λ W. same_codes W c.letter_at.ensures (c.if-letter_at-letter_of.false ∙ c.letter_of.ensures) c.octets.ensures c.in-TX.is (λ i. eqb (c.code_at.ensures i) (c.value_code.ensures i))
+pub returns-in-Extension : goal.returns-in-Extension
+returns-in-Extension c = λ o W. same_codes c.octets.ensures W c.letter_at.ensures (c.if-letter_at-letter.false ∙ c.letter.ensures) c.in-Extension.is c.code_at.ensures
 
-pub returns-in-TO : goal.returns-in-TO
+pub returns-in-Option : goal.returns-in-Option
 unfolding part_at
-returns-in-TO c = λ W. same_options W c.letter_at.ensures (c.if-letter_at-letter_of.false ∙ c.letter_of.ensures) c.octets.ensures c.in-TO.is (ap (λ (n : ℕ). eqb n c.args.self.part) c.first_reference.ensures)
+returns-in-Option c = λ o W. same_options c.octets.ensures W c.letter_at.ensures (c.if-letter_at-letter.false ∙ c.letter.ensures) c.in-Option.is c.first_reference.ensures
 
-pub returns-in-TC : goal.returns-in-TC
+pub returns-in-Set : goal.returns-in-Set
 unfolding part_at
-returns-in-TC c = λ W. same_sets W c.letter_at.ensures (c.if-letter_at-letter_of.false ∙ c.letter_of.ensures) c.octets.ensures c.in-TC.is (ap (λ (n : ℕ). eqb n c.args.self.part) c.first_reference-in-TC.ensures)
+returns-in-Set c = λ o W. same_sets c.octets.ensures W c.letter_at.ensures (c.if-letter_at-letter.false ∙ c.letter.ensures) c.in-Set.is c.first_reference-in-Set.ensures
 
-pub returns-in-TR : goal.returns-in-TR
-returns-in-TR c = λ W. same_records W c.letter_at.ensures (c.if-letter_at-letter_of.false ∙ c.letter_of.ensures) c.octets.ensures c.in-TR.is c.same_listed_type.ensures
-
-pub returns-in_default : goal.returns-in_default
-returns-in_default c = λ W. no_such W c.letter_at.ensures (opened c.in_default.in_default-own.keys8)
+pub returns-in-Record : goal.returns-in-Record
+returns-in-Record c = λ o W. same_records c.octets.ensures W c.letter_at.ensures (c.if-letter_at-letter.false ∙ c.letter.ensures) c.in-Record.is c.same_listed_type.ensures

@@ -1,7 +1,7 @@
 -- `encoder::inputs::encode_inputs` meets its contract: the loop has encoded the inputs before its count.
 -- Assumes nothing.
 use native.Mathlib.Omega.{arith}
-use Rattle.std.proofs.lemmas.Result.{err_from_is_err_and}
+use Rattle.read_field.proofs.Laws.{handed_on}
 use Rattle.encoder.proofs.InputLaws.{encoding_start, encoding_on, encoding_stopped, encoding_end}
 use Rattle.encoder.proofs.inputs.encode_inputs.Goals as goal
 
@@ -13,9 +13,8 @@ loop-i-preserved c = encoding_on c.loop-i.invariant (omega (arith, c.loop-i-test
 
 pub returns-in_err-encode_term : goal.returns-in_err-encode_term
 returns-in_err-encode_term c =
-    let p = err_from_is_err_and c.from_residual.result c.from_residual.ensures.1 in
     let s = encoding_on c.loop-i.invariant (omega (arith, c.loop-i-test.true)) c.get-n.ensures (rw c.in_err-encode_term.was at c.encode_term.ensures) in
-    rw (p.1, p.2) (encoding_stopped s (omega (arith, c.loop-i-test.true)))
+    rw (handed_on _ c.from_residual.ensures.1) (encoding_stopped s (omega (arith, c.loop-i-test.true)))
 
 pub returns : goal.returns
 returns c = encoding_end c.loop-i.invariant (omega (arith, c.loop-i-test.false))

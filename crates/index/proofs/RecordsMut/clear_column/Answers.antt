@@ -2,7 +2,6 @@
 -- Assumes nothing.
 use mathlib.Core.Path.{refl}
 use native.Mathlib.Omega.{arith}
-use Rattle.index.specs.Cells.{number, emptied}
 use Rattle.index.proofs.Columns.{emptied_narrow, emptied_no_column, emptied_part}
 use Rattle.index.proofs.RecordsMut.clear_column.Goals as goal
 

@@ -1,6 +1,5 @@
 -- `index_compare::opening::first_shaped` meets its contract: the type of a variable is after its text.
 -- Assumes nothing.
-use Rattle.index_compare.specs.Machine.{ahead}
 use Rattle.index_compare.proofs.Opened.{first_named}
 use Rattle.index_compare.proofs.opening.first_shaped.Goals as goal
 
@@ -11,5 +10,4 @@ returns-in-Some-Named c =
     first_named r.work.now r.sizes.rows c.get.ensures (rw named.field-0-is at named.ensures)
 
 pub returns-in_default : goal.returns-in_default
-unfolding ahead
-returns-in_default c = rw c.start.ensures at c.first_ahead.ensures
+returns-in_default c = rw c.of.ensures at c.first_ahead.ensures

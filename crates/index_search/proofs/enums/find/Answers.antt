@@ -1,8 +1,7 @@
 -- The search from the home of the name.
 -- Assumes nothing.
-use borrow.Author.Rules.{rules}
 use Rattle.index_search.proofs.Naming.{name_found}
 use Rattle.index_search.proofs.enums.find.Goals as goal
 
 pub returns : goal.returns
-returns c = let a = c.args in name_found a.records.file.now a.records.sizes c.name_home-b.ensures (record { same = λ n r t. search rules }) c.probe.result c.probe.ensures c.ok.ensures.value
+returns c = let a = c.args in name_found a.records.file.now a.records.sizes c.name_home-b.ensures c.probe.result c.probe.ensures c.ok.ensures.value

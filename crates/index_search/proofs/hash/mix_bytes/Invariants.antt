@@ -1,19 +1,13 @@
 -- The hash so far with the bytes that are left comes to the hash with all bytes.
 -- Assumes nothing.
 use mathlib.Core.Path.{◌≡◌}
-use Prim.Native.Nat.{◌<◌}
-use lib.ListN.{length}
+use Prim.Native.Nat.{◌*◌, ◌<◌}
+use lib.ListN.{length, drop}
 use Rattle.index.specs.Names.{mixed_bytes}
 use Rattle.index_search.proofs.hash.mix_bytes.Given as goal
 
-abbrev pub invariant-loop-rest : goal.invariant-loop-rest
-invariant-loop-rest l = mixed_bytes l.x l.rest ≡ mixed_bytes l.h l.s
+abbrev pub invariant-loop-word : goal.invariant-loop-word
+invariant-loop-word l = mixed_bytes l.x (drop (4 * l.word-index) l.s) ≡ mixed_bytes l.h l.s
 
-abbrev pub decreases-loop-rest : goal.decreases-loop-rest
-decreases-loop-rest l = length l.rest
-
-abbrev pub invariant-loop-rest-2 : goal.invariant-loop-rest-2
-invariant-loop-rest-2 l = (mixed_bytes l.x l.rest ≡ mixed_bytes l.h l.s) × (length l.rest < 4)
-
-abbrev pub decreases-loop-rest-2 : goal.decreases-loop-rest-2
-decreases-loop-rest-2 l = length l.rest
+abbrev pub invariant-loop-byte : goal.invariant-loop-byte
+invariant-loop-byte l = (mixed_bytes l.x (drop l.byte-index l.last) ≡ mixed_bytes l.h l.s) × (length l.last < 4)

@@ -12,4 +12,4 @@ returns-in-Some c = hash_of _ _ c.args.records.file.now c.args.offset (c.mix_byt
 
 pub returns-in-None : goal.returns-in-None
 unfolding mark_at
-returns-in-None c = hash_of _ _ c.args.records.file.now c.args.offset (c.mix_bytes-h.ensures ∙ ap (mixed_bytes 0) c.part_of.ensures) (rw c.segments_at.ensures at c.mix_ahead.ensures)
+returns-in-None c = hash_of _ _ c.args.records.file.now c.args.offset (c.mix_bytes-h.ensures ∙ ap (mixed_bytes 0) c.part_of.ensures) (rw c.viewed_segments.ensures at c.mix_ahead.ensures)

@@ -6,4 +6,4 @@ use Rattle.index_search.proofs.Probing.{Passed}
 use Rattle.index_search.proofs.slots.probe.Given as goal
 
 abbrev pub invariant-loop-d : goal.invariant-loop-d
-invariant-loop-d g l = Passed l.records.sizes.rows (cell l.records.work.now l.records.sizes.rows hash) (slot_kind l.table) l.count (λ n r. goal.F-post g l.is l.records n r) l.b l.d
+invariant-loop-d g l = Passed l.records.sizes.rows (cell l.records.work.now l.records.sizes.rows hash) (slot_kind l.table) l.count (g.T.Test.tells l.test l.records) l.b l.d

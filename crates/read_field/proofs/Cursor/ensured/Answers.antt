@@ -1,6 +1,5 @@
 -- By whether the test is passed.
 -- Assumes nothing.
-use Rattle.refusal.specs.Numbers.{number}
 use Rattle.read_field.proofs.Laws.{takes_ensured, takes_refused}
 use Rattle.read_field.proofs.Cursor.ensured.Goals as goal
 

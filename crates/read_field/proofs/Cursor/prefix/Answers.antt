@@ -1,17 +1,16 @@
 -- A byte below the bound, or 255.
 -- Assumes nothing.
-use Rattle.std.proofs.lemmas.Result.{err_from_is_err_and}
 use borrow.Author.Tests.{ne_eqb, lt-ltb, le-ltb}
 use Rattle.script_spec.specs.Fields.{prefix}
 use Rattle.refusal.specs.declared.Refusal.TheVariants.{OutOfRange}
 use Rattle.refusal.specs.Numbers.{number}
 use Rattle.read_field.specs.Takes.{prefix_number}
-use Rattle.read_field.proofs.Laws.{takes_next, refuses_next, refuses_stop, takes_ensured, takes_refused, below_or}
+use Rattle.read_field.proofs.Laws.{handed_on, takes_next, refuses_next, refuses_stop, takes_ensured, takes_refused, below_or}
 use Rattle.read_field.proofs.Cursor.prefix.Goals as goal
 
 pub returns-in_err-n : goal.returns-in_err-n
 unfolding prefix
-returns-in_err-n c = let p = err_from_is_err_and c.from_residual.result c.from_residual.ensures.1 in rw (p.1, p.2) (refuses_stop _ c.in_err-n.ensures)
+returns-in_err-n c = rw (handed_on _ c.from_residual.ensures.1) (refuses_stop _ c.in_err-n.ensures)
 
 pub returns-then-n-eq-NO_PREFIX : goal.returns-then-n-eq-NO_PREFIX
 unfolding prefix prefix_number

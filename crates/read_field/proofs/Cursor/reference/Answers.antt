@@ -1,14 +1,13 @@
 -- A number below the count.
 -- Assumes nothing.
-use Rattle.std.proofs.lemmas.Result.{err_from_is_err_and}
 use Rattle.script_spec.specs.Fields.{ref}
 use Rattle.refusal.specs.Numbers.{number}
-use Rattle.read_field.proofs.Laws.{next, refuses_stop}
+use Rattle.read_field.proofs.Laws.{handed_on, next, refuses_stop}
 use Rattle.read_field.proofs.Cursor.reference.Goals as goal
 
 pub returns-in_err-n : goal.returns-in_err-n
 unfolding ref number
-returns-in_err-n c = let p = err_from_is_err_and c.from_residual.result c.from_residual.ensures.1 in rw (p.1, p.2) (refuses_stop _ c.in_err-n.ensures)
+returns-in_err-n c = rw (handed_on _ c.from_residual.ensures.1) (refuses_stop _ c.in_err-n.ensures)
 
 pub returns : goal.returns
 unfolding ref number

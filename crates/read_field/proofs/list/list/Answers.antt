@@ -1,13 +1,12 @@
 -- The count, and then the items.
 -- Assumes nothing.
-use Rattle.std.proofs.lemmas.Result.{err_from_is_err_and}
 use Rattle.read_field.specs.Takes.{moved_of}
 use Rattle.read_field.proofs.Skims.{list_items}
-use Rattle.read_field.proofs.Laws.{alike, refuses_alike, next, refuses_stop}
+use Rattle.read_field.proofs.Laws.{handed_on, alike, refuses_alike, next, refuses_stop}
 use Rattle.read_field.proofs.list.list.Goals as goal
 
 pub returns-in_err-n : goal.returns-in_err-n
-returns-in_err-n c = let p = err_from_is_err_and c.from_residual.result c.from_residual.ensures.1 in rw (p.1, p.2) (refuses_alike (list_items c.args.item) (refuses_stop _ c.in_err-n.ensures))
+returns-in_err-n c = rw (handed_on _ c.from_residual.ensures.1) (refuses_alike (list_items c.args.item) (refuses_stop _ c.in_err-n.ensures))
 
 pub returns : goal.returns
 returns c = alike (list_items c.args.item) _ (moved_of c.items.result) (next _ _ c.in_ok-n.ensures c.items.ensures)

@@ -1,17 +1,16 @@
 -- The value's bytes, and the test of their number.
 -- Assumes nothing.
-use Rattle.std.proofs.lemmas.Result.{err_from_is_err_and}
 use Rattle.script_spec.specs.Fields.{number as number_field}
 use Rattle.refusal.specs.declared.Refusal.TheVariants.{OutOfRange}
 use Rattle.refusal.specs.Numbers.{number}
-use Rattle.read_field.proofs.Laws.{takes_next, refuses_next, refuses_stop, skims, skims_not, takes_pure, takes_ensured, takes_refused}
+use Rattle.read_field.proofs.Laws.{handed_on, takes_next, refuses_next, refuses_stop, skims, skims_not, takes_pure, takes_ensured, takes_refused}
 use Rattle.read_record.specs.Fields.{value_below}
 use Rattle.read_record.proofs.Values.{fits_part}
 use Rattle.read_record.proofs.body.below.Goals as goal
 
 pub returns-in_err-s : goal.returns-in_err-s
 unfolding value_below number_field
-returns-in_err-s c = let p = err_from_is_err_and c.from_residual.result c.from_residual.ensures.1 in rw (p.1, p.2) (refuses_stop _ (refuses_stop _ c.in_err-s.ensures))
+returns-in_err-s c = rw (handed_on _ c.from_residual.ensures.1) (refuses_stop _ (refuses_stop _ c.in_err-s.ensures))
 
 pub returns-then-not-fits : goal.returns-then-not-fits
 unfolding value_below number_field number

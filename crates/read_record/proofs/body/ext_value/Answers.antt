@@ -1,8 +1,7 @@
 -- The code, and then what it says.
 -- Assumes nothing.
-use Rattle.std.proofs.lemmas.Result.{err_from_is_err_and}
 use Rattle.script_spec.specs.Fields.{value, coded}
-use Rattle.read_field.proofs.Laws.{refuses_stop, skims_not}
+use Rattle.read_field.proofs.Laws.{handed_on, refuses_stop, skims_not}
 use Rattle.read_field.specs.Reads.{chosen}
 use Rattle.read_record.specs.Fields.{values}
 use Rattle.read_record.proofs.Values.{skims_next}
@@ -11,7 +10,7 @@ use Rattle.read_record.proofs.body.ext_value.Goals as goal
 
 pub returns-in_err-code : goal.returns-in_err-code
 unfolding value coded
-returns-in_err-code c = let p = err_from_is_err_and c.from_residual.result c.from_residual.ensures.1 in rw (p.1, p.2) (skims_not (refuses_stop _ c.in_err-code.ensures))
+returns-in_err-code c = rw (handed_on _ c.from_residual.ensures.1) (skims_not (refuses_stop _ c.in_err-code.ensures))
 
 pub returns : goal.returns
 unfolding value coded chosen values

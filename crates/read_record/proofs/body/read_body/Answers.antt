@@ -1,7 +1,6 @@
 -- The three fields in their order, and the end of the body.
 -- Assumes nothing.
-use Rattle.std.proofs.lemmas.Result.{err_from_is_err_and}
-use Rattle.read_field.proofs.Laws.{takes_next, refuses_next, refuses_stop}
+use Rattle.read_field.proofs.Laws.{handed_on, takes_next, refuses_next, refuses_stop}
 use Rattle.read_record.specs.Bodies.{earlier_with}
 use Rattle.read_record.specs.Fields.{body_reader, three}
 use Rattle.read_record.proofs.Verdicts.{decided_err, decided_ok, ended_at, ended_before}
@@ -9,15 +8,15 @@ use Rattle.read_record.proofs.body.read_body.Goals as goal
 
 pub returns-in_err-first : goal.returns-in_err-first
 unfolding body_reader three earlier_with
-returns-in_err-first c = let p = err_from_is_err_and c.from_residual.result c.from_residual.ensures.1 in rw (p.1, p.2) (decided_err _ _ c.new.ensures c.fields_of-all.ensures (refuses_stop _ c.in_err-first.ensures))
+returns-in_err-first c = rw (handed_on _ c.from_residual.ensures.1) (decided_err _ _ c.new.ensures c.fields_of-all.ensures (refuses_stop _ c.in_err-first.ensures))
 
 pub returns-in_err-second : goal.returns-in_err-second
 unfolding body_reader three earlier_with
-returns-in_err-second c = let p = err_from_is_err_and c.from_residual-in_err-second.result c.from_residual-in_err-second.ensures.1 in rw (p.1, p.2) (decided_err _ _ c.new.ensures c.fields_of-all.ensures (refuses_next _ c.in_ok-first.ensures (refuses_stop _ c.in_err-second.ensures)))
+returns-in_err-second c = rw (handed_on _ c.from_residual-in_err-second.ensures.1) (decided_err _ _ c.new.ensures c.fields_of-all.ensures (refuses_next _ c.in_ok-first.ensures (refuses_stop _ c.in_err-second.ensures)))
 
 pub returns-in_err-third : goal.returns-in_err-third
 unfolding body_reader three earlier_with
-returns-in_err-third c = let p = err_from_is_err_and c.from_residual-in_err-third.result c.from_residual-in_err-third.ensures.1 in rw (p.1, p.2) (decided_err _ _ c.new.ensures c.fields_of-all.ensures (refuses_next _ c.in_ok-first.ensures (refuses_next _ c.in_ok-second.ensures c.in_err-third.ensures)))
+returns-in_err-third c = rw (handed_on _ c.from_residual-in_err-third.ensures.1) (decided_err _ _ c.new.ensures c.fields_of-all.ensures (refuses_next _ c.in_ok-first.ensures (refuses_next _ c.in_ok-second.ensures c.in_err-third.ensures)))
 
 pub returns-then-left-eq0 : goal.returns-then-left-eq0
 unfolding body_reader three earlier_with

@@ -1,13 +1,12 @@
 -- Each kind of field by its own reader.
 -- Assumes nothing.
-use Rattle.std.proofs.lemmas.Result.{err_from_is_err_and}
-use Rattle.read_field.proofs.Laws.{skims, skims_not, takes_pure}
+use Rattle.read_field.proofs.Laws.{handed_on, skims, skims_not, takes_pure}
 use Rattle.read_record.specs.Fields.{field_reader}
 use Rattle.read_record.proofs.body.skip.Goals as goal
 
 pub returns-in_err-text-in-Text : goal.returns-in_err-text-in-Text
 unfolding field_reader
-returns-in_err-text-in-Text c = let p = err_from_is_err_and c.from_residual.result c.from_residual.ensures.1 in rw (p.1, p.2) (rw c.in-Text.is (skims_not c.in_err-text-in-Text.ensures))
+returns-in_err-text-in-Text c = rw (handed_on _ c.from_residual.ensures.1, c.in-Text.is) (skims_not c.in_err-text-in-Text.ensures)
 
 pub returns-in_ok-text-in-Text : goal.returns-in_ok-text-in-Text
 unfolding field_reader
@@ -15,7 +14,7 @@ returns-in_ok-text-in-Text c = rw c.in-Text.is (skims c.in_ok-text-in-Text.ensur
 
 pub returns-in_err-width-in-Width : goal.returns-in_err-width-in-Width
 unfolding field_reader
-returns-in_err-width-in-Width c = let p = err_from_is_err_and c.from_residual-in_err-width-in-Width.result c.from_residual-in_err-width-in-Width.ensures.1 in rw (p.1, p.2) (rw c.in-Width.is (skims_not c.in_err-width-in-Width.ensures))
+returns-in_err-width-in-Width c = rw (handed_on _ c.from_residual-in_err-width-in-Width.ensures.1, c.in-Width.is) (skims_not c.in_err-width-in-Width.ensures)
 
 pub returns-in_ok-width-in-Width : goal.returns-in_ok-width-in-Width
 unfolding field_reader
@@ -23,7 +22,7 @@ returns-in_ok-width-in-Width c = rw c.in-Width.is (skims c.in_ok-width-in-Width.
 
 pub returns-in_err-code-in-Code : goal.returns-in_err-code-in-Code
 unfolding field_reader
-returns-in_err-code-in-Code c = let p = err_from_is_err_and c.from_residual-in_err-code-in-Code.result c.from_residual-in_err-code-in-Code.ensures.1 in rw (p.1, p.2) (rw c.in-Code.is (skims_not c.in_err-code-in-Code.ensures))
+returns-in_err-code-in-Code c = rw (handed_on _ c.from_residual-in_err-code-in-Code.ensures.1, c.in-Code.is) (skims_not c.in_err-code-in-Code.ensures)
 
 pub returns-in_ok-code-in-Code : goal.returns-in_ok-code-in-Code
 unfolding field_reader
@@ -31,7 +30,7 @@ returns-in_ok-code-in-Code c = rw c.in-Code.is (skims c.in_ok-code-in-Code.ensur
 
 pub returns-in_err-reference-in-Reference : goal.returns-in_err-reference-in-Reference
 unfolding field_reader
-returns-in_err-reference-in-Reference c = let p = err_from_is_err_and c.from_residual-in_err-reference-in-Reference.result c.from_residual-in_err-reference-in-Reference.ensures.1 in rw (p.1, p.2) (rw c.in-Reference.is (skims_not c.in_err-reference-in-Reference.ensures))
+returns-in_err-reference-in-Reference c = rw (handed_on _ c.from_residual-in_err-reference-in-Reference.ensures.1, c.in-Reference.is) (skims_not c.in_err-reference-in-Reference.ensures)
 
 pub returns-in_ok-reference-in-Reference : goal.returns-in_ok-reference-in-Reference
 unfolding field_reader
@@ -39,7 +38,7 @@ returns-in_ok-reference-in-Reference c = rw c.in-Reference.is (skims c.in_ok-ref
 
 pub returns-in_err-operator-in-Operator : goal.returns-in_err-operator-in-Operator
 unfolding field_reader
-returns-in_err-operator-in-Operator c = let p = err_from_is_err_and c.from_residual-in_err-operator-in-Operator.result c.from_residual-in_err-operator-in-Operator.ensures.1 in rw (p.1, p.2) (rw c.in-Operator.is (skims_not c.in_err-operator-in-Operator.ensures))
+returns-in_err-operator-in-Operator c = rw (handed_on _ c.from_residual-in_err-operator-in-Operator.ensures.1, c.in-Operator.is) (skims_not c.in_err-operator-in-Operator.ensures)
 
 pub returns-in_ok-operator-in-Operator : goal.returns-in_ok-operator-in-Operator
 unfolding field_reader

@@ -1,9 +1,9 @@
 -- By the first byte, and then by the second.
 -- Assumes nothing.
-use borrow.Author.Tests.{ne_eqb}
+use mathlib.Core.List.{[], ◌∷◌}
 use Rattle.script_spec.specs.Base.{bytes, any, same}
 use Rattle.read_record.specs.Marks.{MarkedAs, mark}
-use Rattle.read_record.proofs.Marked.{unmarked, names}
+use Rattle.read_record.proofs.Marked.{names, unmarked, other_second, other_first}
 use Rattle.read_record.proofs.mark.kind_of.Goals as goal
 
 pub returns-in-84 : goal.returns-in-84
@@ -18,7 +18,7 @@ returns-in-78 c = record { is = rw (c.in-69.is, c.in-78.is) }
 
 pub returns-in_default-b : goal.returns-in_default-b
 unfolding MarkedAs mark names any same bytes
-returns-in_default-b c = record { is = unmarked _ (simp (c.in-69.is, ne_eqb _ _ (c.in_default-b.in_default-b-own.rest.1))) }
+returns-in_default-b c = record { is = unmarked _ (rw c.in-69.is (other_second _ (78 ∷ []) search)) }
 
 pub returns-in-70 : goal.returns-in-70
 unfolding MarkedAs mark bytes
@@ -26,7 +26,7 @@ returns-in-70 c = record { is = rw (c.in-85.is, c.in-70.is) }
 
 pub returns-in_default-b-2 : goal.returns-in_default-b-2
 unfolding MarkedAs mark names any same bytes
-returns-in_default-b-2 c = record { is = unmarked _ (simp (c.in-85.is, ne_eqb _ _ (c.in_default-b-2.in_default-b-2-own.rest.1))) }
+returns-in_default-b-2 c = record { is = unmarked _ (rw c.in-85.is (other_second _ (70 ∷ []) search)) }
 
 pub returns-in-78-b : goal.returns-in-78-b
 unfolding MarkedAs mark bytes
@@ -34,8 +34,8 @@ returns-in-78-b c = record { is = rw (c.in-73.is, c.in-78-b.is) }
 
 pub returns-in_default-b-3 : goal.returns-in_default-b-3
 unfolding MarkedAs mark names any same bytes
-returns-in_default-b-3 c = record { is = unmarked _ (simp (c.in-73.is, ne_eqb _ _ (c.in_default-b-3.in_default-b-3-own.rest.1))) }
+returns-in_default-b-3 c = record { is = unmarked _ (rw c.in-73.is (other_second _ (78 ∷ []) search)) }
 
 pub returns-in_default : goal.returns-in_default
 unfolding MarkedAs mark names any same bytes
-returns-in_default c = record { is = unmarked _ (simp (ne_eqb _ _ (c.in_default.in_default-own.rest.0.0.0.0.1), ne_eqb _ _ (c.in_default.in_default-own.rest.0.0.0.1), ne_eqb _ _ (c.in_default.in_default-own.rest.0.0.1), ne_eqb _ _ (c.in_default.in_default-own.rest.0.1), ne_eqb _ _ (c.in_default.in_default-own.rest.1))) }
+returns-in_default c = record { is = unmarked _ (other_first c.args.a (c.args.b ∷ []) names search) }

@@ -1,9 +1,9 @@
 -- Each mark by its second byte; other bytes are in no entry of the table.
 -- Assumes nothing.
-use borrow.Author.Tests.{ne_eqb}
+use mathlib.Core.List.{[], ◌∷◌}
 use Rattle.script_spec.specs.Base.{bytes, any, same}
 use Rattle.read_record.specs.Marks.{MarkedAs, mark}
-use Rattle.read_record.proofs.Marked.{unmarked, names}
+use Rattle.read_record.proofs.Marked.{names, unmarked, other_second}
 use Rattle.read_record.proofs.mark.term_kind.Goals as goal
 
 pub returns-in-86 : goal.returns-in-86
@@ -52,4 +52,4 @@ returns-in-65 c = record { is = rw c.in-65.is }
 
 pub returns-in_default : goal.returns-in_default
 unfolding MarkedAs mark names any same bytes
-returns-in_default c = record { is = unmarked _ (simp (ne_eqb _ _ (c.in_default.in_default-own.rest.0.0.0.0.0.0.0.0.0.0.1), ne_eqb _ _ (c.in_default.in_default-own.rest.0.0.0.0.0.0.0.0.0.1), ne_eqb _ _ (c.in_default.in_default-own.rest.0.0.0.0.0.0.0.0.1), ne_eqb _ _ (c.in_default.in_default-own.rest.0.0.0.0.0.0.0.1), ne_eqb _ _ (c.in_default.in_default-own.rest.0.0.0.0.0.0.1), ne_eqb _ _ (c.in_default.in_default-own.rest.0.0.0.0.0.1), ne_eqb _ _ (c.in_default.in_default-own.rest.0.0.0.0.1), ne_eqb _ _ (c.in_default.in_default-own.rest.0.0.0.1), ne_eqb _ _ (c.in_default.in_default-own.rest.0.0.1), ne_eqb _ _ (c.in_default.in_default-own.rest.0.1), ne_eqb _ _ (c.in_default.in_default-own.rest.1))) }
+returns-in_default c = record { is = unmarked _ (other_second c.args.b (86 ∷ 66 ∷ 78 ∷ 83 ∷ 69 ∷ 88 ∷ 48 ∷ 49 ∷ 67 ∷ 82 ∷ 65 ∷ []) search) }

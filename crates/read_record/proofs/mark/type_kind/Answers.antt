@@ -1,9 +1,9 @@
 -- Each mark by its second byte; other bytes are in no entry of the table.
 -- Assumes nothing.
-use borrow.Author.Tests.{ne_eqb}
+use mathlib.Core.List.{[], ◌∷◌}
 use Rattle.script_spec.specs.Base.{bytes, any, same}
 use Rattle.read_record.specs.Marks.{MarkedAs, mark}
-use Rattle.read_record.proofs.Marked.{unmarked, names}
+use Rattle.read_record.proofs.Marked.{names, unmarked, other_second}
 use Rattle.read_record.proofs.mark.type_kind.Goals as goal
 
 pub returns-in-66 : goal.returns-in-66
@@ -40,4 +40,4 @@ returns-in-82 c = record { is = rw c.in-82.is }
 
 pub returns-in_default : goal.returns-in_default
 unfolding MarkedAs mark names any same bytes
-returns-in_default c = record { is = unmarked _ (simp (ne_eqb _ _ (c.in_default.in_default-own.rest.0.0.0.0.0.0.0.1), ne_eqb _ _ (c.in_default.in_default-own.rest.0.0.0.0.0.0.1), ne_eqb _ _ (c.in_default.in_default-own.rest.0.0.0.0.0.1), ne_eqb _ _ (c.in_default.in_default-own.rest.0.0.0.0.1), ne_eqb _ _ (c.in_default.in_default-own.rest.0.0.0.1), ne_eqb _ _ (c.in_default.in_default-own.rest.0.0.1), ne_eqb _ _ (c.in_default.in_default-own.rest.0.1), ne_eqb _ _ (c.in_default.in_default-own.rest.1))) }
+returns-in_default c = record { is = unmarked _ (other_second c.args.b (66 ∷ 83 ∷ 86 ∷ 79 ∷ 67 ∷ 69 ∷ 88 ∷ 82 ∷ []) search) }

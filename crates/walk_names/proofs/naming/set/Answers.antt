@@ -5,4 +5,4 @@ use Rattle.walk_names.proofs.naming.set.Goals as goal
 
 pub returns : goal.returns
 unfolding name_stored
-returns c = rw (← c.first.ensures, ← c.names.ensures, ← c.get-at.ensures, ← c.raised.ensures) c.set.ensures
+returns c = rw (← c.columns-first.ensures.first, ← c.columns-first.ensures.names, ← c.get-at.ensures, ← c.raised.ensures) c.set.ensures

@@ -1,7 +1,7 @@
 -- `walk_new::applications::define_app` meets its contract: by the operator, and each answer on a `Bvnego` by its arm.
 -- Assumes nothing.
-use Rattle.std.proofs.Common.{rules}
-use Rattle.walk_new.proofs.Introducing.{enters, defines}
+use Rattle.write_terms.specs.Definitions.{BodyIs}
+use Rattle.walk_new.proofs.Introducing.{enters}
 use Rattle.walk_new.proofs.ApplicationLaws.{app_other, app_false, app_comparison, app_ordinary}
 use Rattle.walk_new.proofs.applications.define_app.Goals as goal
 
@@ -12,7 +12,8 @@ pub returns-in-Falsehood : goal.returns-in-Falsehood
 returns-in-Falsehood c = let v = c.view.ensures in app_false (rw (v.0, v.1, v.2) at c.negation_of.ensures) c.in-Falsehood.is (enters c.enter.ensures)
 
 pub returns-in-Comparison : goal.returns-in-Comparison
-returns-in-Comparison c = app_comparison (rw (c.view.ensures.0, c.view.ensures.1, c.view.ensures.2) at c.negation_of.ensures) c.in-Comparison.is (defines c.introduce.ensures (λ r x y s. search rules))
+unfolding BodyIs
+returns-in-Comparison c = let v = c.view.ensures in app_comparison (rw (v.0, v.1, v.2) at c.negation_of.ensures) c.in-Comparison.is c.define.ensures
 
 pub returns-in-Ordinary : goal.returns-in-Ordinary
 returns-in-Ordinary c = let v = c.view.ensures in app_ordinary (rw (v.0, v.1, v.2) at c.negation_of.ensures) c.in-Ordinary.is c.define_ordinary-in-Ordinary.ensures

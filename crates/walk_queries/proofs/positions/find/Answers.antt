@@ -3,8 +3,5 @@
 use native.Mathlib.Omega.{arith}
 use Rattle.walk_queries.proofs.positions.find.Goals as goal
 
-pub returns-then-list-eq0 : goal.returns-then-list-eq0
-returns-then-list-eq0 c = record { go = λ h. c.find_text.ensures }
-
-pub returns : goal.returns
-returns c = record { go = λ h. (c.find_listed.ensures).go (h _ (omega arith)) }
+pub returns-in-Some : goal.returns-in-Some
+returns-in-Some c = record { go = λ h. (c.find_listed.ensures).go (h _ (omega (arith, c.in-Some.ensures.0, c.in-Some.ensures.1))) }

@@ -1,10 +1,11 @@
 -- `walk_queries::positions::find_text` meets its contract.
 -- Assumes nothing.
-use mathlib.Core.Path.{refl, sym, ◌∙◌}
+use mathlib.Core.Path.{refl, sym, ap, ◌∙◌}
 use mathlib.Core.Logic.{inl}
-use Prim.Native.Nat.{◌<◌}
 use native.Mathlib.Omega.{arith}
 use borrow.Author.Rules.{rules}
+use Rattle.std.specs.Result.{result_ok}
+use Rattle.std.proofs.lemmas.Result.{Ok-from_Ok_iff}
 use Rattle.std.proofs.lemmas.Iterator.Search.{position_from_yields_List}
 use Rattle.std.proofs.lemmas.Iterator.Consumers.{YieldsList-from_first}
 use Rattle.script_spec.specs.Base.{same}
@@ -21,10 +22,8 @@ returns-in_err-i c =
     text_found _ _ (c.from_residual.ensures ∙ sym c.in_err-i.was
     ∙ position_from_yields_List (same c.args.name.now) _ _ c.position.result c.position.ensures.ran (YieldsList-from_first (λ x. x.now) texts_in _ refl) (λ x b q k. (search rules, decided b _ _ (search rules))))
 
-pub overflow_cast-result : goal.overflow_cast-result
-overflow_cast-result c = let few : c.in_ok-i.i < c.args.among.left = omega (arith, c.in_ok-i.ensures.bound, length_texts_in c.args.among) in search rules
-
 pub returns : goal.returns
 returns c =
-    text_found _ _ (sym c.in_ok-i.was
+    text_found _ _ (c.ok.ensures.value ∙ ap result_ok (Ok-from_Ok_iff _ _ _ c.try_from.ensures (omega (arith, c.in_ok-i.ensures.bound, length_texts_in c.args.among, c.ranges.among)))
+    ∙ sym c.in_ok-i.was
     ∙ position_from_yields_List (same c.args.name.now) _ _ c.position.result c.position.ensures.ran (YieldsList-from_first (λ x. x.now) texts_in _ refl) (λ x b q k. (search rules, decided b _ _ (search rules))))

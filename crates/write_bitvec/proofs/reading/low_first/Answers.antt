@@ -1,18 +1,18 @@
--- `write_bitvec::reading::low_first` meets its contract: the loop keeps `Low`, and its measure is what is left.
+-- `write_bitvec::reading::low_first` meets its contract: the loop keeps `Low`.
 -- Assumes nothing.
-use Prim.Native.Nat.{◌-◌}
 use native.Mathlib.Omega.{arith}
-use Rattle.write_bitvec.proofs.Bytes.{byte_fits, low_start, low_next}
+use borrow.Author.Rules.{rules}
+use Rattle.write_bitvec.proofs.Bytes.{low_start, low_fits, low_next}
 use Rattle.write_bitvec.proofs.reading.low_first.Goals as goal
 
-pub loop-i-init : goal.loop-i-init
-loop-i-init c = low_start _ _ c.min-i.ensures
+pub loop-byte-init : goal.loop-byte-init
+loop-byte-init c = low_start (rw (c.into_iter-byte-iterator.ensures.into_iter_gives, c.rev-byte-items.ensures.source, c.iter.ensures.rest) (search rules))
 
 pub overflow_mul-v : goal.overflow_mul-v
-overflow_mul-v c = let l = c.loop-i in record { fits = omega (arith, byte_fits l.v 0 (16 - l.i) (omega arith) (omega arith) l.invariant.small) }
+overflow_mul-v c = record { fits = omega (arith, low_fits c.args.s.now c.next.new.self.iter.rest.now c.in-Some.byte.now (λ i. (c.type_inv.s i).fits) c.loop-byte.invariant c.in-Some.ensures.steps) }
 
 pub overflow_add-v : goal.overflow_add-v
-overflow_add-v c = let l = c.loop-i in record { fits = byte_fits l.v c.from.result (16 - l.i) (omega (arith, c.from.ensures, c.type_inv.s (l.i - 1))) (omega arith) l.invariant.small }
+overflow_add-v c = record { fits = rw c.from.ensures (low_fits c.args.s.now c.next.new.self.iter.rest.now c.in-Some.byte.now (λ i. (c.type_inv.s i).fits) c.loop-byte.invariant c.in-Some.ensures.steps) }
 
-pub loop-i-preserved : goal.loop-i-preserved
-loop-i-preserved c = let l = c.loop-i in low_next _ _ _ _ l.invariant c.loop-i-test.true c.from.ensures (omega (arith, c.from.ensures, c.type_inv.s (l.i - 1)))
+pub loop-byte-preserved : goal.loop-byte-preserved
+loop-byte-preserved c = rw c.from.ensures (low_next c.args.s.now c.next.new.self.iter.rest.now c.in-Some.byte.now (λ i. (c.type_inv.s i).fits) c.loop-byte.invariant c.in-Some.ensures.steps)

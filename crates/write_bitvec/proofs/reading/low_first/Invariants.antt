@@ -1,10 +1,8 @@
--- `write_bitvec::reading::low_first` meets its contract: the loop keeps `Low`, and its measure is what is left.
+-- `write_bitvec::reading::low_first` meets its contract: the loop keeps `Low`.
 -- Assumes nothing.
+use lib.ListN.{take}
 use Rattle.write_bitvec.proofs.Bytes.{Low}
 use Rattle.write_bitvec.proofs.reading.low_first.Given as goal
 
-abbrev pub invariant-loop-i : goal.invariant-loop-i
-invariant-loop-i l = Low l.s l.v l.i
-
-abbrev pub decreases-loop-i : goal.decreases-loop-i
-decreases-loop-i l = l.i
+abbrev pub invariant-loop-byte : goal.invariant-loop-byte
+invariant-loop-byte l = Low (take 16 l.s) l.byte-iterator.iter.rest.now l.v

@@ -1,10 +1,9 @@
 -- `write_bitvec::spelling::put_decimal128` meets its contract: the last digit stands after the numeral of the tenth.
 -- Assumes nothing.
-use mathlib.Core.Path.{refl}
 use native.Mathlib.Omega.{arith}
 use Rattle.write_bytes.proofs.Laws.{◌then◌, says}
 use Rattle.write_bitvec.proofs.Division.{decimal_next}
 use Rattle.write_bitvec.proofs.spelling.+put_decimal128.Goals as goal
 
 pub returns : goal.returns
-returns t c = says (decimal_next _ _ (omega arith) refl) (c.put_decimal128.ensures then c.put_decimal-2.ensures)
+returns t c = says (decimal_next _ (omega arith)) (c.put_decimal128.ensures then c.put_decimal-2.ensures)

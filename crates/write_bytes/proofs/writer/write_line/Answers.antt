@@ -5,4 +5,4 @@ use Rattle.std.proofs.Common.{rules}
 use Rattle.write_bytes.proofs.writer.write_line.Goals as goal
 
 pub returns : goal.returns
-returns g c = record { rest = _; after = _; lent = refl; room_is = refl; starts = refl; wrote = c.line.ensures; holds = λ e. let h = sym e in search rules; size = search rules; place = refl }
+returns g c = record { rest = _; after = _; lent = refl; room_is = refl; starts = refl; wrote = c.write.ensures; holds = λ e. let h = sym e in search rules; size = search rules; place = refl }

@@ -8,4 +8,4 @@ use Rattle.write_types.proofs.records.put_selector.Goals as goal
 
 pub returns : goal.returns
 unfolding bytes attribute_name record_name
-returns c = c.put.ensures then c.put_name.ensures then c.put-2.ensures then (rw (← c.from.ensures) c.put_decimal.ensures)
+returns c = c.put.ensures then c.put_name.ensures then c.put-2.ensures then c.put_decimal.ensures

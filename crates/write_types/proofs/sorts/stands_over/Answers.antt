@@ -1,5 +1,6 @@
 -- `write_types::sorts::stands_over` meets its contract: each letter by its arm.
 -- Assumes nothing.
+use Rattle.std.proofs.Common.{rules}
 use Rattle.write_types.proofs.SortLaws.{over_truth, over_set, over_option, over_nothing, over_at}
 use Rattle.write_types.proofs.sorts.stands_over.Goals as goal
 
@@ -13,4 +14,4 @@ pub returns-in-79 : goal.returns-in-79
 returns-in-79 c = over_at c.get-offset.ensures (over_option _ _ c.letter_at.ensures c.in-79.is c.part_at-in-79.ensures)
 
 pub returns-in_default : goal.returns-in_default
-returns-in_default c = over_at c.get-offset.ensures (over_nothing _ _ c.letter_at.ensures (c.in_default.in_default-own.rest).0.1 (c.in_default.in_default-own.rest).1)
+returns-in_default c = over_at c.get-offset.ensures (over_nothing _ _ c.letter_at.ensures (λ e. search rules) (λ e. search rules))

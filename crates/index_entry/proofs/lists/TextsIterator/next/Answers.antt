@@ -2,8 +2,9 @@
 -- Assumes nothing.
 use Prim.Native.Nat.{◌-◌}
 use native.Mathlib.Omega.{arith}
+use Rattle.std.specs.Prelude.{Some}
+use Rattle.index_compare.proofs.Steps.{fewer_left}
 use Rattle.index_entry.specs.Places.{texts_in}
-use Rattle.index_entry.proofs.ChildLaws.{goes_on}
 use Rattle.index_entry.proofs.Places.{no_texts, first_of_texts}
 use Rattle.index_entry.proofs.lists.TextsIterator.next.Goals as goal
 
@@ -14,4 +15,4 @@ pub returns-clause-steps : goal.returns-clause-steps
 returns-clause-steps c = first_of_texts c.args.self.now c.after_text-self.result (c.args.self.now.left - 1) c.text_at-text.ensures c.after_text-self.ensures (omega (arith, c.if-self-eq0.false))
 
 pub returns-clause-goes : goal.returns-clause-goes
-returns-clause-goes c = goes_on texts_in _ (returns-clause-steps c)
+returns-clause-goes c = fewer_left texts_in (λ x. x.now) (Some c.text_at-text.result) (returns-clause-steps c)
