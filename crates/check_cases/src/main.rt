@@ -11,7 +11,7 @@ use std::{fs, io};
 fn show(rt: &impl Print, answer: Result<(), Refused>) -> io::Result<()> {
     match answer {
         Ok(()) => println!(rt; ": accepted"),
-        Err(Refused { refusal, place }) => {
+        Err(Refused { refusal, place, .. }) => {
             println!(rt; ": refused {} record {place}", refusal.number())
         }
     }

@@ -23,7 +23,7 @@ use Rattle.index.specs.declared.Sizes.{Sizes}
 use Rattle.index.specs.declared.RecordsMut.{RecordsMut}
 use Rattle.index.specs.Held.{Becomes}
 use Rattle.index.proofs.Growth.{counts_fewer}
-use Rattle.refusal.specs.Numbers.{number}
+use Rattle.refusal.specs.Numbers.{number, option_of}
 use Rattle.refusal.specs.declared.Refusal.{Refusal}
 use Rattle.refusal.specs.declared.Refusal.TheVariants.{TypeNotListed, TooMany}
 use Rattle.index.specs.Rules.{greatest, limits, list_rules_by, rules_by, type_by, type_named}
@@ -37,7 +37,6 @@ use Rattle.index_search.specs.Searchable.{Indexed}
 use Rattle.index_search.specs.Found.{EnrolsIn}
 use Rattle.index_search.proofs.Entered.{indexed_term}
 use Rattle.check_rules.specs.Terms.{broken_rule, TermRule}
-use Rattle.index_search.specs.Enums.{found_place}
 use Rattle.check_types.specs.Sought.{TypeSought}
 use Rattle.check_enter.specs.Entering.{Enters}
 use Rattle.check_enter.specs.Terms.{StoresTerm}
@@ -170,7 +169,7 @@ module _ (v : RecordsMut) {o n : ℕ} {r : Result (Unit {0}) Refusal} (octets : 
 
     module _ {found : rust.Option ℕ} (T : TypeSought v.file.now v.work.now v.sizes o found) (h : r ≡ Ok tt) where
       -- what is sought is the place of the type
-      sought_is : (f : TermFile) (I : Indexed v.file.now f v.work.now v.sizes.rows) → SizesOf f v.sizes → {t : Tm} (P : TermParts v.file.now f o t) → found_place found ≡ sought I P
+      sought_is : (f : TermFile) (I : Indexed v.file.now f v.work.now v.sizes.rows) → SizesOf f v.sizes → {t : Tm} (P : TermParts v.file.now f o t) → option_of found ≡ sought I P
       unfolding sought
       sought_is f I c P = T.go f I c P.m P.rs P.reads P.in_range
 
@@ -183,7 +182,7 @@ module _ (v : RecordsMut) {o n : ℕ} {r : Result (Unit {0}) Refusal} (octets : 
       listed : {ty : ℕ} → found ≡ rust.Some ty → {f : TermFile} {t : Tm} (I : Indexed v.file.now f v.work.now v.sizes.rows) → SizesOf f v.sizes → (P : TermParts v.file.now f o t)
           → broken (rules f (term t)) ≡ broken ((13, ltb (length (terms f)) 60000 && leb (suc (deepest v.work.now v.sizes.rows term_depth P)) 256) ∷ [])
       unfolding is_some
-      listed g {f} I c P = rules_left I P ∙ broken_later 12 _ (ap is_some (sym (sought_is f I c P) ∙ ap found_place g))
+      listed g {f} I c P = rules_left I P ∙ broken_later 12 _ (ap is_some (sym (sought_is f I c P) ∙ ap option_of g))
 
       pub term_unlisted : found ≡ rust.None → Enters term v w o place (Err TypeNotListed)
       unfolding is_some number
@@ -192,7 +191,7 @@ module _ (v : RecordsMut) {o n : ℕ} {r : Result (Unit {0}) Refusal} (octets : 
             kept = keeps_left U;
             go = λ f C room p t s.
                 let P = term_parts s in
-                let q : sought C.indexed P ≡ none = sym (sought_is f C.indexed C.sizes_are P) ∙ ap found_place g in
+                let q : sought C.indexed P ≡ none = sym (sought_is f C.indexed C.sizes_are P) ∙ ap option_of g in
                 record { rule = rules_left C.indexed P ∙ broken_here 12 _ (ap is_some q); memory = unchanged_left U };
           }
 
@@ -223,7 +222,7 @@ module _ (v : RecordsMut) {o n : ℕ} {r : Result (Unit {0}) Refusal} (octets : 
               go = λ f C room p t s.
                   let P = term_parts s in
                   let q : n ≡ deepest v.work.now v.sizes.rows term_depth P = is ∙ deepest_is C.indexed P octets in
-                  let F = type_found C.indexed P ty (sym (sought_is f C.indexed C.sizes_are P) ∙ ap found_place g) in
+                  let F = type_found C.indexed P ty (sym (sought_is f C.indexed C.sizes_are P) ∙ ap option_of g) in
                   record {
                     rule = listed g C.indexed C.sizes_are P ∙ broken_later 13 _ (rw (← C.sizes_are.terms_are, lt-ltb v.sizes.terms 60000 d, ← q, le-leb (suc n) 256 (omega arith))) ∙ none_broken;
                     memory = S.go f (counted_left U C) (rw U.sizes_are room) t (rw U.file_is s) F.below F.type_is F.type_first_is (add-one n ∙ ap suc q ∙ term_depth_is C.indexed P) (omega arith) p;

@@ -28,11 +28,11 @@ reached e f = f e
 module _ (file : Bytes) {work work' : List ℕ} {r : Refused} where
   pub fills_long : 1048576 < length file → Refusing work work' FileTooLong 0 r → Fills file work work' (Err r)
   unfolding answered number
-  fills_long h Z = record { refuses = rw (Z.refusal_is, Z.place_is) (checked_long file (length work) h); cleared = Z.cleared }
+  fills_long h Z = record { refuses = rw (Z.refusal_is, Z.place_is, Z.position_is) (checked_long file (length work) h); cleared = Z.cleared }
 
   pub fills_narrow : length file ≤ 1048576 → length work < 2 * length file → Refusing work work' MemoryTooSmall 0 r → Fills file work work' (Err r)
   unfolding answered number
-  fills_narrow g h Z = record { refuses = rw (Z.refusal_is, Z.place_is) (checked_narrow file (length work) g h); cleared = Z.cleared }
+  fills_narrow g h Z = record { refuses = rw (Z.refusal_is, Z.place_is, Z.position_is) (checked_narrow file (length work) g h); cleared = Z.cleared }
 
 -- ---- after the records
 
@@ -57,6 +57,6 @@ module _ (file : Bytes) (work : List ℕ) {v w : RecordsMut} (is : v.file.now �
       let A = E.told in
       let here : place ≡ length A.records = placed_at A.records A.sizes_are A.few p in
       record {
-        refuses = rw (Z.refusal_is, Z.place_is, here) (checked_records file (length work) short room ∙ (rw is at A.is));
+        refuses = rw (Z.refusal_is, Z.place_is, Z.position_is, here) (checked_records file (length work) short room ∙ (rw is at A.is));
         cleared = left ∙ Z.cleared ∙ ap (λ (m : ℕ). replicate m 0) (E.kept.size ∙ same);
       }

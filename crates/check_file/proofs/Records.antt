@@ -19,7 +19,7 @@ module _ (fuel : ℕ) (f : TermFile) where
   records_got [] h e = absurd (omega arith)
   records_got (b ∷ s) h e = rw (e, records)
 
-  records_bad : (s : Bytes) {n : ℕ} → 0 < length s → next_record f s ≡ bad n → records (suc fuel) f s ≡ refused n (length f)
+  records_bad : (s : Bytes) {n : ℕ} → 0 < length s → next_record f s ≡ bad n → records (suc fuel) f s ≡ refused n (length f) 0
   unfolding records
   records_bad [] h e = absurd (omega arith)
   records_bad (b ∷ s) h e = rw (e, records)
@@ -56,8 +56,8 @@ module _ {file : Bytes} {f : TermFile} {at : ℕ} (R : Rest file f at) where
   pub rest_end : length file ≤ at → records (length file) [] file ≡ accepted f
   rest_end h = R.is ∙ records_end R.fuel f (drop at file) (rw length-drop (omega arith))
 
-  pub rest_bad : {n : ℕ} → at < length file → next_record f (drop at file) ≡ bad n → records (length file) [] file ≡ refused n (length f)
-  rest_bad {n} h e = R.is ∙ positive R.fuel (fuel_left h) (λ m. records m f (drop at file) ≡ refused n (length f)) (λ m. records_bad m f (drop at file) (bytes_left h) e)
+  pub rest_bad : {n : ℕ} → at < length file → next_record f (drop at file) ≡ bad n → records (length file) [] file ≡ refused n (length f) 0
+  rest_bad {n} h e = R.is ∙ positive R.fuel (fuel_left h) (λ m. records m f (drop at file) ≡ refused n (length f) 0) (λ m. records_bad m f (drop at file) (bytes_left h) e)
 
   pub rest_got : {at' : ℕ} {r : Named} → at < at' → at < length file → next_record f (drop at file) ≡ got r (drop at' file) → Rest file (f ++ (r ∷ [])) at'
   rest_got {at'} {r} g h e =
@@ -70,11 +70,11 @@ module _ {file : Bytes} {f : TermFile} {at : ℕ} (R : Rest file f at) where
 -- ---- the whole file
 
 module _ (file : Bytes) (work : ℕ) where
-  pub checked_long : 1048576 < length file → checked file work ≡ refused 1 0
+  pub checked_long : 1048576 < length file → checked file work ≡ refused 1 0 0
   unfolding checked
   checked_long h = rw (lt-leb (length file) 1048576 h, checked)
 
-  pub checked_narrow : length file ≤ 1048576 → work < 2 * length file → checked file work ≡ refused 2 0
+  pub checked_narrow : length file ≤ 1048576 → work < 2 * length file → checked file work ≡ refused 2 0 0
   unfolding checked
   checked_narrow g h = rw (le-leb (length file) 1048576 g, lt-leb (2 * length file) work h, checked)
 

@@ -57,7 +57,7 @@ pub record AllEntered (v w : RecordsMut) : Type 0 where
 -- the record after the records f is refused, and the sizes are those of f
 pub record AllBroken (v w : RecordsMut) (e : Refusal) : Type 0 where
   pub records : TermFile
-  pub is : files.records (length v.file.now) [] v.file.now ≡ refused (number e) (length records)
+  pub is : files.records (length v.file.now) [] v.file.now ≡ refused (number e) (length records) 0
   pub sizes_are : SizesOf records w.sizes
   pub few : length records < 4294967296
 

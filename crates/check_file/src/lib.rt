@@ -4,7 +4,7 @@
 pub mod next;
 pub mod step;
 
-ghost use Rattle.std.specs.Prelude.{◌≡◌, ◌<◌, [], length, replicate};
+ghost use Rattle.std.specs.Prelude.{◌≡◌, ◌<◌, []};
 ghost use Rattle.check_file.specs.Promise.{together, Fills, Checks};
 ghost use Rattle.check_file.specs.Stepping.{Before, EntersAll};
 ghost use Rattle.check_file.specs.Clearing.{Refusing};
@@ -28,11 +28,15 @@ pub fn together(sizes: Sizes) -> u32
 }
 
 // Refuses: clears the memory.
-fn refuse(work: &mut [u32], refusal: Refusal, place: u32) -> Refused
+fn refuse(work: &mut [u32], refusal: Refusal, place: usize) -> Refused
     ensures { Refusing work.old work.new refusal place result }
 {
     work.fill(0);
-    Refused { refusal, place }
+    Refused {
+        refusal,
+        place,
+        position: 0,
+    }
 }
 
 // Enters the records of a file one after the other, up to the first that is refused.
@@ -71,7 +75,7 @@ pub fn fill(file: &[u8], work: &mut [u32]) -> Result<Sizes, Refused>
     match enter_all(&mut records) {
         Ok(()) => Ok(records.sizes),
         Err(refusal) => {
-            let place = together(records.sizes);
+            let place = together(records.sizes) as usize;
             Err(refuse(&mut *records.work, refusal, place))
         }
     }

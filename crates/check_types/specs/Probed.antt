@@ -5,6 +5,7 @@ use Rattle.script_spec.specs.Base.{Bytes, place}
 use Rattle.script_spec.specs.Tree.{TypeMark, eq_ty}
 use Rattle.script_spec.specs.Fields.{type}
 use Rattle.script_spec.specs.File.{TermFile, types}
+use Rattle.refusal.specs.Numbers.{option_of}
 use Rattle.index.specs.Cells.{cell, type_offset, type_first}
 use Rattle.index.specs.First.{canonical}
 use Rattle.index.specs.Rules.{listed, type_named}
@@ -12,7 +13,6 @@ use Rattle.index_compare.specs.Printed.{type_segments}
 use Rattle.check_rules.specs.Marks.{type_bytes}
 use Rattle.index_search.specs.Hash.{hashed}
 use Rattle.index_search.specs.Slots.{home_of, AllReached}
-use Rattle.index_search.specs.Enums.{found_place}
 use Rattle.check_types.specs.Sought.{Seeks}
 
 -- r is the hash of the type of the term at an offset
@@ -31,4 +31,4 @@ pub record LooksForType (file : Bytes) (work : List ℕ) (rows count o : ℕ) (f
 
 -- r says the first type that is that of the term at an offset
 pub record ListedSought (file : Bytes) (work : List ℕ) (rows count o : ℕ) (r : Option ℕ) : Type 0 where
-  pub go : (f : TermFile) (t : TypeMark) (parts : List ℕ) → LooksForType file work rows count o f t parts → found_place r ≡ place (eq_ty (type_named f (listed t parts))) (types f)
+  pub go : (f : TermFile) (t : TypeMark) (parts : List ℕ) → LooksForType file work rows count o f t parts → option_of r ≡ place (eq_ty (type_named f (listed t parts))) (types f)

@@ -7,6 +7,7 @@ use Rattle.script_spec.specs.Base.{Bytes, place}
 use Rattle.script_spec.specs.Tree.{TypeMark, TermMark, eq_ty}
 use Rattle.script_spec.specs.Fields.{type, term}
 use Rattle.script_spec.specs.File.{TermFile, types, earlier}
+use Rattle.refusal.specs.Numbers.{option_of}
 use Rattle.index.specs.Cells.{cell, term_type}
 use Rattle.index.specs.First.{Below, InRange}
 use Rattle.index.specs.Rules.{listed, type_by, type_named}
@@ -17,7 +18,6 @@ use Rattle.index.specs.Lists.{number_at}
 use Rattle.index_compare.specs.View.{Decides, viewed, reference_numbers, segments_at}
 use Rattle.index_compare.specs.declared.compare.View.TheVariants.{Listed}
 use Rattle.index_search.specs.Searchable.{Indexed}
-use Rattle.index_search.specs.Enums.{found_place}
 use Rattle.check_rules.specs.Marks.{type_bytes}
 use Rattle.read_record.specs.Marks.{mark}
 use Rattle.read_record.specs.declared.mark.Kind.{Kind}
@@ -28,7 +28,7 @@ use Rattle.check_types.specs.declared.Sought.TheVariants as sought
 -- r says the first type that is equal to the type of the term at an offset
 pub record TypeSought (file : Bytes) (work : List ℕ) (sizes : Sizes) (o : ℕ) (r : rust.Option ℕ) : Type 0 where
   pub go : (f : TermFile) → Indexed file f work sizes.rows → SizesOf f sizes → (m : TermMark ℕ ℕ) (rs : List ℕ) → entry_at file o ≡ some (term m rs) → InRange (earlier f) (term m rs)
-      → found_place r ≡ place (eq_ty (type_named f (type_by (cell work sizes.rows term_type) m rs))) (types f)
+      → option_of r ≡ place (eq_ty (type_named f (type_by (cell work sizes.rows term_type) m rs))) (types f)
 
 -- ---- fields of records
 

@@ -38,9 +38,9 @@ use Rattle.encoder.proofs.EndLaws.{gives_length, gives_no_room, gives_refused, e
 -- ---- the end of the walk
 
 -- the place of the first equal term
-pub refused_at : {c : Records} {e : Stopped} {r : Refused} {first : ℕ} → first ≡ cell c.work.now c.sizes.rows term_first e.term → r.refusal ≡ e.refusal
+pub refused_at : {c : Records} {e : Stopped} {r : Refused} {first : ℕ} → first ≡ cell c.work.now c.sizes.rows term_first e.term → r.refusal ≡ e.refusal → r.position ≡ e.position
     → r.place ≡ cell c.work.now c.sizes.rows term_place first → RefusedAt c e r
-refused_at {c} {e} {r} {first} h k p = record { refusal_is = k; go = on }
+refused_at {c} {e} {r} {first} h k q p = record { refusal_is = k; position_is = q; go = on }
   where
     on : (f : TermFile) → IndexOf f c → e.term < length (terms f) → r.place ≡ first_equal f (term_at f e.term)
     on f I below =
@@ -59,7 +59,7 @@ module _ {v w : Walk} where
     where
       by : (f : TermFile) (limit : ℕ) (o : Bytes) (x : Step) → Indexed f w → Holds f limit o w (Err e) x → Ended f limit o w (Err r) x
       by f limit o (went S) J H = absurd H
-      by f limit o (stopped n t) J H = (ap number R.refusal_is ∙ H.refused_is, R.go f (rw (hf, hw, hs) J) H.term_below ∙ ap (first_equal f) H.term_is)
+      by f limit o (stopped n t q) J H = (ap number R.refusal_is ∙ H.refused_is, R.go f (rw (hf, hw, hs) J) H.term_below ∙ ap (first_equal f) H.term_is, R.position_is ∙ H.position_is)
 
   -- the assertions after it
   pub records_written : {c : Records} {x : Writer} → c.file.now ≡ w.records.now.file.now → c.work.now ≡ w.records.now.work.now → c.sizes ≡ w.records.now.sizes
@@ -71,7 +71,7 @@ module _ {v w : Walk} where
       by f limit o (went S) J H =
           let W = (P.go f S (rw (hf, hw, hs) J) (rw (hw, hs) H.numbers)).go o (script S.commands) H.wrote in
           rw (script_append S.commands (assertions (members f) (names S) (inputs f))) (rw H.limit_is at W)
-      by f limit o (stopped n t) J H = absurd H
+      by f limit o (stopped n t q) J H = absurd H
 
 -- ---- the script of an accepted file
 
@@ -93,19 +93,19 @@ went_start {f} {v} N a b c W =
 pub ended_refused : (f : TermFile) (o y : Bytes) (w : Walk) (S : Step) {r : Refused} → Ended f (length o) o w (Err r) S → Gives y (Err r) (walked f (length o) S)
 unfolding walked
 ended_refused f o y w (went T) E = absurd E
-ended_refused f o y w (stopped n t) E = gives_refused E.0 E.1
+ended_refused f o y w (stopped n t q) E = gives_refused E.0 E.1 E.2
 
 pub ended_length : (f : TermFile) (o : Bytes) (w : Walk) (S : Step) → length o ≤ longest → Ended f (length o) o w (Ok tt) S → w.script.now.at ≤ length o
     → Gives w.script.now.out.now (Ok w.script.now.at) (walked f (length o) S)
 unfolding walked
 ended_length f o w (went T) small E l = gives_length small E l
-ended_length f o w (stopped n t) small E l = absurd E
+ended_length f o w (stopped n t q) small E l = absurd E
 
 pub ended_no_room : (f : TermFile) (o : Bytes) (w : Walk) (S : Step) {r : Refused} → length o ≤ longest → Ended f (length o) o w (Ok tt) S → length o < w.script.now.at
-    → number r.refusal ≡ 20 → r.place ≡ 0 → Gives w.script.now.out.now (Err r) (walked f (length o) S)
+    → number r.refusal ≡ 20 → r.place ≡ 0 → r.position ≡ 0 → Gives w.script.now.out.now (Err r) (walked f (length o) S)
 unfolding walked
-ended_no_room f o w (went T) small E l e q = gives_no_room small E l e q
-ended_no_room f o w (stopped n t) small E l e q = absurd E
+ended_no_room f o w (went T) small E l e p q = gives_no_room small E l e p q
+ended_no_room f o w (stopped n t k) small E l e p q = absurd E
 
 -- the walk of an accepted file from its start to its end: v at its start, u with its lists and the start of its script, w at the end
 module _ {v u w : Walk} {r : Result (Unit {0}) Refused} (held : Stays v.records.now u.records.now)
@@ -139,13 +139,13 @@ module _ {v u w : Walk} {r : Result (Unit {0}) Refused} (held : Stays v.records.
         go = λ f I B. ended_length f v.script.now.out.now w (encode_inputs (members f) (inputs f) start) (rw size at small) (rw e at (end_reached f I B)) (rw size at l);
       }
 
-  pub script_past : {e : Refused} → r ≡ Ok tt → length w.script.now.out.now ≤ longest → length w.script.now.out.now < w.script.now.at → number e.refusal ≡ 20 → e.place ≡ 0 → WritesScript v w (Err e)
-  script_past h small l e q =
+  pub script_past : {e : Refused} → r ≡ Ok tt → length w.script.now.out.now ≤ longest → length w.script.now.out.now < w.script.now.at → number e.refusal ≡ 20 → e.place ≡ 0 → e.position ≡ 0 → WritesScript v w (Err e)
+  script_past h small l e p q =
       let size = W.remains.script.size ∙ S.size in
       record {
         script_lent = W.remains.script_lent ∙ lent;
         same = W.remains.script.same ∙ S.same;
-        go = λ f I B. ended_no_room f v.script.now.out.now w (encode_inputs (members f) (inputs f) start) (rw size at small) (rw h at (end_reached f I B)) (rw size at l) e q;
+        go = λ f I B. ended_no_room f v.script.now.out.now w (encode_inputs (members f) (inputs f) start) (rw size at small) (rw h at (end_reached f I B)) (rw size at l) e p q;
       }
 
 -- ---- the whole

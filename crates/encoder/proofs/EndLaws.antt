@@ -39,14 +39,14 @@ module _ {x y : Bytes} {at : ℕ} {s : Bytes} (small : length x ≤ longest) (W 
       })
 
   -- one that does not
-  pub gives_no_room : {r : Refused} → length x < at → number r.refusal ≡ 20 → r.place ≡ 0 → Gives y (Err r) (fitting s (length x))
+  pub gives_no_room : {r : Refused} → length x < at → number r.refusal ≡ 20 → r.place ≡ 0 → r.position ≡ 0 → Gives y (Err r) (fitting s (length x))
   unfolding answered length_of
-  gives_no_room l e q = rw (fitting_past s (length x) (omega (arith, wrote_past W (omega (arith, l, small)), small))) (record { says = rw (e, q) refl; starts = λ t h. never cc })
+  gives_no_room l e p q = rw (fitting_past s (length x) (omega (arith, wrote_past W (omega (arith, l, small)), small))) (record { says = rw (e, p, q) refl; starts = λ t h. never cc })
 
 -- a refusal
-pub gives_refused : {y : Bytes} {r : Refused} {n p : ℕ} → number r.refusal ≡ n → r.place ≡ p → Gives y (Err r) (refused n p)
+pub gives_refused : {y : Bytes} {r : Refused} {n p q : ℕ} → number r.refusal ≡ n → r.place ≡ p → r.position ≡ q → Gives y (Err r) (refused n p q)
 unfolding answered length_of
-gives_refused e q = record { says = rw (e, q) refl; starts = λ t h. never cc }
+gives_refused e p q = record { says = rw (e, p, q) refl; starts = λ t h. never cc }
 
 -- ---- encode's answer
 
@@ -55,19 +55,19 @@ module _ (file : Bytes) (w : ℕ) (f : TermFile) (e : checked file w ≡ accepte
   pub encoded_walked : encoded file w room ≡ walked f room (encode_inputs (members f) (inputs f) start)
   unfolding encoded encoding walked
   encoded_walked =
-      ap (λ (a : Answer TermFile). elim a as (λ y. Answer Bytes) [ refused n p ↦ refused n p | accepted g ↦ elim (encoding g) as (λ y. Answer Bytes) [ refused n p ↦ refused n p | accepted cs ↦ fitting (script cs) room ] ]) e
+      ap (λ (a : Answer TermFile). elim a as (λ y. Answer Bytes) [ refused n p q ↦ refused n p q | accepted g ↦ elim (encoding g) as (λ y. Answer Bytes) [ refused n p q ↦ refused n p q | accepted cs ↦ fitting (script cs) room ] ]) e
       ∙ go (encode_inputs (members f) (inputs f) start)
     where
       go : (x : Step)
-          → ◌≡◌ {A = Answer Bytes} (elim (elim x as (λ y. Answer (List Command)) [ stopped n t ↦ refused n (first_equal f t) | went s ↦ accepted (s.commands ++ assertions (members f) (names s) (inputs f)) ]) as (λ y. Answer Bytes) [ refused n p ↦ refused n p | accepted cs ↦ fitting (script cs) room ])
+          → ◌≡◌ {A = Answer Bytes} (elim (elim x as (λ y. Answer (List Command)) [ stopped n t q ↦ refused n (first_equal f t) q | went s ↦ accepted (s.commands ++ assertions (members f) (names s) (inputs f)) ]) as (λ y. Answer Bytes) [ refused n p q ↦ refused n p q | accepted cs ↦ fitting (script cs) room ])
           (walked f room x)
       go (went s) = refl
-      go (stopped n t) = refl
+      go (stopped n t q) = refl
 
 -- the answer of a file that is refused
-encoded_refused : (file : Bytes) (w n p room : ℕ) → checked file w ≡ refused n p → encoded file w room ≡ refused n p
+encoded_refused : (file : Bytes) (w n p q room : ℕ) → checked file w ≡ refused n p q → encoded file w room ≡ refused n p q
 unfolding encoded
-encoded_refused file w n p room e = rw (e, encoded)
+encoded_refused file w n p q room e = rw (e, encoded)
 
 -- ---- the whole
 
@@ -75,14 +75,14 @@ encoded_refused file w n p room e = rw (e, encoded)
 given_script : {y : Bytes} (w : Answer Bytes) {n : ℕ} → Gives y (Ok n) w → w ≡ accepted (take n y)
 unfolding answered length_of
 given_script (accepted s) {n} G = let size : n ≡ length s = (let e : accepted n ≡ accepted (length s) = G.says in cc) in ap accepted (sym (rw size (G.starts s refl)))
-given_script (refused m p) G = let e : accepted _ ≡ refused m p = G.says in never cc
+given_script (refused m p q) G = let e : accepted _ ≡ refused m p q = G.says in never cc
 
 given_size : {y : Bytes} (w : Answer Bytes) {n : ℕ} → Gives y (Ok n) w → n ≤ length y
 unfolding answered length_of
 given_size (accepted s) {n} G =
     let size : n ≡ length s = (let e : accepted n ≡ accepted (length s) = G.says in cc) in
     omega (arith, size, simp length-take at (ap length (G.starts s refl)))
-given_size (refused m p) G = let e : accepted _ ≡ refused m p = G.says in never cc
+given_size (refused m p q) G = let e : accepted _ ≡ refused m p q = G.says in never cc
 
 module _ (file : Bytes) (work work₁ : List ℕ) (x : Bytes) {work' : List ℕ} {y z : Bytes} (same : length y ≡ length x) (c : work' ≡ replicate (length work₁) 0) (kept : length work₁ ≡ length work) where
   -- zeros stand past a script
@@ -107,7 +107,7 @@ module _ (file : Bytes) (work work₁ : List ℕ) (x : Bytes) {work' : List ℕ}
     where
       zeros : (w : Answer Bytes) → encoded_as (Err r) ≡ length_of w → z ≡ left w (length x)
       zeros (accepted s) h = never cc
-      zeros (refused n p) h = rw (sym same) (simp unary_clauses at e)
+      zeros (refused n p q) h = rw (sym same) (simp unary_clauses at e)
 
   -- what follows the script is cleared, or all of the buffer
   pub encodes : (r : Result ℕ Refused) → Gives y r (encoded file (length work) (length x)) → z ≡ cleared y (result_unwrap_or r 0) → Encodes file work x work' z r
@@ -117,4 +117,4 @@ module _ (file : Bytes) (work work₁ : List ℕ) (x : Bytes) {work' : List ℕ}
 -- a file that is refused before its script is written, when the memory has been cleared
 pub encodes_refused : (file : Bytes) (work : List ℕ) (x : Bytes) {work' : List ℕ} {z : Bytes} {r : Refused} → Fills file work work' (Err r) → z ≡ cleared x 0 → Encodes file work x work' z (Err r)
 unfolding answered
-encodes_refused file work x {r = r} F e = encodes file work work x refl F.cleared refl (Err r) (rw (encoded_refused file (length work) (number r.refusal) r.place (length x) F.refuses) (gives_refused refl refl)) e
+encodes_refused file work x {r = r} F e = encodes file work work x refl F.cleared refl (Err r) (rw (encoded_refused file (length work) (number r.refusal) r.place r.position (length x) F.refuses) (gives_refused refl refl refl)) e

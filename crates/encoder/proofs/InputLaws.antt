@@ -30,13 +30,13 @@ unfolding encode_inputs ◌>>◌
 encode_append e [] us S = refl
 encode_append e (t ∷ ts) us S = go (λ s. encode_append e ts us s) (encode_term e t S)
   where
-    go : ((s : State) → encode_inputs e (ts ++ us) s ≡ elim (encode_inputs e ts s) as (λ y. Step) [ went r ↦ encode_inputs e us r | stopped n u ↦ stopped n u ]) → (x : Step) → elim x as (λ y. Step) [ went s ↦ encode_inputs e (ts ++ us) s | stopped n u ↦ stopped n u ]
-        ≡ elim (elim x as (λ y. Step) [ went s ↦ encode_inputs e ts s | stopped n u ↦ stopped n u ]) as (λ y. Step) [ went s ↦ encode_inputs e us s | stopped n u ↦ stopped n u ]
+    go : ((s : State) → encode_inputs e (ts ++ us) s ≡ elim (encode_inputs e ts s) as (λ y. Step) [ went r ↦ encode_inputs e us r | stopped n u q ↦ stopped n u q ]) → (x : Step) → elim x as (λ y. Step) [ went s ↦ encode_inputs e (ts ++ us) s | stopped n u q ↦ stopped n u q ]
+        ≡ elim (elim x as (λ y. Step) [ went s ↦ encode_inputs e ts s | stopped n u q ↦ stopped n u q ]) as (λ y. Step) [ went s ↦ encode_inputs e us s | stopped n u q ↦ stopped n u q ]
     go more (went s) = more s
-    go more (stopped n u) = refl
+    go more (stopped n u q) = refl
 
 -- a step that stopped is not gone on with
-append_stopped : (e : Enums) (ts us : List Tm) (S : State) {n : ℕ} {t : Tm} → encode_inputs e ts S ≡ stopped n t → encode_inputs e (ts ++ us) S ≡ stopped n t
+append_stopped : (e : Enums) (ts us : List Tm) (S : State) {n q : ℕ} {t : Tm} → encode_inputs e ts S ≡ stopped n t q → encode_inputs e (ts ++ us) S ≡ stopped n t q
 unfolding ◌>>◌
 append_stopped e ts us S h = rw (encode_append e ts us S, ◌>>◌, h)
 
@@ -48,9 +48,9 @@ encode_one : (e : Enums) (t : Tm) (S : State) → encode_inputs e (t ∷ []) S �
 unfolding encode_inputs ◌>>◌
 encode_one e t S = go (encode_term e t S)
   where
-    go : (x : Step) → elim x as (λ y. Step) [ went s ↦ went s | stopped n u ↦ stopped n u ] ≡ x
+    go : (x : Step) → elim x as (λ y. Step) [ went s ↦ went s | stopped n u q ↦ stopped n u q ] ≡ x
     go (went s) = refl
-    go (stopped n u) = refl
+    go (stopped n u q) = refl
 
 -- the first inputs with one more
 pub inputs_more : (f : TermFile) (i : ℕ) → i < length (inputs f) → take (i + 1) (inputs f) ≡ take i (inputs f) ++ (input_at f i ∷ [])
@@ -91,7 +91,7 @@ module _ {v w : Walk} {i : ℕ} where
               = ap (λ (ts : List Tm). encode_inputs (members f) ts S) more ∙ append_went (members f) (take i (inputs f)) (input_at f i ∷ []) S h
               ∙ encode_one (members f) (input_at f i) S' ∙ ap (λ (t : Tm). encode_term (members f) t S') (sym (ap (term_at f) e ∙ row.is)) in
               rw walks (A.go f limit o S' J (rw e row.below) H)
-          by (stopped q t) h H = absurd H
+          by (stopped m t q) h H = absurd H
 
   -- a refusal ends the walk over all of them
   pub encoding_stopped : {e : Stopped} → Encoding v i w (Err e) → i ≤ v.records.now.sizes.inputs → Advances any_ready inputs_walk v w (Err e)
@@ -100,8 +100,8 @@ module _ {v w : Walk} {i : ℕ} where
     where
       by : (f : TermFile) (limit : ℕ) (o : Bytes) (S : State) (y : Step) → encode_inputs (members f) (take i (inputs f)) S ≡ y → Holds f limit o w (Err e) y → Holds f limit o w (Err e) (encode_inputs (members f) (inputs f) S)
       by f limit o S (went S') h H = absurd H
-      by f limit o S (stopped q t) h H =
-          let all : encode_inputs (members f) (inputs f) S ≡ stopped q t
+      by f limit o S (stopped m t q) h H =
+          let all : encode_inputs (members f) (inputs f) S ≡ stopped m t q
           = ap (λ (ts : List Tm). encode_inputs (members f) ts S) (sym (take-append-drop i (inputs f))) ∙ append_stopped (members f) (take i (inputs f)) (drop i (inputs f)) S h in
           rw all H
 

@@ -19,17 +19,18 @@ use Rattle.walk_queries.specs.Made.{Ascends}
 use Rattle.check_file.specs.Promise.{Fills}
 use Rattle.encoder.specs.Promise.{encoded_as}
 
--- a walk that stops at a term is refused at the first record that is equal to it
+-- a walk that stops at a term is refused at the first record that is equal to it, with its position
 pub record RefusedAt (records : Records) (e : Stopped) (r : Refused) : Type 0 where
   pub refusal_is : r.refusal ≡ e.refusal
+  pub position_is : r.position ≡ e.position
   pub go : (f : TermFile) → IndexOf f records → e.term < length (terms f) → r.place ≡ first_equal f (term_at f e.term)
 
 -- what the walk w over the inputs of f has come to and what it answers, by its step: all commands are written, or the walk is refused
 abbrev pub Ended : TermFile → ℕ → Bytes → Walk → Result (Unit {0}) Refused → Step → Type 0
 Ended f limit o w (Ok u) (went S) = Wrote limit o w.script.now.out.now w.script.now.at (script (S.commands ++ assertions (members f) (names S) (inputs f)))
-Ended f limit o w (Ok u) (stopped n t) = ⊥
+Ended f limit o w (Ok u) (stopped n t q) = ⊥
 Ended f limit o w (Err e) (went S) = ⊥
-Ended f limit o w (Err e) (stopped n t) = (number e.refusal ≡ n) × (e.place ≡ first_equal f t)
+Ended f limit o w (Err e) (stopped n t q) = (number e.refusal ≡ n) × (e.place ≡ first_equal f t) × (e.position ≡ q)
 
 -- the inputs are encoded and their assertions written, whatever state the walk had come to
 pub record WritesRecords (v w : Walk) (r : Result (Unit {0}) Refused) : Type 0 where
@@ -44,7 +45,7 @@ pub record Gives (y : Bytes) (r : Result ℕ Refused) (w : Answer Bytes) : Type 
 -- the answer after the walk over the inputs of f
 unfoldable pub walked : TermFile → ℕ → Step → Answer Bytes
 walked f room (went S) = fitting (script (S.commands ++ assertions (members f) (names S) (inputs f))) room
-walked f room (stopped n t) = refused n (first_equal f t)
+walked f room (stopped n t q) = refused n (first_equal f t) q
 
 -- the memory is the index of accepted records as check leaves it
 abbrev pub Checked : TermFile → Walk → Type 0

@@ -14,14 +14,15 @@ use refusal::{Refusal, Refused};
 use walk_names::walk::{Stopped, Walk};
 use write_bytes::writer::Writer;
 
-// The refusal of a walk, at the first record equal to the refused term.
+// The refusal of a walk, at the first record equal to the refused term, with the position.
 fn refused_at(records: Records<'_>, stopped: Stopped) -> Refused
     ensures { RefusedAt records.entry stopped result }
 {
     let first = records.get(Column::TermFirst, stopped.term);
     Refused {
         refusal: stopped.refusal,
-        place: records.get(Column::TermPlace, first),
+        place: records.get(Column::TermPlace, first) as usize,
+        position: stopped.position,
     }
 }
 
@@ -49,6 +50,7 @@ fn write_script(walk: &mut Walk) -> Result<usize, Refused>
         return Err(Refused {
             refusal: Refusal::NoRoom,
             place: 0,
+            position: 0,
         });
     }
     Ok(walk.script.at)

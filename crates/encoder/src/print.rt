@@ -1,6 +1,7 @@
 // What the program `termscript` writes for a file: the script, or the one line of a refusal.
+ghost use Rattle.std.specs.Prelude.{◌≡◌};
 ghost use Rattle.script_spec.specs.Base.{refused};
-ghost use Rattle.script_spec.specs.Walk.{printed};
+ghost use Rattle.script_spec.specs.Walk.{printed, has_position, position_words};
 ghost use Rattle.refusal.specs.Numbers.{number};
 ghost use Rattle.write_bytes.specs.Writers.{Writes};
 ghost use Rattle.encoder.specs.Printing.{PrintsRefusal, Prints};
@@ -11,20 +12,41 @@ use write_bytes::writer::Writer;
 // How many bytes a file of the program may have.
 const LONGEST: usize = 8192;
 
+// Whether the position of a refusal is printed: that of a code point.
+fn has_position(refusal: Refusal) -> bool
+    ensures { result ≡ has_position (number refusal) }
+{
+    matches!(
+        refusal,
+        Refusal::HighId | Refusal::HighString | Refusal::HighPattern
+    )
+}
+
+// Writes the words of a refusal's position, if it has one.
+fn put_position(w: &mut Writer<'_>, why: Refused)
+    ensures { Writes w.old w.new (position_words (number why.refusal) why.position) }
+{
+    if has_position(why.refusal) {
+        w.put(b" at ");
+        write_numeral::put_decimal(w, why.position as u64);
+    }
+}
+
 // Writes the line of a refusal.
 fn put_refusal(w: &mut Writer<'_>, why: Refused)
-    ensures { Writes w.old w.new (printed (refused (number why.refusal) why.place)) }
+    ensures { Writes w.old w.new (printed (refused (number why.refusal) why.place why.position)) }
 {
     w.put(b"refused ");
     write_numeral::put_decimal(w, u64::from(why.refusal.number()));
     w.put(b" record ");
-    write_numeral::put_decimal(w, u64::from(why.place));
+    write_numeral::put_decimal(w, why.place as u64);
+    put_position(w, why);
     w.put_byte(b'\n');
 }
 
 // Prints the line of a refusal into a buffer, and answers its length; or refuses where it does not fit.
 fn print_refusal(script: &mut [u8], why: Refused) -> Result<usize, Refusal>
-    ensures { PrintsRefusal script.old (number why.refusal) why.place script.new result }
+    ensures { PrintsRefusal script.old (number why.refusal) why.place why.position script.new result }
 {
     let mut w = Writer::new(script);
     put_refusal(&mut w, why);
@@ -40,6 +62,7 @@ pub fn print(file: &[u8], work: &mut [u32], script: &mut [u8]) -> usize
         let why = Refused {
             refusal: Refusal::FileTooLong,
             place: 0,
+            position: 0,
         };
         return print_refusal(script, why).unwrap_or(0);
     }

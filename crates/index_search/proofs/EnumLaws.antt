@@ -14,13 +14,14 @@ use lib.Dec.{ltb}
 use lib.ListN.{length, get_or}
 use Rattle.script_spec.specs.Base.{Bytes, same, place, place_from, firsts, lookup}
 use Rattle.script_spec.specs.File.{TermFile, enums, members}
+use Rattle.refusal.specs.Numbers.{option_of}
 use Rattle.index.specs.First.{or_else}
 use Rattle.index.specs.Names.{enum_name, enum_number}
 use Rattle.index.specs.Meaning.{Rows, SizesOf}
 use Rattle.index.specs.declared.Sizes.{Sizes}
 use Rattle.index_search.specs.Named.{HitNamed, MissNamed}
 use Rattle.index_search.proofs.Lookup.{equal_texts, other_texts}
-use Rattle.index_search.specs.Enums.{enum_at, members_at, found_place, FindsEnum}
+use Rattle.index_search.specs.Enums.{enum_at, members_at, FindsEnum}
 
 -- ---- a table of texts
 
@@ -72,7 +73,7 @@ unfolding members members_at enum_at enum_number or_else chosen
 number_members f name = lookup_place name (enums f)
 
 -- the number that is found, or how many enums there are
-pub found_number : (r : rust.Option ℕ) (d : ℕ) {o : Option ℕ} → found_place r ≡ o → unwrap_or r d ≡ or_else d o
+pub found_number : (r : rust.Option ℕ) (d : ℕ) {o : Option ℕ} → option_of r ≡ o → unwrap_or r d ≡ or_else d o
 unfolding or_else
 found_number rust.None d e = rw (← e)
 found_number (rust.Some n) d e = rw (← e)

@@ -5,6 +5,7 @@ use Rattle.std.proofs.Math.Option.{Option, none, some}
 use Rattle.std.specs.Prelude as rust
 use Rattle.script_spec.specs.Base.{Bytes, same, place, firsts}
 use Rattle.script_spec.specs.File.{TermFile, enums}
+use Rattle.refusal.specs.Numbers.{option_of}
 use Rattle.index.specs.Meaning.{Rows, SizesOf}
 use Rattle.index.specs.declared.Sizes.{Sizes}
 
@@ -16,11 +17,6 @@ enum_at f n = get_or (enums f) n ([], [])
 unfoldable pub members_at : TermFile → ℕ → Option (List Bytes)
 members_at f n = elim (ltb n (length (enums f))) [ true ↦ some (enum_at f n).1 | false ↦ none ]
 
--- an answer as the place that it tells
-abbrev pub found_place : rust.Option ℕ → Option ℕ
-found_place rust.None = none
-found_place (rust.Some n) = some n
-
 -- the number that was found is that of the enum with the name, and none is found where no enum has it
 pub record FindsEnum (file : Bytes) (work : List ℕ) (sizes : Sizes) (name : Bytes) (r : rust.Option ℕ) : Type 0 where
-  pub go : (f : TermFile) → Rows file f work sizes.rows → SizesOf f sizes → found_place r ≡ place (same name) (firsts (enums f))
+  pub go : (f : TermFile) → Rows file f work sizes.rows → SizesOf f sizes → option_of r ≡ place (same name) (firsts (enums f))

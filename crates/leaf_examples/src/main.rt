@@ -17,6 +17,7 @@ fn main(rt: HostRuntime) -> io::Result<()> {
     codes::texts(&rt)?;
     codes::other_bytes(&rt)?;
     codes::last_code_point(&rt)?;
+    codes::first_high(&rt)?;
     texts::quotes(&rt)?;
     texts::escapes(&rt)?;
     texts::code_points(&rt)?;

@@ -13,10 +13,11 @@ use denote.Param.Members.{Mut}
 use lib.Dec.{ltb}
 use lib.ListN.{length, drop, length-drop}
 use lib.Seq.{drop-drop}
-use Rattle.script_spec.specs.Base.{Bytes, between, is_some}
+use Rattle.script_spec.specs.Base.{Bytes, between, is_some, place}
 use Rattle.script_spec.specs.Utf8.{decode, code_points?, code_points, is_utf8}
-use Rattle.script_spec.specs.Walk.{low_enough}
+use Rattle.script_spec.specs.Walk.{is_low, first_high}
 use Rattle.script_spec.proofs.Laws.{never}
+use Rattle.refusal.proofs.Options.{after as behind, after_zero, after_one, after_here}
 use Rattle.std.specs.Prelude.{Option as Optional, None, Some, Result, Ok, Err}
 use Rattle.std.specs.Result.{is_ok}
 use Rattle.std.specs.Option.{MatchOption}
@@ -25,7 +26,7 @@ use Rattle.std.specs.Fn.{Called}
 use Rattle.std.specs.Iterator.{Yields, ChecksAll}
 use Rattle.read_utf8.specs.declared.CodePoints.{CodePoints}
 use Rattle.read_utf8.specs.declared.Malformed.{Malformed}
-use Rattle.read_utf8.specs.Decoding.{First, nothing, malformed, point, longer, follow, led, first_point, points, points_by, next_said, Decodes, is_low}
+use Rattle.read_utf8.specs.Decoding.{First, nothing, malformed, point, longer, follow, led, first_point, points, points_by, next_said, Decodes}
 use Rattle.read_utf8.proofs.Decode.{after, decode_first}
 
 -- ---- how far a code point reaches
@@ -255,10 +256,22 @@ module _ {F : Type 0} {test : Mut F (Result ℕ Malformed × Unit {0}) Bool} (as
 
 -- ---- code points that SMT-LIB's strings have
 
-pub low_more : {c d : CodePoints} {v : ℕ} → PointAt c d v → is_low v ≡ true → low_enough (points (left c)) ≡ low_enough (points (left d))
-unfolding low_enough is_low
-low_more p h = rw (p.value, h)
+-- the first high code point of a text s is the first of what c leaves of it, behind n code points
+pub record HighLeft (s : Bytes) (n : ℕ) (c : CodePoints) : Type 0 where
+  pub first : first_high (points s) ≡ behind n (first_high (points (left c)))
 
-pub low_stop : {c d : CodePoints} {v : ℕ} → PointAt c d v → is_low v ≡ false → low_enough (points (left c)) ≡ false
-unfolding low_enough is_low
-low_stop p h = rw (p.value, h)
+pub high_start : {c : CodePoints} (s : Bytes) → c.text.now ≡ s → c.at ≡ 0 → HighLeft s 0 c
+high_start s h e = record { first = rw (h, e) (sym (after_zero (first_high (points s)))) }
+
+module _ {s : Bytes} {n : ℕ} {c : CodePoints} (h : HighLeft s n c) where
+  pub high_more : {d : CodePoints} {v : ℕ} → PointAt c d v → is_low v ≡ true → HighLeft s (n + 1) d
+  unfolding first_high place
+  high_more {d} p e = record { first = h.first ∙ rw (p.value, e) (after_one n (first_high (points (left d)))) }
+
+  pub high_stop : {d : CodePoints} {v : ℕ} → PointAt c d v → is_low v ≡ false → first_high (points s) ≡ some n
+  unfolding first_high place
+  high_stop p e = h.first ∙ rw (p.value, e) (after_here n _ refl)
+
+  pub high_none : points (left c) ≡ [] → first_high (points s) ≡ none
+  unfolding first_high place behind
+  high_none e = h.first ∙ rw e refl

@@ -1,8 +1,7 @@
 -- Code points one by one: what a text starts with, what a cursor finds, and the code points of any bytes.
 -- Assumes nothing.
-use Rattle.std.specs.Prelude.{◌≡◌, ℕ, zero, suc, ◌+◌, ◌-◌, ◌*◌, ◌^◌, ◌≤◌, Bool, true, false, ◌||◌, List, [], ◌∷◌, eqb, leb, ltb, length, drop, Option, None, Some, Result, Ok, Err}
+use Rattle.std.specs.Prelude.{◌≡◌, ℕ, zero, suc, ◌+◌, ◌-◌, ◌*◌, ◌^◌, ◌≤◌, Bool, true, false, List, [], ◌∷◌, eqb, ltb, length, drop, Option, None, Some, Result, Ok, Err}
 use Rattle.script_spec.specs.Base.{Bytes, between}
-use Rattle.script_spec.specs.Tree.{wildcard}
 use Rattle.read_utf8.specs.declared.CodePoints.{CodePoints}
 use Rattle.read_utf8.specs.declared.Malformed.{Malformed}
 
@@ -79,10 +78,6 @@ pub record Decodes (f : First) (c d : CodePoints) (r : Option (Result ℕ Malfor
   pub is : next_said (d.at - c.at) r ≡ f
   pub onward : NotBefore c.at d.at r
   pub text : d.text ≡ c.text
-
--- a code point that SMT-LIB's strings have, or the wildcard
-unfoldable pub is_low : ℕ → Bool
-is_low c = leb c 196607 || eqb c wildcard
 
 -- the bits so far leave room for those to come, and the next byte is one that continues a code point
 pub record Small (more low high value : ℕ) : Type 0 where

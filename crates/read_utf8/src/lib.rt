@@ -4,8 +4,9 @@
 ghost use Rattle.std.specs.Prelude.{◌≡◌, ◌<◌, ◌-◌, Some, drop, length};
 ghost use Rattle.std.specs.Iterator.{at_most};
 ghost use Rattle.script_spec.specs.Utf8.{is_utf8};
-ghost use Rattle.script_spec.specs.Walk.{low_enough};
-ghost use Rattle.read_utf8.specs.Decoding.{first_point, led, follow, points, Decodes, is_low, Small};
+ghost use Rattle.script_spec.specs.Walk.{is_low, first_high};
+ghost use Rattle.refusal.specs.Numbers.{option_of};
+ghost use Rattle.read_utf8.specs.Decoding.{first_point, led, follow, points, Decodes, Small};
 
 // The highest code point that SMT-LIB's strings have.
 pub const HIGHEST: u32 = 196607;
@@ -109,17 +110,17 @@ pub fn is_low(c: u32) -> bool
     c <= HIGHEST || c == WILDCARD
 }
 
-// Whether SMT-LIB's strings have every code point of a text.
-pub fn low_enough(s: &[u8]) -> bool
-    ensures { result ≡ low_enough (points s.now) }
+// The position of the first code point of a text that SMT-LIB's strings do not have, before any bytes that are not UTF-8.
+pub fn first_high(s: &[u8]) -> Option<usize>
+    ensures { option_of result ≡ first_high (points s.now) }
 {
-    for point in CodePoints::new(s) {
+    for (n, point) in CodePoints::new(s).enumerate() {
         let Ok(c) = point else {
-            return true;
+            return None;
         };
         if !is_low(c) {
-            return false;
+            return Some(n);
         }
     }
-    true
+    None
 }

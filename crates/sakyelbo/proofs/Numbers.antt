@@ -1,15 +1,17 @@
--- A refusal's number is from 1 to 20, and check's from 1 to 13: `checked_numbered`, `encoded_numbered`, `command_numbered`. By the
+-- A refusal's number is from 1 to 20, 24 or 25, and check's from 1 to 13: `checked_numbered`, `encoded_numbered`, `command_numbered`. By the
 -- numbers of the readers and of the rules, and recursion over the records.
 -- Assumes nothing.
 use Prim.Native.Nat.{ℕ, zero, suc, ◌*◌, ◌≤◌}
 use native.Mathlib.Omega.{arith}
-use mathlib.Core.Path.{◌≡◌, refl}
-use mathlib.Core.Bool.{Bool, true, false}
+use mathlib.Core.Path.{◌≡◌, refl, sym}
+use mathlib.Core.Bool.{Bool, true, false, ◌||◌}
 use mathlib.Core.List.{List, [], ◌∷◌, ◌++◌}
 use mathlib.Core.Option.{Option, none, some, none-ne-some}
-use lib.Dec.{T, leb, leb→le}
+use lib.Dec.{T, eqb, leb, leb→le, eqb→eq}
+use mathlib.Core.Logic.{⊎_elim}
+use borrow.Author.Tests.{le-leb}
 use lib.ListN.{length, take, drop}
-use Rattle.script_spec.specs.Base.{Bytes, Answer, accepted, refused, lookup, all}
+use Rattle.script_spec.specs.Base.{Bytes, Answer, accepted, refused, between, lookup, all}
 use Rattle.script_spec.specs.Utf8.{is_utf8}
 use Rattle.script_spec.specs.Tree.{Tm, node}
 use Rattle.script_spec.specs.Tree.{Var, BoolLit, BitVecLit, StringLit, Entity, ExtLit, None, Some, Set, Record, App}
@@ -20,47 +22,66 @@ use Rattle.script_spec.specs.Walk.{encoding, encoded}
 use Rattle.script_spec.specs.Faithful.{Every, every, also}
 use Rattle.script_spec.proofs.Lists.{every_append}
 use Rattle.script_spec.proofs.Demand.{encoding_refusal}
-use Rattle.script_spec.proofs.Laws.{either_way, never}
+use Rattle.script_spec.proofs.Laws.{and_parts, or_cases, either_way, never}
+use Rattle.script_spec.proofs.NewLog.{Told, high_id, high_text, high_pattern, no_position}
 use Rattle.sakyelbo.proofs.Readers.{OfField, five, six, seven, eight, Reading, read, refusal, Reads, mark_reads, reading_whole}
 
--- a number from 1 to a greatest one
-pub record Within (greatest n : ℕ) : Type 0 where
-  pub least : 1 ≤ n
-  pub most : n ≤ greatest
+-- the numbers of check's refusals
+unfoldable pub check_number : ℕ → Bool
+check_number n = between 1 13 n
 
--- a numeral by its tests
-within : {greatest n : ℕ} → T (leb 1 n) → T (leb n greatest) → Within greatest n
-within {greatest} {n} h k = record { least = leb→le 1 n h; most = leb→le n greatest k }
+-- and of encode's
+unfoldable pub encode_number : ℕ → Bool
+encode_number n = between 1 20 n || between 24 25 n
+
+in_encode : {n : ℕ} → 1 ≤ n → n ≤ 20 → T (encode_number n)
+unfolding encode_number between
+in_encode {n} h k = rw (le-leb 1 n h, le-leb n 20 k) tt
+
+-- check's are among encode's
+check_encode : (n : ℕ) → T (check_number n) → T (encode_number n)
+unfolding check_number encode_number between
+check_encode n h = let p = and_parts (leb 1 n) (leb n 13) h in in_encode (leb→le 1 n p.0) (omega (arith, leb→le n 13 p.1))
+
+-- so are those of the walk
+walk_encode : {n q : ℕ} {t : Tm} → Told n t q → T (encode_number n)
+unfolding encode_number between
+walk_encode (high_id h) = tt
+walk_encode (high_text h) = tt
+walk_encode (high_pattern h) = tt
+walk_encode {n} (no_position h) =
+    ⊎_elim (λ e. rw (eqb→eq n 14 e) tt) (λ w. let p = and_parts (leb 16 n) (leb n 19) w in in_encode {n = n} (omega (arith, leb→le 16 n p.0)) (omega (arith, leb→le n 19 p.1)))
+    (or_cases (eqb n 14) (between 16 19 n) h)
 
 -- the refusal of an answer, if it is one, has such a number
-pub record Numbered {A : Type 0} (greatest : ℕ) (a : Answer A) : Type 0 where
-  pub number : (n p : ℕ) → a ≡ refused n p → Within greatest n
+pub record Numbered {A : Type 0} (test : ℕ → Bool) (a : Answer A) : Type 0 where
+  pub number : (n p q : ℕ) → a ≡ refused n p q → T (test n)
 
-module _ {A : Type 0} where
-  numbered_result : (greatest : ℕ) (a : A) → Numbered greatest (accepted a)
-  numbered_result greatest a = record { number = λ n p e. never cc }
+module _ {A : Type 0} (test : ℕ → Bool) where
+  numbered_result : (a : A) → Numbered test (accepted a)
+  numbered_result a = record { number = λ n p q e. never cc }
 
-  numbered_refusal : (greatest n p : ℕ) → Within greatest n → Numbered {A = A} greatest (refused n p)
-  numbered_refusal greatest n p w = record { number = λ m q e. let h : n ≡ m = cc in record { least = omega arith; most = omega arith } }
+  numbered_refusal : (n p q : ℕ) → T (test n) → Numbered {A = A} test (refused n p q)
+  numbered_refusal n p q w = record { number = λ m i j e. let h : n ≡ m = cc in rw (sym h) w }
 
 -- ---- rules
 
 -- rules with numbers of check's refusals
 abbrev Ruled : List Rule → Type 0
-Ruled = Every (λ (r : Rule). Within 13 r.0)
+Ruled = Every (λ (r : Rule). T (check_number r.0))
 
 -- the number of the first rule that is broken is that of a rule
-broken_numbered : (rs : List Rule) → Ruled rs → (n : ℕ) → broken rs ≡ some n → Within 13 n
+broken_numbered : (rs : List Rule) → Ruled rs → (n : ℕ) → broken rs ≡ some n → T (check_number n)
 unfolding broken
 broken_numbered [] every n e = absurd (none-ne-some n e)
 broken_numbered (r ∷ rs) (also w ws) n e = from r.1 e (λ k. broken_numbered rs ws n k)
   where
-    from : (b : Bool) → elim b as (λ y. Option ℕ) [ true ↦ broken rs | false ↦ some r.0 ] ≡ some n → (broken rs ≡ some n → Within 13 n) → Within 13 n
+    from : (b : Bool) → elim b as (λ y. Option ℕ) [ true ↦ broken rs | false ↦ some r.0 ] ≡ some n → (broken rs ≡ some n → T (check_number n)) → T (check_number n)
     from true h later = later h
-    from false h later = let k : r.0 ≡ n = cc in record { least = omega (arith, w); most = omega (arith, w) }
+    from false h later = let k : r.0 ≡ n = cc in rw (sym k) w
 
 list_rules_lem : (t : Tm) → Ruled (list_rules t)
-unfolding list_rules
+unfolding list_rules check_number between
 list_rules_lem (node (Var id ty) ts) = every
 list_rules_lem (node (BoolLit b) ts) = every
 list_rules_lem (node (BitVecLit n v) ts) = every
@@ -69,46 +90,47 @@ list_rules_lem (node (Entity ty id) ts) = every
 list_rules_lem (node (ExtLit v) ts) = every
 list_rules_lem (node (None ty) ts) = every
 list_rules_lem (node Some ts) = every
-list_rules_lem (node (Set ty) ts) = also (within tt tt) every
-list_rules_lem (node (Record names) ts) = also (within tt tt) every
-list_rules_lem (node (App ty op) ts) = also (within tt tt) every
+list_rules_lem (node (Set ty) ts) = also tt every
+list_rules_lem (node (Record names) ts) = also tt every
+list_rules_lem (node (App ty op) ts) = also tt every
 
 rules_numbered : (f : TermFile) (r : Named) → Ruled (rules f r)
-unfolding rules
-rules_numbered f (type t) = also (within tt tt) (also (within tt tt) every)
-rules_numbered f (enum n ms) = also (within tt tt) (also (within tt tt) (also (within tt tt) every))
+unfolding rules check_number between
+rules_numbered f (type t) = also tt (also tt every)
+rules_numbered f (enum n ms) = also tt (also tt (also tt every))
 rules_numbered f (func g) = every
-rules_numbered f (term t) = every_append (list_rules_lem t) (also (within tt tt) (also (within tt tt) every))
+rules_numbered f (term t) = every_append (list_rules_lem t) (also tt (also tt every))
 rules_numbered f (input t) = every
 
 -- ---- records
 
 -- a record, or one of check's refusals
 abbrev Next : Read Named → Type 0
-Next = Reading (Within 13)
+Next = Reading (λ n. T (check_number n))
 
 kept_numbered : (f : TermFile) (r : Named) (rest : Bytes) → Next (kept f r rest)
 unfolding kept
 kept_numbered f r rest = from (broken (rules f r)) (broken_numbered (rules f r) (rules_numbered f r))
   where
-    from : (o : Option ℕ) → ((n : ℕ) → o ≡ some n → Within 13 n) → Next (elim o as (λ y. Read Named) [ none ↦ got r rest | some n ↦ bad n ])
+    from : (o : Option ℕ) → ((n : ℕ) → o ≡ some n → T (check_number n)) → Next (elim o as (λ y. Read Named) [ none ↦ got r rest | some n ↦ bad n ])
     from none h = read
     from (some n) h = refusal (h n refl)
 
-field_within : {n : ℕ} → OfField n → Within 13 n
-field_within five = within tt tt
-field_within six = within tt tt
-field_within seven = within tt tt
-field_within eight = within tt tt
+field_number : {n : ℕ} → OfField n → T (check_number n)
+unfolding check_number between
+field_number five = tt
+field_number six = tt
+field_number seven = tt
+field_number eight = tt
 
 judged_numbered : (f : TermFile) (rest : Bytes) (x : Read Entry) → Reading OfField x → Next (judged f rest x)
 unfolding judged
 judged_numbered f rest (got e left) read = kept_numbered f (named f e) rest
-judged_numbered f rest (bad n) (refusal h) = refusal (field_within h)
+judged_numbered f rest (bad n) (refusal h) = refusal (field_number h)
 
 next_record_numbered : (f : TermFile) (s : Bytes) → Next (next_record f s)
-unfolding next_record
-next_record_numbered f s = either_way Next _ _ (leb 6 (length s)) (refusal (within tt tt)) (from (lookup (take 2 s) (marks (earlier f))) (mark_reads (earlier f) (take 2 s)))
+unfolding next_record check_number between
+next_record_numbered f s = either_way Next _ _ (leb 6 (length s)) (refusal tt) (from (lookup (take 2 s) (marks (earlier f))) (mark_reads (earlier f) (take 2 s)))
   where
     size : ℕ
     size = low (take 4 (drop 2 s))
@@ -118,48 +140,48 @@ next_record_numbered f s = either_way Next _ _ (leb 6 (length s)) (refusal (with
           | none ↦ bad 4
           | some reader ↦ elim (leb size (length (drop 6 s))) [ false ↦ bad 3 | true ↦ judged f (drop size (drop 6 s)) (whole (reader (take size (drop 6 s)))) ]
         ])
-    from none h = refusal (within tt tt)
-    from (some reader) h = either_way Next _ _ (leb size (length (drop 6 s))) (refusal (within tt tt)) (judged_numbered f (drop size (drop 6 s)) (whole (reader (take size (drop 6 s)))) (reading_whole (reader (take size (drop 6 s))) ((h reader refl).go (take size (drop 6 s)))))
+    from none h = refusal tt
+    from (some reader) h = either_way Next _ _ (leb size (length (drop 6 s))) (refusal tt) (judged_numbered f (drop size (drop 6 s)) (whole (reader (take size (drop 6 s)))) (reading_whole (reader (take size (drop 6 s))) ((h reader refl).go (take size (drop 6 s)))))
 
 -- ---- answers
 
-records_numbered : (fuel : ℕ) (f : TermFile) (s : Bytes) → Numbered 13 (records fuel f s)
+records_numbered : (fuel : ℕ) (f : TermFile) (s : Bytes) → Numbered check_number (records fuel f s)
 unfolding records
-records_numbered zero f s = numbered_result 13 f
-records_numbered (suc fuel) f [] = numbered_result 13 f
+records_numbered zero f s = numbered_result check_number f
+records_numbered (suc fuel) f [] = numbered_result check_number f
 records_numbered (suc fuel) f (b ∷ s) = from (next_record f (b ∷ s)) (next_record_numbered f (b ∷ s)) (λ r rest. records_numbered fuel (f ++ (r ∷ [])) rest)
   where
-    from : (x : Read Named) → Next x → ((r : Named) (rest : Bytes) → Numbered 13 (records fuel (f ++ (r ∷ [])) rest))
-        → Numbered {A = TermFile} 13 (elim x as (λ y. Answer TermFile) [ bad n ↦ refused n (length f) | got r rest ↦ records fuel (f ++ (r ∷ [])) rest ])
+    from : (x : Read Named) → Next x → ((r : Named) (rest : Bytes) → Numbered check_number (records fuel (f ++ (r ∷ [])) rest))
+        → Numbered {A = TermFile} check_number (elim x as (λ y. Answer TermFile) [ bad n ↦ refused n (length f) 0 | got r rest ↦ records fuel (f ++ (r ∷ [])) rest ])
     from (got r rest) read later = later r rest
-    from (bad n) (refusal w) later = numbered_refusal 13 n (length f) w
+    from (bad n) (refusal w) later = numbered_refusal check_number n (length f) 0 w
 
 -- check's refusals are 1 to 13
-pub checked_numbered : (file : Bytes) (work : ℕ) → Numbered 13 (checked file work)
-unfolding checked
+pub checked_numbered : (file : Bytes) (work : ℕ) → Numbered check_number (checked file work)
+unfolding checked check_number between
 checked_numbered file work =
-    either_way (Numbered 13) _ _ (leb (length file) 1048576) (numbered_refusal 13 1 0 (within tt tt))
-    (either_way (Numbered 13) _ _ (leb (2 * length file) work) (numbered_refusal 13 2 0 (within tt tt)) (records_numbered (length file) [] file))
+    either_way (Numbered check_number) _ _ (leb (length file) 1048576) (numbered_refusal check_number 1 0 0 tt)
+    (either_way (Numbered check_number) _ _ (leb (2 * length file) work) (numbered_refusal check_number 2 0 0 tt) (records_numbered (length file) [] file))
 
-fitting_numbered : (s : Bytes) (room : ℕ) → Numbered 20 (fitting s room)
-unfolding fitting
-fitting_numbered s room = either_way (Numbered 20) _ _ (leb (length s) room) (numbered_refusal 20 20 0 (within tt tt)) (numbered_result 20 s)
+fitting_numbered : (s : Bytes) (room : ℕ) → Numbered encode_number (fitting s room)
+unfolding fitting encode_number between
+fitting_numbered s room = either_way (Numbered encode_number) _ _ (leb (length s) room) (numbered_refusal encode_number 20 0 0 tt) (numbered_result encode_number s)
 
--- encode's refusals are 1 to 20
-pub encoded_numbered : (file : Bytes) (work room : ℕ) → Numbered 20 (encoded file work room)
+-- encode's refusals are 1 to 20, 24 and 25
+pub encoded_numbered : (file : Bytes) (work room : ℕ) → Numbered encode_number (encoded file work room)
 unfolding encoded
 encoded_numbered file work room = from (checked file work) (checked_numbered file work)
   where
-    walked : (f : TermFile) (x : Answer (List Command)) → encoding f ≡ x → Numbered {A = Bytes} 20 (elim x as (λ y. Answer Bytes) [ refused n p ↦ refused n p | accepted cs ↦ fitting (script cs) room ])
-    walked f (refused n p) e = let w = (encoding_refusal f n p e).1 in numbered_refusal 20 n p (record { least = omega (arith, w.least); most = omega (arith, w.most) })
+    walked : (f : TermFile) (x : Answer (List Command)) → encoding f ≡ x → Numbered {A = Bytes} encode_number (elim x as (λ y. Answer Bytes) [ refused n p q ↦ refused n p q | accepted cs ↦ fitting (script cs) room ])
+    walked f (refused n p q) e = numbered_refusal encode_number n p q (walk_encode (encoding_refusal f n p q e).1.told)
     walked f (accepted cs) e = fitting_numbered (script cs) room
 
-    from : (x : Answer TermFile) → Numbered 13 x
-        → Numbered {A = Bytes} 20 (elim x as (λ y. Answer Bytes) [ refused n p ↦ refused n p | accepted f ↦ elim (encoding f) as (λ y. Answer Bytes) [ refused n p ↦ refused n p | accepted cs ↦ fitting (script cs) room ] ])
-    from (refused n p) h = let w = h.number n p refl in numbered_refusal 20 n p (record { least = w.least; most = omega (arith, w.most) })
+    from : (x : Answer TermFile) → Numbered check_number x
+        → Numbered {A = Bytes} encode_number (elim x as (λ y. Answer Bytes) [ refused n p q ↦ refused n p q | accepted f ↦ elim (encoding f) as (λ y. Answer Bytes) [ refused n p q ↦ refused n p q | accepted cs ↦ fitting (script cs) room ] ])
+    from (refused n p q) h = numbered_refusal encode_number n p q (check_encode n (h.number n p q refl))
     from (accepted f) h = walked f (encoding f) refl
 
 -- so are those of writing a command
-pub command_numbered : (c : Command) (room : ℕ) → Numbered 20 (command_written c room)
-unfolding command_written
-command_numbered c room = either_way (Numbered 20) _ _ (all is_utf8 (given c)) (numbered_refusal 20 6 0 (within tt tt)) (fitting_numbered (line c) room)
+pub command_numbered : (c : Command) (room : ℕ) → Numbered encode_number (command_written c room)
+unfolding command_written encode_number between
+command_numbered c room = either_way (Numbered encode_number) _ _ (all is_utf8 (given c)) (numbered_refusal encode_number 6 0 0 tt) (fitting_numbered (line c) room)

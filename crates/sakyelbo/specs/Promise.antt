@@ -7,19 +7,23 @@ use Rattle.script_spec.specs.Command.{Command, command_written, left}
 use Rattle.script_spec.specs.Walk.{encoded}
 use Rattle.script_spec.specs.Faithful.{Faithful}
 use Rattle.write_bytes.specs.Writing.{length_of}
-use Rattle.sakyelbo.specs.Answers.{answer_code, SaysAnswer}
+use Rattle.sakyelbo.specs.Answers.{where_of, Says, SaysSize}
+use Rattle.sakyelbo.specs.declared.Where.{Where}
 
--- check's promise on a file, the memory at entry and at exit, and its answer
-pub record ChecksFile (file : Bytes) (work work' : List ℕ) (r : ℕ) : Type 0 where
-  pub answer : r ≡ answer_code (checked file (length work))
+-- check's promise on a file, the memory at entry and at exit, where the refusal is, and the answer r
+pub record ChecksFile (file : Bytes) (work work' : List ℕ) (at : Where) (r : ℕ) : Type 0 where
+  -- the refusal's number, place and position
+  pub says : Says (checked file (length work)) at r
   -- 0 is acceptance
   pub accepts : r ≡ 0 → (f : TermFile) × (checked file (length work) ≡ accepted f)
   pub cleared : work' ≡ replicate (length work) 0
 
--- encode's promise on a file, the memory and the script's buffer at entry and at exit, with a size n and the answer r
-pub record EncodesFile (file : Bytes) (work : List ℕ) (script : Bytes) (work' : List ℕ) (script' : Bytes) (n r : ℕ) : Type 0 where
-  -- the script's length and 0, or 0 and the refusal
-  pub says : SaysAnswer (length_of (encoded file (length work) (length script))) n r
+-- encode's promise on a file, the memory and the script's buffer at entry and at exit, with a size n, where the refusal is, and the answer r
+pub record EncodesFile (file : Bytes) (work : List ℕ) (script : Bytes) (work' : List ℕ) (script' : Bytes) (n : ℕ) (at : Where) (r : ℕ) : Type 0 where
+  -- the script's length and 0, or 0 and the refusal's number
+  pub says : SaysSize (length_of (encoded file (length work) (length script))) n r
+  -- the refusal's place and position
+  pub at_is : at ≡ where_of (encoded file (length work) (length script))
   -- 0 is acceptance: the script is the first n bytes
   pub accepts : r ≡ 0 → encoded file (length work) (length script) ≡ accepted (take n script')
   -- the script and zeros past it, or zeros alone
@@ -31,7 +35,9 @@ pub record EncodesFile (file : Bytes) (work : List ℕ) (script : Bytes) (work' 
 
 -- a command is written into a buffer x, which becomes y, with a size n and the answer r
 pub record WritesCommand (c : Command) (x y : Bytes) (n r : ℕ) : Type 0 where
-  pub says : SaysAnswer (length_of (command_written c (length x))) n r
+  pub says : SaysSize (length_of (command_written c (length x))) n r
+  -- its refusals have no place and no position
+  pub nowhere : where_of (command_written c (length x)) ≡ record { place = 0; position = 0 }
   -- 0 is acceptance: the line is the first n bytes
   pub accepts : r ≡ 0 → command_written c (length x) ≡ accepted (take n y)
   pub holds : y ≡ left (command_written c (length x)) (length x)

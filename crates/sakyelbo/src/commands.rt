@@ -4,7 +4,7 @@ ghost use Rattle.script_spec.specs.Command as command;
 ghost use Rattle.sakyelbo.specs.Promise.{WritesCommand};
 
 // `; COMMENT`, on one line: 200 code points of it at most, and spaces for control characters.
-pub fn sakyelbo_comment(comment: &[u8], out: &mut [u8], size: &mut usize) -> u64
+pub fn sakyelbo_comment(comment: &[u8], out: &mut [u8], size: &mut usize) -> u32
     ensures { WritesCommand (command.comment comment.now)
         out.old out.new size.new result }
 {
@@ -18,7 +18,7 @@ pub fn sakyelbo_declare_datatype(
     constructors: &[&[u8]],
     out: &mut [u8],
     size: &mut usize,
-) -> u64
+) -> u32
     ensures { WritesCommand (command.declare_datatype id.now (map (λ x. x.now) params.now) (map (λ x. x.now) constructors.now))
         out.old out.new size.new result }
 {
@@ -29,7 +29,7 @@ pub fn sakyelbo_declare_datatype(
 }
 
 // `(declare-const ID SORT)`.
-pub fn sakyelbo_declare_const(id: &[u8], sort: &[u8], out: &mut [u8], size: &mut usize) -> u64
+pub fn sakyelbo_declare_const(id: &[u8], sort: &[u8], out: &mut [u8], size: &mut usize) -> u32
     ensures { WritesCommand (command.declare_const id.now sort.now)
         out.old out.new size.new result }
 {
@@ -43,7 +43,7 @@ pub fn sakyelbo_declare_fun(
     sort: &[u8],
     out: &mut [u8],
     size: &mut usize,
-) -> u64
+) -> u32
     ensures { WritesCommand (command.declare_fun id.now (map (λ x. x.now) args.now) sort.now)
         out.old out.new size.new result }
 {
@@ -62,7 +62,7 @@ pub fn sakyelbo_define_fun(
     body: &[u8],
     out: &mut [u8],
     size: &mut usize,
-) -> u64
+) -> u32
     ensures { WritesCommand (command.define_fun id.now (zip (map (λ x. x.now) names.now) (map (λ x. x.now) sorts.now)) sort.now body.now)
         out.old out.new size.new result }
 {
@@ -73,7 +73,7 @@ pub fn sakyelbo_define_fun(
 }
 
 // `(assert BODY)`.
-pub fn sakyelbo_assert_that(body: &[u8], out: &mut [u8], size: &mut usize) -> u64
+pub fn sakyelbo_assert_that(body: &[u8], out: &mut [u8], size: &mut usize) -> u32
     ensures { WritesCommand (command.assert_that body.now)
         out.old out.new size.new result }
 {
@@ -81,7 +81,7 @@ pub fn sakyelbo_assert_that(body: &[u8], out: &mut [u8], size: &mut usize) -> u6
 }
 
 // `(set-logic LOGIC)`.
-pub fn sakyelbo_set_logic(logic: &[u8], out: &mut [u8], size: &mut usize) -> u64
+pub fn sakyelbo_set_logic(logic: &[u8], out: &mut [u8], size: &mut usize) -> u32
     ensures { WritesCommand (command.set_logic logic.now)
         out.old out.new size.new result }
 {
@@ -89,7 +89,7 @@ pub fn sakyelbo_set_logic(logic: &[u8], out: &mut [u8], size: &mut usize) -> u64
 }
 
 // `(set-option :OPTION VALUE)`.
-pub fn sakyelbo_set_option(option: &[u8], value: &[u8], out: &mut [u8], size: &mut usize) -> u64
+pub fn sakyelbo_set_option(option: &[u8], value: &[u8], out: &mut [u8], size: &mut usize) -> u32
     ensures { WritesCommand (command.set_option option.now value.now)
         out.old out.new size.new result }
 {
@@ -100,7 +100,7 @@ pub fn sakyelbo_set_option(option: &[u8], value: &[u8], out: &mut [u8], size: &m
 }
 
 // `(check-sat)`.
-pub fn sakyelbo_check_sat(out: &mut [u8], size: &mut usize) -> u64
+pub fn sakyelbo_check_sat(out: &mut [u8], size: &mut usize) -> u32
     ensures { WritesCommand command.check_sat
         out.old out.new size.new result }
 {
@@ -108,7 +108,7 @@ pub fn sakyelbo_check_sat(out: &mut [u8], size: &mut usize) -> u64
 }
 
 // `(get-model)`.
-pub fn sakyelbo_get_model(out: &mut [u8], size: &mut usize) -> u64
+pub fn sakyelbo_get_model(out: &mut [u8], size: &mut usize) -> u32
     ensures { WritesCommand command.get_model
         out.old out.new size.new result }
 {
@@ -116,7 +116,7 @@ pub fn sakyelbo_get_model(out: &mut [u8], size: &mut usize) -> u64
 }
 
 // `(reset)`.
-pub fn sakyelbo_reset(out: &mut [u8], size: &mut usize) -> u64
+pub fn sakyelbo_reset(out: &mut [u8], size: &mut usize) -> u32
     ensures { WritesCommand command.reset
         out.old out.new size.new result }
 {
@@ -124,7 +124,7 @@ pub fn sakyelbo_reset(out: &mut [u8], size: &mut usize) -> u64
 }
 
 // `(exit)`.
-pub fn sakyelbo_exit(out: &mut [u8], size: &mut usize) -> u64
+pub fn sakyelbo_exit(out: &mut [u8], size: &mut usize) -> u32
     ensures { WritesCommand command.exit
         out.old out.new size.new result }
 {

@@ -5,12 +5,14 @@ ghost use mathlib.Core.List.{map, zip};
 ghost use Rattle.script_spec.specs.Command as command;
 ghost use Rattle.sakyelbo.specs.Promise.{ChecksFile, EncodesFile, WritesCommand};
 
+use sakyelbo::Where;
+
 // Checks a file; the memory is all zero afterwards.
 #[unsafe(no_mangle)]
-pub extern "C" fn sakyelbo_check(file: &[u8], work: &mut [u32]) -> u64
-    ensures { ChecksFile file.now work.old work.new result }
+pub extern "C" fn sakyelbo_check(file: &[u8], work: &mut [u32], at: &mut Where) -> u32
+    ensures { ChecksFile file.now work.old work.new at.new result }
 {
-    sakyelbo::sakyelbo_check(file, work)
+    sakyelbo::sakyelbo_check(file, work, at)
 }
 
 // Encodes a file: the script and zeros past it, and its length behind `size`; or zeros alone. The memory is all zero afterwards.
@@ -20,15 +22,16 @@ pub extern "C" fn sakyelbo_encode(
     work: &mut [u32],
     script: &mut [u8],
     size: &mut usize,
-) -> u64
-    ensures { EncodesFile file.now work.old script.old work.new script.new size.new result }
+    at: &mut Where,
+) -> u32
+    ensures { EncodesFile file.now work.old script.old work.new script.new size.new at.new result }
 {
-    sakyelbo::sakyelbo_encode(file, work, script, size)
+    sakyelbo::sakyelbo_encode(file, work, script, size, at)
 }
 
 // `; COMMENT`, on one line: 200 code points of it at most, and spaces for control characters.
 #[unsafe(no_mangle)]
-pub extern "C" fn sakyelbo_comment(comment: &[u8], out: &mut [u8], size: &mut usize) -> u64
+pub extern "C" fn sakyelbo_comment(comment: &[u8], out: &mut [u8], size: &mut usize) -> u32
     ensures { WritesCommand (command.comment comment.now)
         out.old out.new size.new result }
 {
@@ -43,7 +46,7 @@ pub extern "C" fn sakyelbo_declare_datatype(
     constructors: &[&[u8]],
     out: &mut [u8],
     size: &mut usize,
-) -> u64
+) -> u32
     ensures { WritesCommand (command.declare_datatype id.now (map (λ x. x.now) params.now) (map (λ x. x.now) constructors.now))
         out.old out.new size.new result }
 {
@@ -57,7 +60,7 @@ pub extern "C" fn sakyelbo_declare_const(
     sort: &[u8],
     out: &mut [u8],
     size: &mut usize,
-) -> u64
+) -> u32
     ensures { WritesCommand (command.declare_const id.now sort.now)
         out.old out.new size.new result }
 {
@@ -72,7 +75,7 @@ pub extern "C" fn sakyelbo_declare_fun(
     sort: &[u8],
     out: &mut [u8],
     size: &mut usize,
-) -> u64
+) -> u32
     ensures { WritesCommand (command.declare_fun id.now (map (λ x. x.now) args.now) sort.now)
         out.old out.new size.new result }
 {
@@ -89,7 +92,7 @@ pub extern "C" fn sakyelbo_define_fun(
     body: &[u8],
     out: &mut [u8],
     size: &mut usize,
-) -> u64
+) -> u32
     ensures { WritesCommand (command.define_fun id.now (zip (map (λ x. x.now) names.now) (map (λ x. x.now) sorts.now)) sort.now body.now)
         out.old out.new size.new result }
 {
@@ -98,7 +101,7 @@ pub extern "C" fn sakyelbo_define_fun(
 
 // `(assert BODY)`.
 #[unsafe(no_mangle)]
-pub extern "C" fn sakyelbo_assert_that(body: &[u8], out: &mut [u8], size: &mut usize) -> u64
+pub extern "C" fn sakyelbo_assert_that(body: &[u8], out: &mut [u8], size: &mut usize) -> u32
     ensures { WritesCommand (command.assert_that body.now)
         out.old out.new size.new result }
 {
@@ -107,7 +110,7 @@ pub extern "C" fn sakyelbo_assert_that(body: &[u8], out: &mut [u8], size: &mut u
 
 // `(set-logic LOGIC)`.
 #[unsafe(no_mangle)]
-pub extern "C" fn sakyelbo_set_logic(logic: &[u8], out: &mut [u8], size: &mut usize) -> u64
+pub extern "C" fn sakyelbo_set_logic(logic: &[u8], out: &mut [u8], size: &mut usize) -> u32
     ensures { WritesCommand (command.set_logic logic.now)
         out.old out.new size.new result }
 {
@@ -121,7 +124,7 @@ pub extern "C" fn sakyelbo_set_option(
     value: &[u8],
     out: &mut [u8],
     size: &mut usize,
-) -> u64
+) -> u32
     ensures { WritesCommand (command.set_option option.now value.now)
         out.old out.new size.new result }
 {
@@ -130,7 +133,7 @@ pub extern "C" fn sakyelbo_set_option(
 
 // `(check-sat)`.
 #[unsafe(no_mangle)]
-pub extern "C" fn sakyelbo_check_sat(out: &mut [u8], size: &mut usize) -> u64
+pub extern "C" fn sakyelbo_check_sat(out: &mut [u8], size: &mut usize) -> u32
     ensures { WritesCommand command.check_sat
         out.old out.new size.new result }
 {
@@ -139,7 +142,7 @@ pub extern "C" fn sakyelbo_check_sat(out: &mut [u8], size: &mut usize) -> u64
 
 // `(get-model)`.
 #[unsafe(no_mangle)]
-pub extern "C" fn sakyelbo_get_model(out: &mut [u8], size: &mut usize) -> u64
+pub extern "C" fn sakyelbo_get_model(out: &mut [u8], size: &mut usize) -> u32
     ensures { WritesCommand command.get_model
         out.old out.new size.new result }
 {
@@ -148,7 +151,7 @@ pub extern "C" fn sakyelbo_get_model(out: &mut [u8], size: &mut usize) -> u64
 
 // `(reset)`.
 #[unsafe(no_mangle)]
-pub extern "C" fn sakyelbo_reset(out: &mut [u8], size: &mut usize) -> u64
+pub extern "C" fn sakyelbo_reset(out: &mut [u8], size: &mut usize) -> u32
     ensures { WritesCommand command.reset
         out.old out.new size.new result }
 {
@@ -157,7 +160,7 @@ pub extern "C" fn sakyelbo_reset(out: &mut [u8], size: &mut usize) -> u64
 
 // `(exit)`.
 #[unsafe(no_mangle)]
-pub extern "C" fn sakyelbo_exit(out: &mut [u8], size: &mut usize) -> u64
+pub extern "C" fn sakyelbo_exit(out: &mut [u8], size: &mut usize) -> u32
     ensures { WritesCommand command.exit
         out.old out.new size.new result }
 {

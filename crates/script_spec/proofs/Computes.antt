@@ -46,7 +46,7 @@ unfolding Spelling.ext_name Spelling.bit_vec_sort Spelling.datatype_sort Spellin
 spelling = tt
 
 unfoldable pub walk : Unit {0}
-unfolding Walk.start Walk.enter_type Walk.enter_fun Walk.enter_term Walk.write Walk.numbered Walk.letter Walk.type_name Walk.names Walk.◌>>◌ Walk.unless Walk.refuse_unless Walk.writing Walk.declare_type Walk.encode_type Walk.declare_function Walk.encode_uuf Walk.enter Walk.declare_var Walk.define_term Walk.low_enough Walk.define_entity Walk.record_get Walk.operator_step Walk.define_app Walk.encode_new Walk.encode_term Walk.encode_inputs Walk.assertions Walk.is_term Walk.first_equal Walk.encoding Walk.encoded Walk.printed Walk.termscript
+unfolding Walk.start Walk.enter_type Walk.enter_fun Walk.enter_term Walk.write Walk.numbered Walk.letter Walk.type_name Walk.names Walk.◌>>◌ Walk.unless Walk.refuse_unless Walk.is_low Walk.first_high Walk.refuse_high Walk.writing Walk.declare_type Walk.encode_type Walk.declare_function Walk.encode_uuf Walk.enter Walk.declare_var Walk.define_term Walk.define_entity Walk.record_get Walk.operator_step Walk.define_app Walk.encode_new Walk.encode_term Walk.encode_inputs Walk.assertions Walk.is_term Walk.first_equal Walk.encoding Walk.encoded Walk.has_position Walk.position_words Walk.printed Walk.termscript
 walk = tt
 
 unfoldable pub smtlib : Unit {0}

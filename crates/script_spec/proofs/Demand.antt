@@ -35,6 +35,7 @@ faithful file work f cs p q = encoding_faithful f cs (bare_types (checked_bare f
 pub encoded_faithful : (file : Bytes) (work room : ℕ) (f : TermFile) (s : Bytes) → checked file work ≡ accepted f → encoded file work room ≡ accepted s → Faithful f s
 encoded_faithful file work room f s p q = let w = encoded_commands file work room f s p q in subst (Faithful f) w.2 (faithful file work f w.0 p w.1)
 
--- a refusal of the walk has a number from 14 to 19 and the place of a needed term
-pub encoding_refusal : (f : TermFile) (n k : ℕ) → encoding f ≡ refused n k → (t : Tm) × Refusal (inputs f) n t × (k ≡ first_equal f t)
-encoding_refusal f n k p = let w = encoding_stopped f n k p in (w.0, walk_refusal (members f) (inputs f) n w.0 w.1, w.2)
+-- a refusal of the walk has a number from 14 to 19, 24 or 25 and the place of a needed term; 15, 24 and 25 have the position of the first
+-- high code point of its id, text or pattern, and the others 0
+pub encoding_refusal : (f : TermFile) (n k q : ℕ) → encoding f ≡ refused n k q → (t : Tm) × Refusal (inputs f) n t q × (k ≡ first_equal f t)
+encoding_refusal f n k q p = let w = encoding_stopped f n k q p in (w.0, walk_refusal (members f) (inputs f) n w.0 q w.1, w.2)

@@ -13,9 +13,9 @@ use Rattle.script_spec.specs.Base.{Bytes, any}
 use Rattle.script_spec.specs.Tree.{Ty, Fun, Tm, Mark, Forest, node, nil, cons, children, depth, depths, type_of, is_falsehood, eq_tm, Enums, enum_of, Negation, ordinary, falsehood, comparison, negation}
 use Rattle.script_spec.specs.Tree.{uuf, Var, BoolLit, BitVecLit, StringLit, Entity, ExtLit, None, Some, Set, Record, App, Op, Plain, Ext, RecordGet, StringLike, Uuf, ZeroExtend}
 use Rattle.script_spec.specs.Command.{Command}
-use Rattle.script_spec.specs.Walk.{State, Step, Walk, ◌>>◌, unless, refuse_unless, enter_fun, enter_term, write, writing, declare_function, encode_type, encode_uuf, enter, declare_var, define_term, define_entity, record_get, operator_step, define_app, encode_new, encode_term, encode_terms}
+use Rattle.script_spec.specs.Walk.{State, Step, Walk, ◌>>◌, unless, refuse_unless, refuse_high, enter_fun, enter_term, write, writing, declare_function, encode_type, encode_uuf, enter, declare_var, define_term, define_entity, record_get, operator_step, define_app, encode_new, encode_term, encode_terms}
 use Rattle.script_spec.proofs.Laws.{is_true}
-use Rattle.script_spec.proofs.Steps.{Ends, Goes, goes, ends_then, ends_unless, ends_tested, ends_map, goes_map}
+use Rattle.script_spec.proofs.Steps.{Ends, Goes, goes, ends_then, ends_unless, ends_tested, ends_high, ends_map, goes_map}
 use Rattle.script_spec.proofs.Entered.{term_cases, encode_type_only}
 
 -- ---- types and functions enter no term
@@ -39,7 +39,7 @@ pub record TermsOnly (d : ℕ) (s s' : State) : Type 0 where
 
 -- a step that enters terms of at most the depth d, or stops
 abbrev pub Enters : ℕ → State → Step → Type 0
-Enters d s = Ends (TermsOnly d s) (λ n t. Unit {0})
+Enters d s = Ends (TermsOnly d s) (λ n t q. Unit {0})
 
 only_same : (d : ℕ) (s s' : State) → s'.terms ≡ s.terms → TermsOnly d s s'
 only_same d s s' p = record { terms = λ u l h. subst (λ (us : List Tm). T (any (eq_tm u) us)) p h }
@@ -55,6 +55,9 @@ enters_then a b c w v s p q x y = ends_then w v s (ends_map (λ s₁ o. ends_map
 
 tested_enters : (d n : ℕ) (t : Tm) (b : Bool) (s : State) → Enters d s (refuse_unless n t b s)
 tested_enters d n t b s = ends_tested n t b s (only_same d s s refl) tt
+
+high_enters : (d n : ℕ) (t : Tm) (cs : List ℕ) (s : State) → Enters d s (refuse_high n t cs s)
+high_enters d n t cs s = ends_high n t cs s (only_same d s s refl) (λ q e. tt)
 
 -- a term entered, with whatever is written
 entered_only : (t : Tm) (cs : List Command) (s : State) → TermsOnly (depth t) s (write cs (enter_term t s))
@@ -78,7 +81,7 @@ define_term_only e t s = goes (entered_only t _ s)
 -- an entity by the members of its type
 define_entity_only : (e : Enums) (t : Tm) (id : Bytes) (o : Option (List Bytes)) (s : State) → Enters (depth t) s (define_entity e t id o s)
 unfolding define_entity
-define_entity_only e t id none s = enters_then (depth t) (depth t) (depth t) _ _ s (omega arith) (omega arith) (tested_enters (depth t) 15 t _ s) (define_term_only e t)
+define_entity_only e t id none s = enters_then (depth t) (depth t) (depth t) _ _ s (omega arith) (omega arith) (high_enters (depth t) 15 t _ s) (define_term_only e t)
 define_entity_only e t id (some ms) s = enters_then (depth t) (depth t) (depth t) _ _ s (omega arith) (omega arith) (tested_enters (depth t) 14 t _ s) (enter_only t)
 
 -- what `RecordGet` asks
@@ -95,7 +98,7 @@ unfolding operator_step
 operator_step_only d e t (Plain o) s = goes (only_same d s s refl)
 operator_step_only d e t (Ext o) s = goes (only_same d s s refl)
 operator_step_only d e t (RecordGet a) s = record_get_only d t a (map type_of (children t)) s
-operator_step_only d e t (StringLike p) s = tested_enters d 15 t _ s
+operator_step_only d e t (StringLike p) s = high_enters d 25 t _ s
 operator_step_only d e t (Uuf f) s = enters_goes d s (encode_uuf_terms e f s)
 operator_step_only d e t (ZeroExtend n) s = goes (only_same d s s refl)
 
@@ -111,7 +114,7 @@ unfolding encode_new declare_var
 encode_new_only e (node (Var id ty) ts) s = goes (entered_only (node (Var id ty) ts) _ s)
 encode_new_only e (node (BoolLit b) ts) s = goes (only_same _ s s refl)
 encode_new_only e (node (BitVecLit n v) ts) s = goes (only_same _ s s refl)
-encode_new_only e (node (StringLit x) ts) s = tested_enters _ 15 _ _ s
+encode_new_only e (node (StringLit x) ts) s = high_enters _ 24 _ _ s
 encode_new_only e (node (Entity ty id) ts) s = define_entity_only e (node (Entity ty id) ts) id (enum_of e ty) s
 encode_new_only e (node (ExtLit v) ts) s = define_term_only e _ s
 encode_new_only e (node (None ty) ts) s = define_term_only e _ s
@@ -152,7 +155,7 @@ still_new d t s s' l n o = go (any (eq_tm t) s'.terms) (o.terms t l)
 
 -- after its type and its children a term is as new as before
 pub parts_new : (e : Enums) (m : Mark) (ts : Forest Mark) (s : State) → New (node m ts) s
-    → Ends (New (node m ts)) (λ n t. Unit {0}) (◌>>◌ (encode_type e (type_of (node m ts))) (unless (λ s'. is_falsehood (node m ts)) (encode_terms e ts)) s)
+    → Ends (New (node m ts)) (λ n t q. Unit {0}) (◌>>◌ (encode_type e (type_of (node m ts))) (unless (λ s'. is_falsehood (node m ts)) (encode_terms e ts)) s)
 unfolding depth
 parts_new e m ts s n =
     ends_map (λ s' o. still_new (depths ts) (node m ts) s s' (omega arith) n o)
@@ -160,6 +163,6 @@ parts_new e m ts s n =
     (λ s₁. ends_unless _ _ s₁ (λ k. only_same _ s₁ s₁ refl) (λ k. encode_terms_only e ts s₁)))
 
 -- what an operator asks for enters no term
-pub operator_new : (e : Enums) (t u : Tm) (op : Op Fun) (s : State) → New u s → Ends (New u) (λ n v. Unit {0}) (operator_step e t op s)
+pub operator_new : (e : Enums) (t u : Tm) (op : Op Fun) (s : State) → New u s → Ends (New u) (λ n v q. Unit {0}) (operator_step e t op s)
 unfolding depth
 operator_new e t (node m ts) op s n = ends_map (λ s' o. still_new 0 (node m ts) s s' (omega arith) n o) (operator_step_only 0 e t op s)

@@ -130,6 +130,13 @@ unfolding place
 place_append p [] ys n h = absurd (none-ne-some n h)
 place_append p (x ∷ xs) ys n h = place_from_some (p x) (place p xs) (place p (xs ++ ys)) (λ m e. place_append p xs ys m e) n h
 
+-- no place where the head does not pass and the tail has none
+pub place_from_none : (b : Bool) (o : Option ℕ) → place_from b o ≡ none → (b ≡ false) × (o ≡ none)
+unfolding place_from
+place_from_none true o h = absurd (none-ne-some _ (sym h))
+place_from_none false none h = (refl, refl)
+place_from_none false (some m) h = absurd (none-ne-some _ (sym h))
+
 -- some element passes exactly where there is a place
 pub any_place : {A : Type 0} (p : A → Bool) (xs : List A) → any p xs ≡ is_some (place p xs)
 unfolding any place place_from is_some

@@ -28,6 +28,7 @@ pub mod Log
 pub mod Grow
 pub mod Agree
 pub mod Invariant
+pub mod High
 pub mod Steps
 pub mod Entered
 pub mod EnteredTerms

@@ -112,6 +112,6 @@ walk_logged e ins s bare p = (
     plain : (a : Thing) → Memᴰ a log → Bare a
     plain a m = needed_bare e ins bare a (inv.needed a m)
 
--- a walk that stops has a number from 14 to 19 and a needed term
-pub walk_refusal : (e : Enums) (ins : List Tm) (n : ℕ) (t : Tm) → encode_inputs e ins start ≡ stopped n t → Refusal ins n t
-walk_refusal e ins n t p = ends_stopped (walk_logs e ins) p
+-- a walk that stops has a number from 14 to 19, 24 or 25, a needed term, and the position in its text
+pub walk_refusal : (e : Enums) (ins : List Tm) (n : ℕ) (t : Tm) (q : ℕ) → encode_inputs e ins start ≡ stopped n t q → Refusal ins n t q
+walk_refusal e ins n t q p = ends_stopped (walk_logs e ins) p

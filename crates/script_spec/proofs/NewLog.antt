@@ -1,34 +1,40 @@
 -- A term that is new to the table, after its type and its children, is entered and logged: by cases on its mark and operator.
 -- Assumes nothing.
-use Prim.Native.Nat.{ℕ, ◌≤◌}
+use Prim.Native.Nat.{ℕ}
 use mathlib.Core.Path.{◌≡◌, refl, sym, ap, subst}
 use mathlib.Core.Logic.{◌⊎◌, inl, inr}
-use mathlib.Core.Bool.{true, false, not}
+use mathlib.Core.Bool.{true, false, not, ◌||◌}
 use mathlib.Core.List.{List, [], ◌∷◌, map, append-nil, Memᴰ}
 use mathlib.Core.Option.{Option, none, some}
-use native.Mathlib.Omega.{arith}
-use lib.Dec.{T, T_not}
-use Rattle.script_spec.specs.Base.{Bytes, any, collect, is_some, is_yes, same}
+use lib.Dec.{T, T_not, eqb}
+use Rattle.script_spec.specs.Base.{Bytes, any, between, collect, is_some, is_yes, same}
 use Rattle.script_spec.specs.Utf8.{code_points}
 use Rattle.script_spec.specs.Tree.{Ty, Fun, Tm, Mark, Forest, node, nil, children, type_of, types_of, is_variable, is_falsehood, eq_ty, eq_tm, Enums, enum_of, attributes, attribute, mark_dec, Negation, ordinary, falsehood, comparison, negation, negation_with}
 use Rattle.script_spec.specs.Tree.{Bool·, Var, BoolLit, BitVecLit, StringLit, Entity, ExtLit, None, Some, Set, Record, App, Op, Plain, Bvnego, Ext, RecordGet, StringLike, Uuf, ZeroExtend}
 use Rattle.script_spec.specs.Command.{Command, define_fun}
 use Rattle.script_spec.specs.Spelling.{Names, sort, body, atom, inlined}
-use Rattle.script_spec.specs.Walk.{State, ◌>>◌, names, type_name, enter_term, write, refuse_unless, enter, declare_var, define_term, low_enough, define_entity, record_get, operator_step, define_app, encode_new}
+use Rattle.script_spec.specs.Walk.{State, ◌>>◌, names, type_name, enter_term, write, refuse_unless, refuse_high, enter, declare_var, define_term, define_entity, record_get, operator_step, define_app, encode_new}
 use Rattle.script_spec.specs.Faithful.{Thing, term, func, type, NeededTerm, is_applied, Needed}
 use Rattle.script_spec.proofs.Laws.{is_false, never}
 use Rattle.script_spec.proofs.Log.{command_of, silent, HasType, HasParts, nameable}
-use Rattle.script_spec.proofs.Steps.{Ends, goes, ends_then, ends_tested, ends_map, goes_map}
+use Rattle.script_spec.proofs.High.{FirstHighAt, first_high_at}
+use Rattle.script_spec.proofs.Steps.{Ends, goes, ends_then, ends_tested, ends_high, ends_map, goes_map}
 use Rattle.script_spec.proofs.Negated.{is_falsehood_by}
 use Rattle.script_spec.proofs.Grow.{grows_next, Done, Dones, dones_terms, type_grows, dones_grow}
 use Rattle.script_spec.proofs.Entered.{term_cases, term_new}
 use Rattle.script_spec.proofs.Invariant.{Tabled, Covered, Extends, extends, extends_term, Inv, inv_quiet, inv_logged}
 use Rattle.script_spec.proofs.TypeLog.{Logs, logs_same, logs_then, encode_uuf_logs}
 
--- a refusal of the walk: its number, and a term that is needed
-pub record Refusal (ins : List Tm) (n : ℕ) (t : Tm) : Type 0 where
-  pub least : 14 ≤ n
-  pub most : n ≤ 19
+-- what a refusal's number and position say of its term: the first high code point of an id, of a text or of a pattern, or no position
+pub data Told : ℕ → Tm → ℕ → Type 0 where
+  high_id : {ty : Ty} {id : Bytes} {ts : Forest Mark} {q : ℕ} → FirstHighAt (code_points id) q → Told 15 (node (Entity ty id) ts) q
+  high_text : {s : Bytes} {ts : Forest Mark} {q : ℕ} → FirstHighAt (code_points s) q → Told 24 (node (StringLit s) ts) q
+  high_pattern : {ty : Ty} {p : List ℕ} {ts : Forest Mark} {q : ℕ} → FirstHighAt p q → Told 25 (node (App ty (StringLike p)) ts) q
+  no_position : {n : ℕ} {t : Tm} → T (eqb n 14 || between 16 19 n) → Told n t 0
+
+-- a refusal of the walk: what it says, of a term that is needed
+pub record Refusal (ins : List Tm) (n : ℕ) (t : Tm) (q : ℕ) : Type 0 where
+  pub told : Told n t q
   pub needed : NeededTerm ins t
 
 -- the function of an operator, if it has one, is logged
@@ -156,14 +162,14 @@ module _ (e : Enums) (ins : List Tm) where
         new (func f) h = inl h
         new (type ty) h = inl h
 
-    defined : {X : ℕ → Tm → Type 0} → T (not (inlined e (node m ts))) → T (not (is_variable (node m ts))) → T (not (is_falsehood (node m ts))) → Applied log m → Ends (Finished m ts s log) X (define_term e (node m ts) s)
+    defined : {X : ℕ → Tm → ℕ → Type 0} → T (not (inlined e (node m ts))) → T (not (is_variable (node m ts))) → T (not (is_falsehood (node m ts))) → Applied log m → Ends (Finished m ts s log) X (define_term e (node m ts) s)
     unfolding define_term
     defined i v n a = goes (entered_named _ i (λ k. n) a (defined_command e (names (enter_term (node m ts) s)) (node m ts) v))
 
     -- ---- entities
 
-    refusal : (n : ℕ) → 14 ≤ n → n ≤ 19 → Refusal ins n (node m ts)
-    refusal n a b = record { least = a; most = b; needed = r.needed }
+    refusal : {n q : ℕ} → Told n (node m ts) q → Refusal ins n (node m ts) q
+    refusal h = record { told = h; needed = r.needed }
 
   entity_logs : (ty : Ty) (id : Bytes) (ts : Forest Mark) (s : State) (log : List Thing) → Ready (Entity ty id) ts s log
       → Ends (Finished (Entity ty id) ts s log) (Refusal ins) (define_entity e (node (Entity ty id) ts) id (enum_of e ty) s)
@@ -175,11 +181,11 @@ module _ (e : Enums) (ins : List Tm) where
 
       go : (o : Option (List Bytes)) → enum_of e ty ≡ o → Ends (Finished (Entity ty id) ts s log) (Refusal ins) (define_entity e t id o s)
       go none p =
-          ends_then (refuse_unless 15 t (low_enough (code_points id))) (define_term e t) s
-          (ends_tested 15 t (low_enough (code_points id)) s (defined r (rw p tt) tt tt tt) (refusal r 15 (omega arith) (omega arith)))
+          ends_then (refuse_high 15 t (code_points id)) (define_term e t) s
+          (ends_high 15 t (code_points id) s (defined r (rw p tt) tt tt tt) (λ q h. refusal r (high_id (first_high_at (code_points id) q h))))
       go (some ms) p =
           ends_then (refuse_unless 14 t (any (same id) ms)) (enter t) s
-          (ends_tested 14 t (any (same id) ms) s (goes (entered_inlined r (rw p tt) tt)) (refusal r 14 (omega arith) (omega arith)))
+          (ends_tested 14 t (any (same id) ms) s (goes (entered_inlined r (rw p tt) tt)) (refusal r (no_position tt)))
 
   -- ---- applications
 
@@ -189,16 +195,16 @@ module _ (e : Enums) (ins : List Tm) where
 
   record_get_logs : {m : Mark} {ts : Forest Mark} {s : State} {log : List Thing} (a : Bytes) (tys : List Ty) → Ready m ts s log
       → Ends (Stepped (RecordGet a) s log) (Refusal ins) (record_get (node m ts) a tys s)
-  unfolding record_get AppliedOp
-  record_get_logs {m} {ts} {s} a [] r = ends_tested 19 (node m ts) false s (logs_same e ins r.inv tt, refl) (refusal r 19 (omega arith) (omega arith))
+  unfolding record_get AppliedOp between
+  record_get_logs {m} {ts} {s} a [] r = ends_tested 19 (node m ts) false s (logs_same e ins r.inv tt, refl) (refusal r (no_position tt))
   record_get_logs {m} {ts} {s} a (ty ∷ tys) r =
       ends_then (λ s'. refuse_unless 18 t (any (eq_ty ty) s'.types) s') (◌>>◌ (refuse_unless 17 t (is_some (attributes ty))) (refuse_unless 16 t (is_some (attribute a ty)))) s
       (ends_tested 18 t (any (eq_ty ty) s.types) s
       (ends_then (refuse_unless 17 t (is_some (attributes ty))) (refuse_unless 16 t (is_some (attribute a ty))) s
       (ends_tested 17 t (is_some (attributes ty)) s
-      (ends_tested 16 t (is_some (attribute a ty)) s (logs_same e ins r.inv tt, refl) (refusal r 16 (omega arith) (omega arith)))
-      (refusal r 17 (omega arith) (omega arith))))
-      (refusal r 18 (omega arith) (omega arith)))
+      (ends_tested 16 t (is_some (attribute a ty)) s (logs_same e ins r.inv tt, refl) (refusal r (no_position tt)))
+      (refusal r (no_position tt))))
+      (refusal r (no_position tt)))
     where
       t : Tm
       t = node m ts
@@ -209,7 +215,7 @@ module _ (e : Enums) (ins : List Tm) where
   operator_step_logs (Plain o) r = goes (logs_same e ins r.inv tt, refl)
   operator_step_logs (Ext o) r = goes (logs_same e ins r.inv tt, refl)
   operator_step_logs {ty} {ts} (RecordGet a) r = record_get_logs a (map type_of (children (node (App ty (RecordGet a)) ts))) r
-  operator_step_logs {ty} {ts} {s} (StringLike p) r = ends_tested 15 (node (App ty (StringLike p)) ts) (low_enough p) s (logs_same e ins r.inv tt, refl) (refusal r 15 (omega arith) (omega arith))
+  operator_step_logs {ty} {ts} {s} (StringLike p) r = ends_high 25 (node (App ty (StringLike p)) ts) p s (logs_same e ins r.inv tt, refl) (λ q h. refusal r (high_pattern (first_high_at p q h)))
   operator_step_logs {s = s} {log = log} (Uuf f) r = goes_map (λ s' l. l) (encode_uuf_logs e ins f s log (is_applied r.needed) r.inv)
   operator_step_logs (ZeroExtend n) r = goes (logs_same e ins r.inv tt, refl)
 
@@ -250,7 +256,7 @@ module _ (e : Enums) (ins : List Tm) where
   encode_new_logs (Var id ty) ts s log r = goes (entered_named r _ tt (λ n. absurd n) tt refl)
   encode_new_logs (BoolLit b) ts s log r = goes (unentered r tt tt)
   encode_new_logs (BitVecLit n v) ts s log r = goes (unentered r tt tt)
-  encode_new_logs (StringLit x) ts s log r = ends_tested 15 (node (StringLit x) ts) (low_enough (code_points x)) s (unentered r tt tt) (refusal r 15 (omega arith) (omega arith))
+  encode_new_logs (StringLit x) ts s log r = ends_high 24 (node (StringLit x) ts) (code_points x) s (unentered r tt tt) (λ q h. refusal r (high_text (first_high_at (code_points x) q h)))
   encode_new_logs (Entity ty id) ts s log r = entity_logs ty id ts s log r
   encode_new_logs (ExtLit v) ts s log r = defined r tt tt tt tt
   encode_new_logs (None ty) ts s log r = defined r tt tt tt tt

@@ -16,10 +16,10 @@ unfoldable pub bytes : String → Bytes
 bytes []ˢ = []
 bytes (c ∷ˢ s) = code c ∷ bytes s
 
--- what a call answers: its result, or a refusal with its number and the record's place
+-- what a call answers: its result, or a refusal with its number, the record's place and the position in its text
 pub data Answer (A : Type 0) : Type 0 where
   accepted : A → Answer A
-  refused : ℕ → ℕ → Answer A
+  refused : ℕ → ℕ → ℕ → Answer A
 
 -- what a decision says
 abbrev pub is_yes : {A : Type 0} → Dec A → Bool

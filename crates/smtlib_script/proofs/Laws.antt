@@ -22,7 +22,7 @@ use Rattle.smtlib_script.specs.Alone.{WritesAlone}
 -- ---- the two ways out
 
 -- a text is not UTF-8
-pub refuses : {c : Command} {x y : Bytes} {r : Result ℕ Refusal} {b : Bool} → b ≡ all is_utf8 (given c) → b ≡ false → Leaves x y (answer r) (refused 6 0) → WritesAlone c x y r
+pub refuses : {c : Command} {x y : Bytes} {r : Result ℕ Refusal} {b : Bool} → b ≡ all is_utf8 (given c) → b ≡ false → Leaves x y (answer r) (refused 6 0 0) → WritesAlone c x y r
 unfolding command_written
 refuses {b = b} e h l = record { leaves = rw (sym e ∙ h, command_written) l }
 

@@ -19,7 +19,7 @@ written_within : (s : Bytes) (room : ℕ) → written (length_of (fitting s room
 unfolding fitting length_of written
 written_within s room = go (leb (length s) room) refl
   where
-    go : (b : Bool) → leb (length s) room ≡ b → written (length_of (elim b [ true ↦ accepted s | false ↦ refused 20 0 ])) ≤ room
+    go : (b : Bool) → leb (length s) room ≡ b → written (length_of (elim b [ true ↦ accepted s | false ↦ refused 20 0 0 ])) ≤ room
     go true e = leb-true _ _ e
     go false e = omega arith
 
@@ -28,7 +28,7 @@ shown_within {x} {s} h = rw h.size (written_within s (length x))
 
 -- ---- the answer to a start
 
-termscript_long : (file : Bytes) → 8192 < length file → termscript file ≡ printed (refused 1 0)
+termscript_long : (file : Bytes) → 8192 < length file → termscript file ≡ printed (refused 1 0 0)
 unfolding termscript
 termscript_long file h = rw (lt-leb (length file) 8192 h) refl
 

@@ -90,9 +90,9 @@ module _ {ready : TermFile → State → Type 0} {step : TermFile → walk.Walk}
 
   -- the walk stops at a term
   pub advances_stopped : (e : Stopped)
-      → ((f : TermFile) (limit : ℕ) (o : Bytes) (S : State) → Indexed f v → ready f S → Went f limit o v S → (e.term < length (terms f)) × (step f S ≡ stopped (number e.refusal) (term_at f e.term)))
+      → ((f : TermFile) (limit : ℕ) (o : Bytes) (S : State) → Indexed f v → ready f S → Went f limit o v S → (e.term < length (terms f)) × (step f S ≡ stopped (number e.refusal) (term_at f e.term) e.position))
       → Advances ready step v v (Err e)
-  advances_stopped e h = record { remains = remains_refl; go = λ f limit o S I r W. let g = h f limit o S I r W in rw g.1 (record { refused_is = refl; term_below = g.0; term_is = refl; size = ap length W.wrote.holds ∙ length_laid (ceiling v.script.now.limit) o (script S.commands) }) }
+  advances_stopped e h = record { remains = remains_refl; go = λ f limit o S I r W. let g = h f limit o S I r W in rw g.1 (record { refused_is = refl; term_below = g.0; term_is = refl; position_is = refl; size = ap length W.wrote.holds ∙ length_laid (ceiling v.script.now.limit) o (script S.commands) }) }
 
   -- a step in other words, for what is ready for it
   pub advances_by : {ready' : TermFile → State → Type 0} {step' : TermFile → walk.Walk} {w : Walk} {r : Result (Unit {0}) Stopped}
@@ -103,12 +103,12 @@ module _ {ready : TermFile → State → Type 0} {step : TermFile → walk.Walk}
 -- what was reached after a step that went
 pub went_on : {f : TermFile} {limit : ℕ} {o : Bytes} {w : Walk} {P : Type 0} (x : Step) → Holds f limit o w (Ok tt) x → ((S : State) → x ≡ went S → Went f limit o w S → P) → P
 went_on (went S) H next = next S refl H
-went_on (stopped n t) H next = absurd H
+went_on (stopped n t q) H next = absurd H
 
 -- after one that stopped
-stayed : {f : TermFile} {limit : ℕ} {o : Bytes} {w : Walk} {e : Stopped} (x : Step) → Holds f limit o w (Err e) x → {P : Type 0} → ((n : ℕ) → (t : _) → x ≡ stopped n t → StoppedAt f limit o w e n t → P) → P
+stayed : {f : TermFile} {limit : ℕ} {o : Bytes} {w : Walk} {e : Stopped} (x : Step) → Holds f limit o w (Err e) x → {P : Type 0} → ((n : ℕ) → (t : _) → (q : ℕ) → x ≡ stopped n t q → StoppedAt f limit o w e n t q → P) → P
 stayed (went S) H next = absurd H
-stayed (stopped n t) H next = next n t refl H
+stayed (stopped n t q) H next = next n t q refl H
 
 module _ {ready : TermFile → State → Type 0} {u v : Walk} where
   -- two steps in a row
@@ -128,7 +128,7 @@ module _ {ready : TermFile → State → Type 0} {u v : Walk} where
   advances_stays step step' A =
       record {
         remains = A.remains;
-        go = λ f limit o S I a W. stayed (step f S) (A.go f limit o S I a W) (λ n t e H. rw (then_stopped (step f) (step' f) S n t e) H);
+        go = λ f limit o S I a W. stayed (step f S) (A.go f limit o S I a W) (λ n t q e H. rw (then_stopped (step f) (step' f) S n t q e) H);
       }
 
 -- ---- writing

@@ -19,6 +19,7 @@ use Rattle.script_spec.specs.File.{TermFile, types, funs, terms, members, type_a
 use Rattle.script_spec.specs.Text.{decimal}
 use Rattle.script_spec.specs.Command.{Command}
 use Rattle.script_spec.specs.Walk.{State, went, start, enter_type, enter_fun, enter_term, write, numbered, names, encode_new}
+use Rattle.refusal.specs.Numbers.{option_of}
 use Rattle.index.specs.Cells.{placed, cell, store, type_offset, type_first, fun_offset, fun_first, fun_place, term_offset, term_first, term_type, enum_offset, hash}
 use Rattle.index.specs.Cells.{note, term_place, enum_list, type_place, type_list, enum_place, input_place, list_row, input_offset, input_term}
 use Rattle.index.specs.First.{first_type, first_fun, first_term}
@@ -30,7 +31,7 @@ use Rattle.index.proofs.Cells.{shared, Apart, length_store, cell_store_same, cel
 use Rattle.index.proofs.Growth.{counts_together}
 use Rattle.index.proofs.Rows.{listed_same, types_fit, funs_fit, terms_fit}
 use Rattle.index.proofs.Firsts.{FirstEqual, Equality, any_place, first_below, first_types, first_funs, first_terms, equal_types, equal_funs, equal_terms}
-use Rattle.walk_names.specs.Naming.{type_names, fun_names, term_names, is_name, has_names, name_in, raised, name_stored, name_at, place_of, place_said, Table, TermsPassed, Numbers, Kept}
+use Rattle.walk_names.specs.Naming.{type_names, fun_names, term_names, is_name, has_names, name_in, raised, name_stored, name_at, place_of, Table, TermsPassed, Numbers, Kept}
 use Rattle.walk_names.proofs.Tables.{table_start, table_same, table_place, table_enter}
 
 -- ---- memories that differ in names and notes alone
@@ -251,29 +252,29 @@ module _ {file : Bytes} {f : TermFile} {work : List ℕ} {k : ℕ} (I : Rows fil
 -- ---- what is known by a name
 
 -- there is a place where an answer gives one
-known_said : (r : std.Option ℕ) {o : Option ℕ} → place_said r ≡ o → is_some o ≡ std.is_some r
-unfolding place_said is_some
+known_said : (r : std.Option ℕ) {o : Option ℕ} → option_of r ≡ o → is_some o ≡ std.is_some r
+unfolding is_some
 known_said None e = rw (← e)
 known_said (Some n) e = rw (← e)
 
 module _ {file : Bytes} {f : TermFile} {work : List ℕ} {k : ℕ} {S : State} (I : Rows file f work k) (N : Numbers f work k S) (n : ℕ) (r : std.Option ℕ) where
   -- a type or a function is in its table where it has a name
-  pub known_type : n < length (types f) → place_said r ≡ place_of (name_at work k type_first type_names n) → any (eq_ty (type_at f n)) S.types ≡ std.is_some r
+  pub known_type : n < length (types f) → option_of r ≡ place_of (name_at work k type_first type_names n) → any (eq_ty (type_at f n)) S.types ≡ std.is_some r
   known_type l e = any_place (eq_ty (type_at f n)) S.types ∙ ap is_some (place_type I n N l) ∙ known_said r e
 
-  pub known_fun : n < length (funs f) → place_said r ≡ place_of (name_at work k fun_first fun_names n) → any (eq_fun (fun_at f n)) S.funs ≡ std.is_some r
+  pub known_fun : n < length (funs f) → option_of r ≡ place_of (name_at work k fun_first fun_names n) → any (eq_fun (fun_at f n)) S.funs ≡ std.is_some r
   known_fun l e = any_place (eq_fun (fun_at f n)) S.funs ∙ ap is_some (table_place N.fun_table n l ∙ ap place_of (sym (name_at_fun I n l))) ∙ known_said r e
 
 -- ---- what the functions return
 
 -- a name from its entry
-name_there : (v : ℕ) (r : std.Option ℕ) → SomeIff r (257 ≤ v) (v - 257) → place_said r ≡ place_of (v - 256)
-unfolding place_said place_of
+name_there : (v : ℕ) (r : std.Option ℕ) → SomeIff r (257 ≤ v) (v - 257) → option_of r ≡ place_of (v - 256)
+unfolding place_of
 name_there v None h = let e : v - 256 ≡ 0 = omega (arith, h) in rw e
 name_there v (Some n) h = let e : v - 256 ≡ suc n = omega (arith, h.0, h.1) in rw e
 
 pub name_got : (work : List ℕ) (k first column n : ℕ) (r : std.Option ℕ) {at v : ℕ} → at ≡ cell work k first n → v ≡ cell work k column at → SomeIff r (257 ≤ v) (v - 257)
-    → place_said r ≡ place_of (name_at work k first column n)
+    → option_of r ≡ place_of (name_at work k first column n)
 unfolding name_at name_in
 name_got work k first column n r {v = v} a e h = name_there v r h ∙ ap (λ (m : ℕ). place_of (m - 256)) (e ∙ ap (cell work k column) a)
 
@@ -285,10 +286,10 @@ raised_said v (Some n) h = rw (lt-ltb v 4294967040 (omega (arith, h.0))) h.1
 
 -- ---- writing a name
 
-pub numbered_none : (letter : Bytes) {name : std.Option ℕ} → name ≡ None → [] ≡ numbered letter (place_said name)
-unfolding numbered place_said
+pub numbered_none : (letter : Bytes) {name : std.Option ℕ} → name ≡ None → [] ≡ numbered letter (option_of name)
+unfolding numbered
 numbered_none letter e = rw e
 
-pub numbered_some : (letter : Bytes) (n : ℕ) {name : std.Option ℕ} → name ≡ Some n → letter ++ decimal n ≡ numbered letter (place_said name)
-unfolding numbered place_said
+pub numbered_some : (letter : Bytes) (n : ℕ) {name : std.Option ℕ} → name ≡ Some n → letter ++ decimal n ≡ numbered letter (option_of name)
+unfolding numbered
 numbered_some letter n e = rw e

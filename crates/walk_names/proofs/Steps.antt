@@ -12,9 +12,9 @@ unfolding ◌>>◌
 then_went w v s s' e = rw (◌>>◌, e)
 
 -- a step after one that stopped
-pub then_stopped : (w v : Walk) (s : State) (n : ℕ) (t : Tm) → w s ≡ stopped n t → ◌>>◌ w v s ≡ stopped n t
+pub then_stopped : (w v : Walk) (s : State) (n : ℕ) (t : Tm) (q : ℕ) → w s ≡ stopped n t q → ◌>>◌ w v s ≡ stopped n t q
 unfolding ◌>>◌
-then_stopped w v s n t e = rw (◌>>◌, e)
+then_stopped w v s n t q e = rw (◌>>◌, e)
 
 -- a step that is taken unless the test passes
 pub unless_known : (known : State → Bool) (w : Walk) (s : State) → known s ≡ true → unless known w s ≡ went s

@@ -44,19 +44,20 @@ module _ (f : TermFile) (limit : ℕ) (o : Bytes) (w : Walk) where
     pub limit_is : w.script.now.limit ≡ limit
     pub wrote : Wrote w.script.now.limit o w.script.now.out.now w.script.now.at (script S.commands)
 
-  -- the walk stops with the number of a refusal and the refused term, by its number in the file
-  pub record StoppedAt (e : Stopped) (n : ℕ) (t : Tm) : Type 0 where
+  -- the walk stops with the number of a refusal, the refused term, by its number in the file, and the position
+  pub record StoppedAt (e : Stopped) (n : ℕ) (t : Tm) (q : ℕ) : Type 0 where
     pub refused_is : number e.refusal ≡ n
     pub term_below : e.term < length (terms f)
     pub term_is : term_at f e.term ≡ t
+    pub position_is : e.position ≡ q
     pub size : length w.script.now.out.now ≡ length o
 
   -- what was reached by a step
   abbrev pub Holds : Result (Unit {0}) Stopped → Step → Type 0
   Holds (Ok u) (went S) = Went S
-  Holds (Ok u) (stopped n t) = ⊥
+  Holds (Ok u) (stopped n t q) = ⊥
   Holds (Err e) (went S) = ⊥
-  Holds (Err e) (stopped n t) = StoppedAt e n t
+  Holds (Err e) (stopped n t q) = StoppedAt e n t q
 
 -- ---- steps
 

@@ -2,10 +2,11 @@
 // none is above 256; so a name is stored with 256 more, and an entry without one needs no clearing.
 ghost use Rattle.std.specs.Prelude.{◌≡◌, [], ◌∷◌};
 ghost use Rattle.script_spec.specs.Walk.{numbered};
+ghost use Rattle.refusal.specs.Numbers.{option_of};
 ghost use Rattle.index.specs.Cells.{number, cell};
 ghost use Rattle.index.specs.Held.{Becomes};
 ghost use Rattle.write_bytes.specs.Writers.{Writes};
-ghost use Rattle.walk_names.specs.Naming.{first_of, names_of, raised, name_at, name_stored, place_of, place_said};
+ghost use Rattle.walk_names.specs.Naming.{first_of, names_of, raised, name_at, name_stored, place_of};
 
 use index::{Column, Records, RecordsMut};
 use write_bytes::writer::Writer;
@@ -37,7 +38,7 @@ const RAISE: u32 = 256;
 
 // The number of the name of the record with number n, if it has one.
 pub fn get(records: Records<'_>, named: Named, n: u32) -> Option<u32>
-    ensures { place_said result ≡ place_of (name_at records.entry.work.now records.entry.sizes.rows (first_of named) (names_of named) n) }
+    ensures { option_of result ≡ place_of (name_at records.entry.work.now records.entry.sizes.rows (first_of named) (names_of named) n) }
 {
     let (first, names) = named.columns();
     let at = records.get(first, n);
@@ -62,7 +63,7 @@ pub fn set(records: &mut RecordsMut<'_>, named: Named, n: u32, v: u32)
 
 // Writes a name: its letter and its number. Nothing is written where there is no name.
 pub fn put_name(w: &mut Writer<'_>, letter: u8, name: Option<u32>)
-    ensures { Writes w.old w.new (numbered (letter ∷ []) (place_said name)) }
+    ensures { Writes w.old w.new (numbered (letter ∷ []) (option_of name)) }
 {
     if let Some(n) = name {
         w.put_byte(letter);

@@ -18,11 +18,12 @@ pub struct Walk<'r, 'w, 'o, 's> {
     pub terms: u32,
 }
 
-// Why the walk stops, and the number of the refused term.
+// Why the walk stops, the number of the refused term, and the position of a code point in its text; 0 where it is of none.
 #[derive(Clone, Copy)]
 pub struct Stopped {
     pub refusal: Refusal,
     pub term: u32,
+    pub position: usize,
 }
 
 impl Walk<'_, '_, '_, '_> {

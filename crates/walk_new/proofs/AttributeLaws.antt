@@ -17,11 +17,11 @@ use Rattle.script_spec.specs.Walk.{State, went, stopped, ◌>>◌, refuse_unless
 use Rattle.script_spec.proofs.Laws.{any_place}
 use Rattle.refusal.specs.declared.Refusal.{Refusal}
 use Rattle.refusal.specs.declared.Refusal.TheVariants as refusal
-use Rattle.refusal.specs.Numbers.{number}
+use Rattle.refusal.specs.Numbers.{number, option_of}
 use Rattle.index.specs.Cells.{cell, type_first, term_type}
 use Rattle.index.specs.First.{All, Below}
 use Rattle.index.specs.declared.Sizes.{Sizes}
-use Rattle.walk_names.specs.Naming.{name_at, type_names, place_of, place_said, first_of, names_of}
+use Rattle.walk_names.specs.Naming.{name_at, type_names, place_of, first_of, names_of}
 use Rattle.walk_names.specs.declared.naming.Named.TheVariants as type
 use Rattle.walk_names.proofs.Names.{place_type}
 use Rattle.walk_names.specs.Progress.{memory, rows, Indexed, Went, Advances}
@@ -36,22 +36,22 @@ use Rattle.walk_new.specs.Steps.{TypedAt, ParentAt, attribute_walk, get_walk}
 -- ---- names
 
 -- whether a type has a name, as it is read
-pub is_named : (o : std.Option ℕ) (t : ℕ) {named : Bool} {work work' : List ℕ} {sizes sizes' : Sizes} → work ≡ work' → sizes ≡ sizes' → place_said o ≡ place_of (name_at work sizes.rows (first_of type.Types) (names_of type.Types) t) → named ≡ option.is_some o → named ≡ is_some (place_of (name_at work' sizes'.rows type_first type_names t))
-unfolding is_some place_said
+pub is_named : (o : std.Option ℕ) (t : ℕ) {named : Bool} {work work' : List ℕ} {sizes sizes' : Sizes} → work ≡ work' → sizes ≡ sizes' → option_of o ≡ place_of (name_at work sizes.rows (first_of type.Types) (names_of type.Types) t) → named ≡ option.is_some o → named ≡ is_some (place_of (name_at work' sizes'.rows type_first type_names t))
+unfolding is_some
 is_named o t e g h q = q ∙ said o ∙ ap is_some (rw (e, g) at h)
   where
-    said : (o : std.Option ℕ) → option.is_some o ≡ is_some (place_said o)
+    said : (o : std.Option ℕ) → option.is_some o ≡ is_some (option_of o)
     said (std.Some n) = refl
     said std.None = refl
 
 -- ---- attributes
 
 -- the three tests of a type: a name, attributes, this attribute
-get_unnamed : (t : Tm) (a : Bytes) (ty : Ty) (S : State) → any (eq_ty ty) S.types ≡ false → record_get t a (ty ∷ []) S ≡ stopped 18 t
+get_unnamed : (t : Tm) (a : Bytes) (ty : Ty) (S : State) → any (eq_ty ty) S.types ≡ false → record_get t a (ty ∷ []) S ≡ stopped 18 t 0
 unfolding record_get ◌>>◌ refuse_unless
 get_unnamed t a ty S e = rw (e, record_get, ◌>>◌)
 
-get_refused : (t : Tm) (a : Bytes) (ty : Ty) (S : State) {m : ℕ} → any (eq_ty ty) S.types ≡ true → asked.refusal m ≡ asked_attribute a ty → record_get t a (ty ∷ []) S ≡ stopped m t
+get_refused : (t : Tm) (a : Bytes) (ty : Ty) (S : State) {m : ℕ} → any (eq_ty ty) S.types ≡ true → asked.refusal m ≡ asked_attribute a ty → record_get t a (ty ∷ []) S ≡ stopped m t 0
 unfolding record_get ◌>>◌ refuse_unless is_some
 get_refused t a ty S e h = elim (attribute_nowhere a ty h) [
   | inl w ↦ rw (e, w.0, w.1, record_get, ◌>>◌)
@@ -67,12 +67,12 @@ module _ {t : ℕ} (a : Bytes) {v : Walk} {named : Bool} (name : named ≡ is_so
   any_type : {f : TermFile} {limit : ℕ} {o : Bytes} {S : State} → Indexed f v → Went f limit o v S → t < length (types f) → any (eq_ty (type_at f t)) S.types ≡ named
   any_type {f} {S = S} I W l = any_place (eq_ty (type_at f t)) S.types ∙ ap is_some (place_type I.rows t W.numbers l) ∙ sym name
 
-  pub attribute_unnamed : {n : ℕ} → named ≡ false → Advances (TypedAt n t) (attribute_walk n t a) v v (Err (record { refusal = refusal.TypeNotDeclared; term = n }))
+  pub attribute_unnamed : {n : ℕ} → named ≡ false → Advances (TypedAt n t) (attribute_walk n t a) v v (Err (record { refusal = refusal.TypeNotDeclared; term = n; position = 0 }))
   unfolding attribute_walk number
   attribute_unnamed {n} h = advances_stopped _ (λ f limit o S I r W. (r.below, get_unnamed (term_at f n) a (type_at f t) S (any_type I W r.type_below ∙ h)))
 
   module _ {n : ℕ} {x : Result ℕ Refusal} (h : named ≡ true) (A : FindsAttribute v.records.now.file.now (memory v) v.records.now.sizes t a x) where
-    pub attribute_refused : {r : Refusal} → x ≡ Err r → Advances (TypedAt n t) (attribute_walk n t a) v v (Err (record { refusal = r; term = n }))
+    pub attribute_refused : {r : Refusal} → x ≡ Err r → Advances (TypedAt n t) (attribute_walk n t a) v v (Err (record { refusal = r; term = n; position = 0 }))
     unfolding attribute_walk attribute_answer
     attribute_refused e =
         advances_stopped _ (λ f limit o S I r W.
@@ -97,7 +97,7 @@ first_below n r rs h = h.0
 
 module _ {n : ℕ} {rs : List ℕ} (a : Bytes) {v : Walk} where
   -- no child
-  pub get_none : rs ≡ [] → Advances (ParentAt n rs) (get_walk n a) v v (Err (record { refusal = refusal.NoArgument; term = n }))
+  pub get_none : rs ≡ [] → Advances (ParentAt n rs) (get_walk n a) v v (Err (record { refusal = refusal.NoArgument; term = n; position = 0 }))
   unfolding get_walk record_get refuse_unless number
   get_none e = advances_stopped _ (λ f limit o S I r W. (r.below, rw (r.are, e)))
 

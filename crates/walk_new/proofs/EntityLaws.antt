@@ -2,21 +2,21 @@
 -- Assumes nothing.
 use Prim.Native.Nat.{ℕ}
 use mathlib.Core.Path.{◌≡◌, sym, ap, ◌∙◌, subst}
-use mathlib.Core.Bool.{Bool, true, false}
+use mathlib.Core.Bool.{true, false}
 use mathlib.Core.List.{List}
 use mathlib.Core.Option.{Option, none, some}
-use Rattle.std.specs.Prelude.{Result, Ok, Err}
+use Rattle.std.specs.Prelude.{Option as Optional, None, Some, Result, Ok, Err}
 use Rattle.script_spec.specs.Base.{Bytes, any, same, is_some}
 use Rattle.script_spec.specs.Utf8.{code_points}
 use Rattle.script_spec.specs.Tree.{Tm, Enums, enum_of}
 use Rattle.script_spec.specs.File.{TermFile, members, type_at, term_at}
 use Rattle.script_spec.specs.Walk as walk
-use Rattle.script_spec.specs.Walk.{State, Step, went, ◌>>◌, refuse_unless, low_enough, define_entity}
+use Rattle.script_spec.specs.Walk.{State, Step, went, ◌>>◌, refuse_unless, first_high, refuse_high, define_entity}
 use Rattle.script_spec.proofs.Laws.{any_place}
-use Rattle.script_spec.proofs.Steps.{Ends, ends_went, ends_tested}
+use Rattle.script_spec.proofs.Steps.{Ends, ends_went, ends_high}
 use Rattle.script_spec.proofs.EnteredTerms.{New}
 use Rattle.refusal.specs.declared.Refusal.TheVariants as refusal
-use Rattle.refusal.specs.Numbers.{number}
+use Rattle.refusal.specs.Numbers.{number, option_of}
 use Rattle.read_utf8.specs.Decoding.{points}
 use Rattle.read_utf8.proofs.Laws.{utf8_points}
 use Rattle.walk_names.specs.Progress.{memory, Advances}
@@ -28,21 +28,21 @@ use Rattle.walk_queries.proofs.AnswerLaws.{Placed, MemberSaid, member_said}
 use Rattle.walk_queries.specs.declared.queries.Member.{Member}
 use Rattle.walk_queries.specs.declared.queries.Member.TheVariants as member
 use Rattle.write_terms.specs.Definitions.{PlainIs}
-use Rattle.walk_new.specs.Steps.{NewAt, term_ready, enter_walk, test_walk, tested}
+use Rattle.walk_new.specs.Steps.{NewAt, term_ready, enter_walk, high_walk, high_told}
 use Rattle.walk_new.specs.News.{KnownAt, StringAt, EntityAt, define_walk, string_walk, entity_walk}
-use Rattle.walk_new.proofs.Testing.{advances_tested}
+use Rattle.walk_new.proofs.Testing.{advances_high}
 
 -- ---- steps that leave a term new
 
 -- a step that leaves it new leaves it new where it went
-pub new_after : {n : ℕ} {f : TermFile} {S S' : State} {x : Step} → NewAt n f S → Ends (New (term_at f n)) (λ m u. Unit {0}) x → x ≡ went S' → NewAt n f S'
+pub new_after : {n : ℕ} {f : TermFile} {S S' : State} {x : Step} → NewAt n f S → Ends (New (term_at f n)) (λ m u q. Unit {0}) x → x ≡ went S' → NewAt n f S'
 new_after r h e = record { below = r.below; new = ends_went h e }
 
 -- ---- entities
 
 module _ (e : Enums) (t : Tm) (id : Bytes) (o : Option (List Bytes)) (ms : List Bytes) (S : State) (h : o ≡ some ms) where
   -- no member, and a member
-  not_member : any (same id) ms ≡ false → define_entity e t id o S ≡ walk.stopped 14 t
+  not_member : any (same id) ms ≡ false → define_entity e t id o S ≡ walk.stopped 14 t 0
   unfolding define_entity ◌>>◌ refuse_unless
   not_member g = rw (h, g, define_entity, ◌>>◌)
 
@@ -50,33 +50,32 @@ module _ (e : Enums) (t : Tm) (id : Bytes) (o : Option (List Bytes)) (ms : List 
   unfolding define_entity ◌>>◌ refuse_unless
   is_member g = rw (h, g, define_entity, ◌>>◌)
 
-module _ {n : ℕ} {id : Bytes} {low : Bool} {v : Walk} (e : low ≡ low_enough (points id)) where
+module _ {n : ℕ} {id : Bytes} {v : Walk} (o : Optional ℕ) (e : option_of o ≡ first_high (points id)) where
   -- the text is tested
-  text_tested : Advances (StringAt n id) (test_walk (low_enough (code_points id)) 15 n) v v (tested low refusal.HighCodePoint n)
-  unfolding test_walk number term_ready
-  text_tested =
-      advances_by (λ f S I s. (s.at.at.below, ap (λ (b : Bool). refuse_unless 15 (term_at f n) b S) (ap low_enough (sym (utf8_points id s.utf8)) ∙ sym e))) (advances_tested low refusal.HighCodePoint n)
+  text_tested : Advances (StringAt n id) (high_walk 15 (code_points id) n) v v (high_told o refusal.HighId n)
+  unfolding high_walk number term_ready
+  text_tested = advances_by (λ f S I s. (s.at.at.below, ap (λ (cs : List ℕ). refuse_high 15 (term_at f n) cs S) (sym (utf8_points id s.utf8)))) (advances_high _ o refusal.HighId n e)
 
   -- an entity whose type is no enum: the text, then the definition
-  pub string_entity : {w : Walk} {x : Result (Unit {0}) Stopped} → low ≡ true → Advances (KnownAt n (PlainIs n)) (define_walk n) v w x → Advances (StringAt n id) (string_walk n id) v w x
-  unfolding string_walk test_walk
+  pub string_entity : {w : Walk} {x : Result (Unit {0}) Stopped} → o ≡ None → Advances (KnownAt n (PlainIs n)) (define_walk n) v w x → Advances (StringAt n id) (string_walk n id) v w x
+  unfolding string_walk high_walk
   string_entity h D =
-      advances_then (test_walk (low_enough (code_points id)) 15 n) (define_walk n) (subst (λ (b : Bool). Advances (StringAt n id) (test_walk (low_enough (code_points id)) 15 n) v v (tested b refusal.HighCodePoint n)) h text_tested) D
-      (λ f S S' I s q. record { at = new_after s.at.at (ends_tested 15 (term_at f n) (low_enough (code_points id)) S s.at.at.new tt) q; is = s.at.is })
+      advances_then (high_walk 15 (code_points id) n) (define_walk n) (rw h at text_tested) D
+      (λ f S S' I s q. record { at = new_after s.at.at (ends_high 15 (term_at f n) (code_points id) S s.at.at.new (λ i k. tt)) q; is = s.at.is })
 
-  pub string_stopped : low ≡ false → Advances (StringAt n id) (string_walk n id) v v (Err (record { refusal = refusal.HighCodePoint; term = n }))
+  pub string_stopped : {i : ℕ} → o ≡ Some i → Advances (StringAt n id) (string_walk n id) v v (Err (record { refusal = refusal.HighId; term = n; position = i }))
   unfolding string_walk
-  string_stopped h = advances_stays (test_walk (low_enough (code_points id)) 15 n) (define_walk n) (subst (λ (b : Bool). Advances (StringAt n id) (test_walk (low_enough (code_points id)) 15 n) v v (tested b refusal.HighCodePoint n)) h text_tested)
+  string_stopped h = advances_stays (high_walk 15 (code_points id) n) (define_walk n) (rw h at text_tested)
 
 module _ {n t : ℕ} {id : Bytes} {v : Walk} {r : Member} (F : FindsMember v.records.now.file.now (memory v) v.records.now.sizes t id r) where
   pub entity_plain : {w : Walk} {x : Result (Unit {0}) Stopped} → r ≡ member.NoEnum → Advances (StringAt n id) (string_walk n id) v w x → Advances (EntityAt n t id) (entity_walk n t id) v w x
-  unfolding entity_walk string_walk test_walk define_walk define_entity MemberSaid
+  unfolding entity_walk string_walk high_walk define_walk define_entity MemberSaid
   entity_plain e A =
       advances_by (λ f S I s.
       let h : enum_of (members f) (type_at f t) ≡ none = subst (λ (y : Member). MemberSaid y (members f) (type_at f t) id) e (member_said r (members f) (type_at f t) id (F.go f I s.type_below)) in
       (record { at = s.at; utf8 = s.utf8 }, ap (λ (o : Option (List Bytes)). define_entity (members f) (term_at f n) id o S) h)) A
 
-  pub entity_outside : r ≡ member.NotMember → Advances (EntityAt n t id) (entity_walk n t id) v v (Err (record { refusal = refusal.NotMember; term = n }))
+  pub entity_outside : r ≡ member.NotMember → Advances (EntityAt n t id) (entity_walk n t id) v v (Err (record { refusal = refusal.NotMember; term = n; position = 0 }))
   unfolding entity_walk MemberSaid is_some number
   entity_outside e =
       advances_stopped _ (λ f limit o S I s W.

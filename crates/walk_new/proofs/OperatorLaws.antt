@@ -2,18 +2,17 @@
 -- Assumes nothing.
 use Prim.Native.Nat.{ℕ}
 use mathlib.Core.Path.{◌≡◌, refl, sym, ap, ◌∙◌, subst}
-use mathlib.Core.Bool.{Bool}
 use mathlib.Core.List.{List}
 use lib.ListN.{length}
 use denote.Ref.{Bor}
-use Rattle.std.specs.Prelude.{Result, Ok, Err}
+use Rattle.std.specs.Prelude.{Option as Optional, Result, Ok, Err}
 use Rattle.script_spec.specs.Base.{Bytes}
 use Rattle.script_spec.specs.Tree.{Tm, Mark, Enums, node, forest, children}
 use Rattle.script_spec.specs.File.{TermFile, types, funs, members, term_at, named_op}
-use Rattle.script_spec.specs.Walk.{State, went, low_enough, operator_step}
+use Rattle.script_spec.specs.Walk.{State, went, first_high, operator_step}
 use Rattle.script_spec.proofs.EnteredTerms.{operator_new}
 use Rattle.refusal.specs.declared.Refusal.TheVariants as refusal
-use Rattle.refusal.specs.Numbers.{number}
+use Rattle.refusal.specs.Numbers.{number, option_of}
 use Rattle.index.specs.First.{OpInRange, MarkInRange}
 use Rattle.index.specs.Meaning.{counted}
 use Rattle.index.proofs.Rules.{trees_forest}
@@ -29,9 +28,9 @@ use Rattle.walk_names.specs.declared.walk.Walk.{Walk}
 use Rattle.walk_names.specs.declared.walk.Stopped.{Stopped}
 use Rattle.walk_names.proofs.Advancing.{advances_by, advances_passed, advances_then, advances_stays}
 use Rattle.write_terms.specs.Definitions.{OrdinaryIs}
-use Rattle.walk_new.specs.Steps.{ParentAt, term_ready, test_walk, get_walk, tested}
+use Rattle.walk_new.specs.Steps.{ParentAt, term_ready, high_walk, get_walk, high_told}
 use Rattle.walk_new.specs.News.{KnownAt, define_walk, operator_walk, ordinary_walk}
-use Rattle.walk_new.proofs.Testing.{advances_tested}
+use Rattle.walk_new.proofs.Testing.{advances_high}
 use Rattle.walk_new.proofs.EntityLaws.{new_after}
 
 -- the other operators ask for nothing
@@ -108,9 +107,10 @@ module _ {call : Application} {v w : Walk} where
   ordinary_stopped A = advances_stays (operator_walk call.number (op_of call.op)) (define_walk call.number) A
 
 module _ {call : Application} {v : Walk} where
-  pub asks_pattern : {low : Bool} {p : Bor Bytes} {x : Result (Unit {0}) Stopped} → call.op ≡ op.StringLike p → low ≡ low_enough (elements p.now) → x ≡ tested low refusal.HighCodePoint call.number → Advances (Ordinary call) (operator_walk call.number (op_of call.op)) v v x
-  unfolding operator_walk test_walk operator_step named_op op_of term_ready number
-  asks_pattern {low} {p} e h t = rw t (advances_by (λ f S I y. (y.at.below, rw (e, h))) (advances_tested low refusal.HighCodePoint call.number))
+  pub asks_pattern : (o : Optional ℕ) {p : Bor Bytes} {x : Result (Unit {0}) Stopped} → call.op ≡ op.StringLike p → option_of o ≡ first_high (elements p.now) → x ≡ high_told o refusal.HighPattern call.number
+      → Advances (Ordinary call) (operator_walk call.number (op_of call.op)) v v x
+  unfolding operator_walk high_walk operator_step named_op op_of term_ready number
+  asks_pattern o e h t = rw t (advances_by (λ f S I y. (y.at.below, rw e)) (advances_high _ o refusal.HighPattern call.number h))
 
   pub asks_none : ((x : Bor Bytes) → call.op ≡ op.RecordGet x → ⊥) → ((x : Bor Bytes) → call.op ≡ op.StringLike x → ⊥) → ((x : ℕ) → call.op ≡ op.Uuf x → ⊥) → Advances (Ordinary call) (operator_walk call.number (op_of call.op)) v v (Ok tt)
   unfolding operator_walk

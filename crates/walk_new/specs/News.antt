@@ -6,13 +6,13 @@ use Rattle.script_spec.specs.Utf8.{is_utf8, code_points}
 use Rattle.script_spec.specs.Tree.{Op, App, enum_of, is_variable, negation}
 use Rattle.script_spec.specs.File.{TermFile, types, members, type_at, term_at, named_op}
 use Rattle.script_spec.specs.Walk as walk
-use Rattle.script_spec.specs.Walk.{State, ◌>>◌, low_enough, define_term, define_entity, operator_step, define_app}
+use Rattle.script_spec.specs.Walk.{State, ◌>>◌, define_term, define_entity, operator_step, define_app}
 use Rattle.read_operator.specs.Operators.{op_of}
 use Rattle.index_entry.specs.Terms.{children_in}
 use Rattle.index_entry.specs.declared.terms.Application.{Application}
 use Rattle.write_atoms.specs.Records.{TermIs}
 use Rattle.write_terms.specs.Definitions.{PlainIs}
-use Rattle.walk_new.specs.Steps.{NewAt, test_walk}
+use Rattle.walk_new.specs.Steps.{NewAt, high_walk}
 
 -- ---- what a step is ready for
 
@@ -51,7 +51,7 @@ define_walk n f = define_term (members f) (term_at f n)
 
 -- an entity whose type is no enum
 unfoldable pub string_walk : ℕ → Bytes → TermFile → walk.Walk
-string_walk n s f = ◌>>◌ (test_walk (low_enough (code_points s)) 15 n f) (define_walk n f)
+string_walk n s f = ◌>>◌ (high_walk 15 (code_points s) n f) (define_walk n f)
 
 -- an entity of the type with number t
 unfoldable pub entity_walk : ℕ → ℕ → Bytes → TermFile → walk.Walk

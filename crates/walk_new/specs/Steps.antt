@@ -1,12 +1,12 @@
--- What a step over a new term is ready for, the steps over the term with number n, and what a test of it promises.
+-- What a step over a new term is ready for, the steps over the term with number n, and what a test of its text promises.
 -- Assumes nothing.
-use Rattle.std.specs.Prelude.{ℕ, ◌<◌, ◌≡◌, Bool, true, false, List, [], ◌∷◌, map, length, Result, Ok, Err}
+use Rattle.std.specs.Prelude.{ℕ, ◌<◌, ◌≡◌, true, false, List, [], ◌∷◌, map, length, Option, None, Some, Result, Ok, Err}
 use Rattle.script_spec.specs.Base.{Bytes, any}
 use Rattle.script_spec.specs.Utf8.{is_utf8}
 use Rattle.script_spec.specs.Tree.{Forest, Mark, node, StringLit, type_of, children, eq_tm}
 use Rattle.script_spec.specs.File.{TermFile, types, terms, members, type_at, term_at}
 use Rattle.script_spec.specs.Walk as walk
-use Rattle.script_spec.specs.Walk.{State, refuse_unless, record_get, encode_new}
+use Rattle.script_spec.specs.Walk.{State, refuse_high, record_get, encode_new}
 use Rattle.refusal.specs.declared.Refusal.{Refusal}
 use Rattle.index.specs.First.{Below}
 use Rattle.walk_names.specs.declared.walk.Stopped.{Stopped}
@@ -46,9 +46,9 @@ pub record ParentAt (n : ℕ) (rs : List ℕ) (f : TermFile) (S : State) : Type 
 unfoldable pub enter_walk : ℕ → TermFile → walk.Walk
 enter_walk n f = walk.enter (term_at f n)
 
--- a test of it
-unfoldable pub test_walk : Bool → ℕ → ℕ → TermFile → walk.Walk
-test_walk passes c n f = refuse_unless c (term_at f n) passes
+-- a test of its text, with the number of its refusal and the code points
+unfoldable pub high_walk : ℕ → List ℕ → ℕ → TermFile → walk.Walk
+high_walk c cs n f = refuse_high c (term_at f n) cs
 
 -- an attribute of the type with number t
 unfoldable pub attribute_walk : ℕ → ℕ → Bytes → TermFile → walk.Walk
@@ -64,6 +64,7 @@ new_walk n f = encode_new (members f) (term_at f n)
 
 -- ---- promises
 
--- what a test answers: nothing, or the refusal of the term with number n
-abbrev pub tested : Bool → Refusal → ℕ → Result (Unit {0}) Stopped
-tested passes refusal n = elim passes [ true ↦ Ok tt | false ↦ Err (record { refusal = refusal; term = n }) ]
+-- what a test of a text answers by the position of its first high code point: nothing, or the refusal of the term with number n
+abbrev pub high_told : Option ℕ → Refusal → ℕ → Result (Unit {0}) Stopped
+high_told None refusal n = Ok tt
+high_told (Some q) refusal n = Err (record { refusal = refusal; term = n; position = q })

@@ -4,7 +4,7 @@ ghost use Rattle.walk_names.specs.Progress.{Advances};
 ghost use Rattle.write_terms.specs.Definitions.{OrdinaryIs};
 ghost use Rattle.walk_new.specs.News.{AppAt, KnownAt, operator_walk, ordinary_walk, app_walk};
 
-use crate::steps::{define, refuse_unless};
+use crate::steps::{define, refuse_high};
 use index_entry::terms::Application;
 use read_operator::Op;
 use refusal::Refusal;
@@ -21,8 +21,8 @@ fn operator_step(walk: &mut Walk, call: Application<'_>) -> Result<(), Stopped>
     match call.op {
         Op::RecordGet(a) => crate::attributes::record_get(walk, call, a),
         Op::StringLike(pattern) => {
-            let low = write_pattern::low_enough(pattern);
-            refuse_unless(low, Refusal::HighCodePoint, call.number)
+            let high = write_pattern::first_high(pattern);
+            refuse_high(high, Refusal::HighPattern, call.number)
         }
         Op::Uuf(g) => {
             walk_types::encode_uuf(walk, g);

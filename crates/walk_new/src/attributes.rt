@@ -3,7 +3,6 @@ ghost use Rattle.walk_names.specs.Progress.{Advances};
 ghost use Rattle.index_entry.specs.Terms.{children_in};
 ghost use Rattle.walk_new.specs.Steps.{TypedAt, ParentAt, attribute_walk, get_walk};
 
-use crate::steps::refuse_unless;
 use index::Column;
 use index_entry::terms::Application;
 use refusal::Refusal;
@@ -16,10 +15,20 @@ fn check_attribute(walk: &Walk, n: u32, t: u32, a: &[u8]) -> Result<(), Stopped>
 {
     let records = walk.records.view();
     let named = naming::get(records, Named::Types, t).is_some();
-    refuse_unless(named, Refusal::TypeNotDeclared, n)?;
+    if !named {
+        return Err(Stopped {
+            refusal: Refusal::TypeNotDeclared,
+            term: n,
+            position: 0,
+        });
+    }
     match walk_queries::queries::index_of_attr(records, t, a) {
         Ok(_) => Ok(()),
-        Err(refusal) => Err(Stopped { refusal, term: n }),
+        Err(refusal) => Err(Stopped {
+            refusal,
+            term: n,
+            position: 0,
+        }),
     }
 }
 
@@ -32,6 +41,7 @@ pub fn record_get(walk: &Walk, call: Application<'_>, a: &[u8]) -> Result<(), St
         None => Err(Stopped {
             refusal: Refusal::NoArgument,
             term: call.number,
+            position: 0,
         }),
         Some(child) => {
             let t = walk.records.get(Column::TermType, child);

@@ -2,7 +2,7 @@
 ghost use Rattle.walk_names.specs.Progress.{Advances};
 ghost use Rattle.walk_new.specs.News.{StringAt, EntityAt, string_walk, entity_walk};
 
-use crate::steps::{define, refuse_unless};
+use crate::steps::{define, refuse_high};
 use refusal::Refusal;
 use walk_names::naming::Named;
 use walk_names::walk::{Stopped, Walk};
@@ -13,7 +13,7 @@ use write_terms::definitions::Body;
 fn define_string_entity(walk: &mut Walk, n: u32, id: &[u8]) -> Result<(), Stopped>
     ensures { Advances (StringAt n id.now) (string_walk n id.now) walk.old walk.new result }
 {
-    refuse_unless(read_utf8::low_enough(id), Refusal::HighCodePoint, n)?;
+    refuse_high(read_utf8::first_high(id), Refusal::HighId, n)?;
     define(walk, n, Body::Plain)
 }
 
@@ -26,6 +26,7 @@ pub fn define_entity(walk: &mut Walk, n: u32, t: u32, id: &[u8]) -> Result<(), S
         Member::NotMember => Err(Stopped {
             refusal: Refusal::NotMember,
             term: n,
+            position: 0,
         }),
         Member::At(_) => {
             walk.enter(Named::Terms, n);

@@ -1,8 +1,8 @@
-// What the steps over a new term share: a test of it, its declaration and its definition.
+// What the steps over a new term share: a test of its text, its declaration and its definition.
 ghost use Rattle.std.specs.Prelude.{◌≡◌};
 ghost use Rattle.walk_names.specs.Progress.{Advances};
 ghost use Rattle.write_terms.specs.Definitions.{BodyIs};
-ghost use Rattle.walk_new.specs.Steps.{new_walk, tested};
+ghost use Rattle.walk_new.specs.Steps.{new_walk, high_told};
 ghost use Rattle.walk_new.specs.News.{VariableAt, KnownAt, define_walk};
 
 use refusal::Refusal;
@@ -11,14 +11,18 @@ use walk_names::walk::{Stopped, Walk};
 use write_terms::definitions::{Body, Definition};
 use write_terms::lines::VariableLines;
 
-// Refuses the term with number n, unless a test of it passes.
-pub(crate) fn refuse_unless(passes: bool, refusal: Refusal, n: u32) -> Result<(), Stopped>
-    ensures { result ≡ tested passes refusal n }
+// Refuses the term with number n at the position of a code point in its text that is too high, if there is one.
+pub(crate) fn refuse_high(high: Option<usize>, refusal: Refusal, n: u32) -> Result<(), Stopped>
+    ensures { result ≡ high_told high refusal n }
 {
-    if passes {
-        return Ok(());
+    match high {
+        None => Ok(()),
+        Some(position) => Err(Stopped {
+            refusal,
+            term: n,
+            position,
+        }),
     }
-    Err(Stopped { refusal, term: n })
 }
 
 // Enters the term with number n, a variable, and declares it.

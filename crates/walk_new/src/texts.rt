@@ -19,7 +19,7 @@ pub fn check_literal(walk: &mut Walk, n: u32, s: &[u8]) -> Result<(), Stopped>
     if walk.records.get(Column::Note, n) != 0 {
         return Ok(());
     }
-    crate::steps::refuse_unless(read_utf8::low_enough(s), Refusal::HighCodePoint, n)?;
+    crate::steps::refuse_high(read_utf8::first_high(s), Refusal::HighString, n)?;
     walk.records.set(Column::Note, n, PASSED);
     Ok(())
 }

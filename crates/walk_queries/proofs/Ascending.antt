@@ -93,7 +93,7 @@ records_ascend zero f s {g} h e = let same : f ≡ g = cc in subst (λ (x : Term
 records_ascend (suc fuel) f [] {g} h e = let same : f ≡ g = cc in subst (λ (x : TermFile). All OwnAscend x) same h
 records_ascend (suc fuel) f (b ∷ s) {g} h e = next (next_record f (b ∷ s)) refl e (λ r rest o. records_ascend fuel (f ++ (r ∷ [])) rest (all_more f r h o))
   where
-    next : (o : Read Named) → next_record f (b ∷ s) ≡ o → ◌≡◌ {A = Answer TermFile} (elim o [ bad n ↦ refused n (length f) | got r rest ↦ records fuel (f ++ (r ∷ [])) rest ]) (accepted g)
+    next : (o : Read Named) → next_record f (b ∷ s) ≡ o → ◌≡◌ {A = Answer TermFile} (elim o [ bad n ↦ refused n (length f) 0 | got r rest ↦ records fuel (f ++ (r ∷ [])) rest ]) (accepted g)
         → ((r : Named) (rest : Bytes) → OwnAscend r → records fuel (f ++ (r ∷ [])) rest ≡ accepted g → All OwnAscend g) → All OwnAscend g
     next (bad n) q e later = never (cc)
     next (got r rest) q e later = later r rest (own_ascend f r (next_kept f (b ∷ s) q)) e
@@ -136,10 +136,10 @@ pub accepted_ascends : (file : Bytes) (n : ℕ) (f : TermFile) → checked file 
 unfolding checked All
 accepted_ascends file n f e = small (leb (length file) 1048576) e
   where
-    room : (b : Bool) → ◌≡◌ {A = Answer TermFile} (elim b [ false ↦ refused 2 0 | true ↦ records (length file) [] file ]) (accepted f) → Ascends f
+    room : (b : Bool) → ◌≡◌ {A = Answer TermFile} (elim b [ false ↦ refused 2 0 0 | true ↦ records (length file) [] file ]) (accepted f) → Ascends f
     room true e = ascends_all f (records_ascend (length file) [] file tt e)
     room false e = never (cc)
 
-    small : (b : Bool) → ◌≡◌ {A = Answer TermFile} (elim b [ false ↦ refused 1 0 | true ↦ elim (leb (2 * length file) n) [ false ↦ refused 2 0 | true ↦ records (length file) [] file ] ]) (accepted f) → Ascends f
+    small : (b : Bool) → ◌≡◌ {A = Answer TermFile} (elim b [ false ↦ refused 1 0 0 | true ↦ elim (leb (2 * length file) n) [ false ↦ refused 2 0 0 | true ↦ records (length file) [] file ] ]) (accepted f) → Ascends f
     small true e = room (leb (2 * length file) n) e
     small false e = never (cc)

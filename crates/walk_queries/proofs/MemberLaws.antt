@@ -13,7 +13,7 @@ use lib.Dec.{ltb}
 use Rattle.script_spec.specs.Base.{Bytes, and_then, same, place}
 use Rattle.script_spec.specs.Tree.{Datatype, entity_name, attributes_of, attributes, enum_of}
 use Rattle.script_spec.specs.File.{TermFile, types, enums, members, type_at}
-use Rattle.refusal.specs.Numbers.{number}
+use Rattle.refusal.specs.Numbers.{number, option_of}
 use Rattle.refusal.specs.declared.Refusal.{Refusal}
 use Rattle.refusal.specs.declared.Refusal.TheVariants.{NoAttribute, NotRecord}
 use Rattle.index.specs.Cells.{cell, type_offset, enum_offset, enum_list, type_list}
@@ -36,7 +36,7 @@ use Rattle.index_search.specs.Enums.{enum_at, members_at}
 use Rattle.index_search.proofs.EnumLaws.{number_members}
 use Rattle.walk_queries.specs.Searches.{attribute_answer, place_or, FindsAttribute, IsEnum, IsEnumType, FindsIn, FindsMember}
 use Rattle.walk_queries.proofs.AnswerLaws.{asked_plain, asked_record, MemberSaid, member_answer_lem}
-use Rattle.walk_queries.specs.Found.{place_said, FindsText, Finds}
+use Rattle.walk_queries.specs.Found.{FindsText, Finds}
 use Rattle.walk_queries.proofs.Attributes.{datatype_said, datatype_here, attributes_here, attributes_inside, members_here}
 use Rattle.walk_queries.proofs.EntityLaws.{entity_named, entity_unnamed}
 use Rattle.walk_queries.specs.declared.queries.Member.TheVariants as member
@@ -54,8 +54,8 @@ no_record (entry.Record c) h = absurd (h c refl)
 no_record entry.Unreadable h = refl
 
 -- what is found, or the refusal
-answered : (o : std.Option ℕ) → place_or 16 (place_said o) ≡ attribute_answer (ok_or o NoAttribute)
-unfolding place_said attribute_answer number place_or
+answered : (o : std.Option ℕ) → place_or 16 (option_of o) ≡ attribute_answer (ok_or o NoAttribute)
+unfolding attribute_answer number place_or
 answered (std.Some i) = refl
 answered std.None = refl
 
@@ -139,13 +139,13 @@ module _ {file : Bytes} {work : List ℕ} {sizes : Sizes} {t : ℕ} {r : std.Opt
 
   module _ {e : ℕ} {id : Bytes} {q : std.Option ℕ} (is : r ≡ std.Some e) (F : FindsIn file work sizes e id q) where
     pub member_at : {i : ℕ} → q ≡ std.Some i → FindsMember file work sizes t id (member.At i)
-    unfolding MemberSaid place_said IsEnum
+    unfolding MemberSaid IsEnum
     member_at {i} p = record {
-      go = λ f I l. let h = enum_there f I l (std.Some e) is in member_answer_lem (member.At i) _ _ _ (record { members = (enum_at f e).1; are = h.1; is = F.go f I h.0 ∙ ap place_said p });
+      go = λ f I l. let h = enum_there f I l (std.Some e) is in member_answer_lem (member.At i) _ _ _ (record { members = (enum_at f e).1; are = h.1; is = F.go f I h.0 ∙ ap option_of p });
     }
 
     pub not_member : q ≡ std.None → FindsMember file work sizes t id member.NotMember
-    unfolding MemberSaid place_said IsEnum
+    unfolding MemberSaid IsEnum
     not_member p = record {
-      go = λ f I l. let h = enum_there f I l (std.Some e) is in member_answer_lem member.NotMember _ _ _ (record { members = (enum_at f e).1; are = h.1; is = F.go f I h.0 ∙ ap place_said p });
+      go = λ f I l. let h = enum_there f I l (std.Some e) is in member_answer_lem member.NotMember _ _ _ (record { members = (enum_at f e).1; are = h.1; is = F.go f I h.0 ∙ ap option_of p });
     }

@@ -11,6 +11,7 @@ use denote.Ref.{Bor}
 use Rattle.script_spec.specs.Base.{Bytes, and_then}
 use Rattle.script_spec.specs.Tree.{Ty, Datatype, entity, extension, record_of, datatype, name_of_entity, entity_name, attributes_of, attributes}
 use Rattle.script_spec.specs.File.{TermFile, types, enums, type_at}
+use Rattle.refusal.specs.Numbers.{option_of}
 use Rattle.index.specs.Cells.{placed, cell, store, shared, Apart, type_offset, enum_offset, hash, enum_list, type_list, list_row}
 use Rattle.index.specs.Standing.{body_at}
 use Rattle.index.specs.Names.{enum_number}
@@ -28,7 +29,7 @@ use Rattle.index_entry.specs.declared.types.TypeEntry.TheVariants as entry
 use Rattle.std.specs.Prelude as std
 use Rattle.std.specs.Option.{unwrap_or}
 use Rattle.index.specs.First.{or_else}
-use Rattle.index_search.specs.Enums.{found_place, FindsEnum}
+use Rattle.index_search.specs.Enums.{FindsEnum}
 use Rattle.walk_queries.specs.Made.{EnumsNoted, NotesEnum}
 use Rattle.walk_queries.proofs.EntityLaws.{entity_named, entity_unnamed}
 
@@ -97,7 +98,7 @@ pub noted_number : {file : Bytes} {work : List ℕ} {sizes : Sizes} {name : Byte
 unfolding enum_number or_else
 noted_number {sizes = sizes} {name} {r} F e f I = e ∙ by r ∙ ap (or_else (length (enums f))) (F.go f I.rows I.sizes_are)
   where
-    by : (r : std.Option ℕ) → unwrap_or r sizes.enums ≡ or_else (length (enums f)) (found_place r)
+    by : (r : std.Option ℕ) → unwrap_or r sizes.enums ≡ or_else (length (enums f)) (option_of r)
     by std.None = I.sizes_are.enums_are
     by (std.Some n) = refl
 

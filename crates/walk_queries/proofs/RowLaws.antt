@@ -12,6 +12,7 @@ use lib.ListN.{length, take, drop, get_or}
 use lib.Seq.{drop-cons}
 use Rattle.script_spec.specs.Base.{Bytes, same, before, ascending, place}
 use Rattle.script_spec.proofs.Laws.{same_eq}
+use Rattle.refusal.specs.Numbers.{option_of}
 use Rattle.index.specs.Cells.{cell, list_row}
 use Rattle.index.specs.Lists.{first_text, text_size, texts, Listed}
 use Rattle.index_entry.proofs.Places.{length_texts, length_texts_in}
@@ -19,10 +20,10 @@ use Rattle.std.specs.Prelude as std
 use Rattle.std.specs.Prelude.{Some, None}
 use Rattle.index_entry.specs.Places.{texts_in}
 use Rattle.index_entry.specs.declared.lists.Texts.{Texts}
-use Rattle.walk_queries.specs.Found.{place_said, FindsText, HaveList, FindsListed, row_text, Halves}
+use Rattle.walk_queries.specs.Found.{FindsText, HaveList, FindsListed, row_text, Halves}
 use Rattle.walk_queries.specs.Made.{RowsOf}
 use Rattle.walk_queries.proofs.Order.{untrue, before_irreflexive, before_trans, ascending_before}
-use Rattle.walk_queries.proofs.SearchLaws.{after}
+use Rattle.refusal.proofs.Options.{after}
 use Rattle.walk_queries.proofs.Window.{place_window, place_below}
 
 -- ---- other texts
@@ -119,12 +120,11 @@ module _ {body : Bytes} {work : List ℕ} {k base count skip : ℕ} {names : Lis
 
 -- the place of a text is below the number of texts
 pub place_few : (among : Texts) {name : Bytes} {q : std.Option ℕ} {i : ℕ} → FindsText among name q → q ≡ Some i → i < among.left
-unfolding place_said
-place_few among {name} {i = i} T h = subst (λ (x : ℕ). i < x) (length_texts_in among) (place_below (same name) [] (texts_in among) i (T.is ∙ ap place_said h))
+place_few among {name} {i = i} T h = subst (λ (x : ℕ). i < x) (length_texts_in among) (place_below (same name) [] (texts_in among) i (T.is ∙ ap option_of h))
 
 module _ (among : Texts) {work : List ℕ} {k base rows low at first m : ℕ} {name : Bytes} {q : std.Option ℕ} (R : RowsOf among.left rows) (H : Halves among.body.now work k base rows name low (low + 1))
     (e : at ≡ cell work k list_row (base + low)) (d : first ≡ low * 2) (F : m ≡ min (among.left - first) 2) (T : FindsText (record { body = among.body; from = at; left = m; skip = among.skip }) name q) where
-  from_row : HaveList work k base among → place (same name) (texts_in among) ≡ after first (place_said q)
+  from_row : HaveList work k base among → place (same name) (texts_in among) ≡ after first (option_of q)
   unfolding texts_in
   from_row L =
       let few : m ≡ min (among.left - low * 2) 2 = F ∙ ap (λ (x : ℕ). min (among.left - x) 2) d in
@@ -134,9 +134,9 @@ module _ (among : Texts) {work : List ℕ} {k base rows low at first m : ℕ} {n
       ∙ ap (after first) T.is
 
   pub listed_at : {i : ℕ} → q ≡ Some i → FindsListed work k base among name (Some (first + i))
-  unfolding place_said after
-  listed_at h = record { go = λ L. record { is = from_row L ∙ ap (λ (x : std.Option ℕ). after first (place_said x)) h } }
+  unfolding after
+  listed_at h = record { go = λ L. record { is = from_row L ∙ ap (λ (x : std.Option ℕ). after first (option_of x)) h } }
 
   pub listed_nowhere : q ≡ None → FindsListed work k base among name None
-  unfolding place_said after
-  listed_nowhere h = record { go = λ L. record { is = from_row L ∙ ap (λ (x : std.Option ℕ). after first (place_said x)) h } }
+  unfolding after
+  listed_nowhere h = record { go = λ L. record { is = from_row L ∙ ap (λ (x : std.Option ℕ). after first (option_of x)) h } }

@@ -9,7 +9,7 @@ use mathlib.Core.Option.{Option, none, some}
 use lib.ListN.{length, take, drop, get_or}
 use Rattle.script_spec.specs.Base.{place, place_from}
 use Rattle.script_spec.proofs.Laws.{never}
-use Rattle.walk_queries.proofs.SearchLaws.{after, after_zero}
+use Rattle.refusal.proofs.Options.{after, after_zero}
 
 after_suc : (a : ℕ) (o : Option ℕ) → place_from false (after a o) ≡ after (suc a) o
 unfolding after place_from

@@ -2,21 +2,16 @@
 -- Assumes nothing.
 use Rattle.std.specs.Prelude.{ℕ, suc, ◌+◌, ◌<◌, ◌≤◌, ◌≡◌, true, false, ◌⊎◌, List, drop}
 use Rattle.std.specs.Prelude as std
-use Rattle.std.proofs.Math.Option.{Option, none, some}
 use Rattle.script_spec.specs.Base.{Bytes, same, before, place}
+use Rattle.refusal.specs.Numbers.{option_of}
 use Rattle.index.specs.Cells.{cell, list_row}
 use Rattle.index.specs.Lists.{first_text, Listed}
 use Rattle.index_entry.specs.Places.{texts_in}
 use Rattle.index_entry.specs.declared.lists.Texts.{Texts}
 
--- the place that an answer says
-unfoldable pub place_said : std.Option ℕ → Option ℕ
-place_said (std.Some i) = some i
-place_said std.None = none
-
 -- the first of some texts of a body that is this text
 pub record FindsText (among : Texts) (name : Bytes) (r : std.Option ℕ) : Type 0 where
-  pub is : place (same name) (texts_in among) ≡ place_said r
+  pub is : place (same name) (texts_in among) ≡ option_of r
 
 -- the texts have a list whose first row is this
 abbrev pub HaveList : List ℕ → ℕ → ℕ → Texts → Type 0

@@ -6,12 +6,11 @@ use Rattle.std.proofs.Math.Option.{Option, none, some}
 use Rattle.script_spec.specs.Base.{Bytes, same, place}
 use Rattle.script_spec.specs.Tree.{Ty, Enums, attributes, enum_of}
 use Rattle.script_spec.specs.File.{TermFile, types, enums, members, type_at}
-use Rattle.refusal.specs.Numbers.{number}
+use Rattle.refusal.specs.Numbers.{number, option_of}
 use Rattle.refusal.specs.declared.Refusal.{Refusal}
 use Rattle.index.specs.Meaning.{Index}
 use Rattle.index.specs.declared.Sizes.{Sizes}
 use Rattle.index_search.specs.Enums.{enum_at}
-use Rattle.walk_queries.specs.Found.{place_said}
 use Rattle.walk_queries.specs.declared.queries.Member.{Member}
 use Rattle.walk_queries.specs.declared.queries.Member.TheVariants as member
 
@@ -60,7 +59,7 @@ module _ (file : Bytes) (work : List ℕ) (sizes : Sizes) where
 
   -- a member of the enum with number e
   pub record FindsIn (e : ℕ) (id : Bytes) (r : std.Option ℕ) : Type 0 where
-    pub go : (f : TermFile) → Index file f work sizes → e < length (enums f) → place (same id) (enum_at f e).1 ≡ place_said r
+    pub go : (f : TermFile) → Index file f work sizes → e < length (enums f) → place (same id) (enum_at f e).1 ≡ option_of r
 
   -- a member of the type with number t
   pub record FindsMember (t : ℕ) (id : Bytes) (r : Member) : Type 0 where

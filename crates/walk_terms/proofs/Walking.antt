@@ -20,10 +20,11 @@ use Rattle.script_spec.specs.Walk as walk
 use Rattle.script_spec.proofs.Laws.{never}
 use Rattle.script_spec.proofs.Steps.{ends_went}
 use Rattle.script_spec.proofs.EnteredTerms.{New, parts_new}
+use Rattle.refusal.specs.Numbers.{option_of}
 use Rattle.index.specs.Cells.{cell, term_first, term_type}
 use Rattle.index.specs.First.{All, Below}
 use Rattle.index.specs.declared.Records.{Records}
-use Rattle.walk_names.specs.Naming.{term_names, name_at, Numbers, place_said, place_of}
+use Rattle.walk_names.specs.Naming.{term_names, name_at, Numbers, place_of}
 use Rattle.walk_names.specs.Progress.{memory, rows, Indexed, Advances, Passes}
 use Rattle.walk_names.specs.declared.walk.Walk.{Walk}
 use Rattle.walk_names.specs.declared.walk.Stopped.{Stopped}
@@ -111,13 +112,13 @@ module _ {n : ℕ} {v w : Walk} where
 -- ---- names
 
 -- a name that is read, and none
-pub has_name : (o : std.Option ℕ) (m : ℕ) → place_said o ≡ place_of m → option.is_some o ≡ true → m ≡ 0 → ⊥
-unfolding place_said place_of
+pub has_name : (o : std.Option ℕ) (m : ℕ) → option_of o ≡ place_of m → option.is_some o ≡ true → m ≡ 0 → ⊥
+unfolding place_of
 has_name (std.Some i) m e h z = never (cc (rw z at e))
 has_name std.None m e h z = never cc
 
-pub has_none : (o : std.Option ℕ) (m : ℕ) → place_said o ≡ place_of m → option.is_some o ≡ false → m ≡ 0
-unfolding place_said place_of
+pub has_none : (o : std.Option ℕ) (m : ℕ) → option_of o ≡ place_of m → option.is_some o ≡ false → m ≡ 0
+unfolding place_of
 has_none (std.Some i) m e h = never cc
 has_none std.None zero e h = refl
 has_none std.None (suc m) e h = never cc

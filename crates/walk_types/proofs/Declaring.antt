@@ -75,7 +75,7 @@ module _ (e : Enums) where
 -- the functions that a step has come to
 funs_of : Step → List Fun
 funs_of (went s) = s.funs
-funs_of (stopped n t) = []
+funs_of (stopped n t q) = []
 
 -- nor does a command that is written
 pub writing_funs : (cs : List Command) (s s₁ : State) → writing cs s ≡ went s₁ → s₁.funs ≡ s.funs

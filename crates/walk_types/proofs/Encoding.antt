@@ -11,12 +11,13 @@ use Rattle.script_spec.specs.Tree.{Fun, uuf, eq_fun}
 use Rattle.script_spec.specs.File.{members, type_at, fun_at}
 use Rattle.script_spec.specs.Command.{comment}
 use Rattle.script_spec.specs.Walk.{went, writing, encode_type, declare_function, encode_uuf, ◌>>◌}
+use Rattle.refusal.specs.Numbers.{option_of}
 use Rattle.index.specs.Cells.{cell, fun_offset, fun_first}
 use Rattle.index.specs.Meaning.{counted}
 use Rattle.index_entry.specs.Symbols.{FunAt}
 use Rattle.index_entry.specs.declared.symbols.Fun as entry
 use Rattle.index_entry.proofs.Rows.{fun_stands}
-use Rattle.walk_names.specs.Naming.{fun_names, name_at, place_of, place_said}
+use Rattle.walk_names.specs.Naming.{fun_names, name_at, place_of}
 use Rattle.walk_names.specs.Progress.{memory, rows, Holds, Passes}
 use Rattle.walk_names.specs.declared.walk.Walk.{Walk}
 use Rattle.walk_names.proofs.Names.{known_fun}
@@ -26,7 +27,7 @@ use Rattle.write_types.specs.Functions.{id_of}
 use Rattle.walk_types.specs.Types.{type_ready, type_walk, fun_ready, fun_walk, id_walk, NewFun, declare_fun_walk}
 use Rattle.walk_types.proofs.Declaring.{fun_left, fun_new, type_funs, writing_funs}
 
-module _ (g : ℕ) {v : Walk} (r : std.Option ℕ) (e : place_said r ≡ place_of (name_at (memory v) (rows v) fun_first fun_names g)) where
+module _ (g : ℕ) {v : Walk} (r : std.Option ℕ) (e : option_of r ≡ place_of (name_at (memory v) (rows v) fun_first fun_names g)) where
   -- a function that has a name is left
   pub leaves_fun : std.is_some r ≡ true → Passes (fun_ready g) (fun_walk g) v v
   unfolding fun_ready fun_walk

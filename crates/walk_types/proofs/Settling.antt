@@ -16,10 +16,11 @@ use Rattle.script_spec.specs.Fields.{type}
 use Rattle.script_spec.specs.File.{members, type_at}
 use Rattle.script_spec.specs.Walk.{State, went, declare_type, encode_type, encode_types}
 use Rattle.script_spec.proofs.Laws.{never}
+use Rattle.refusal.specs.Numbers.{option_of}
 use Rattle.index.specs.Cells.{cell, type_offset, type_first}
 use Rattle.index.specs.Standing.{mark_at, body_at, entry_at}
 use Rattle.index.specs.declared.Records.{Records}
-use Rattle.walk_names.specs.Naming.{type_names, name_at, place_of, place_said}
+use Rattle.walk_names.specs.Naming.{type_names, name_at, place_of}
 use Rattle.walk_names.proofs.Names.{known_type}
 use Rattle.walk_names.proofs.Steps.{then_went}
 use Rattle.index_entry.specs.Types.{type_said, IsType, PartAt}
@@ -105,7 +106,7 @@ module _ {records : Records} {t : ℕ} where
         (rw b.0 (part_settled (members f) (type_at f n) S (P.go h f S I N (omega arith)))));
   }
 
-  pub settled_name : (name : std.Option ℕ) {r : Bool} → place_said name ≡ place_of (name_at records.work.now records.sizes.rows type_first type_names t) → r ≡ std.is_some name → Settled records t r
+  pub settled_name : (name : std.Option ℕ) {r : Bool} → option_of name ≡ place_of (name_at records.work.now records.sizes.rows type_first type_names t) → r ≡ std.is_some name → Settled records t r
   unfolding type_walk
   settled_name name e q = record { go = λ h f S I N l. type_left (members f) (type_at f t) S (known_type I.rows N t name l e ∙ sym q ∙ h) }
 

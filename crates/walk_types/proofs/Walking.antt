@@ -10,13 +10,14 @@ use Rattle.std.specs.Prelude.{Ok}
 use Rattle.script_spec.specs.Tree.{forest}
 use Rattle.script_spec.specs.File.{members, type_at}
 use Rattle.script_spec.specs.Walk.{encode_type, encode_types}
+use Rattle.refusal.specs.Numbers.{option_of}
 use Rattle.index.specs.Cells.{cell, type_offset, type_first}
 use Rattle.index.specs.First.{All, Below}
 use Rattle.index.specs.Meaning.{counted}
 use Rattle.index_entry.specs.Terms.{children_in}
 use Rattle.index_entry.specs.declared.terms.Children.{Children}
 use Rattle.index_entry.proofs.Rows.{type_stands}
-use Rattle.walk_names.specs.Naming.{type_names, name_at, place_of, place_said}
+use Rattle.walk_names.specs.Naming.{type_names, name_at, place_of}
 use Rattle.walk_names.specs.Progress.{memory, rows, Remains, Holds, Passes}
 use Rattle.walk_names.specs.declared.walk.Walk.{Walk}
 use Rattle.walk_names.proofs.Names.{known_type}
@@ -27,7 +28,7 @@ use Rattle.walk_types.proofs.Declaring.{type_left, type_new, type_still_new}
 
 -- ---- a type
 
-module _ (t : ℕ) {v : Walk} (r : std.Option ℕ) (e : place_said r ≡ place_of (name_at (memory v) (rows v) type_first type_names t)) where
+module _ (t : ℕ) {v : Walk} (r : std.Option ℕ) (e : option_of r ≡ place_of (name_at (memory v) (rows v) type_first type_names t)) where
   -- a type that has a name is left
   pub leaves_type : std.is_some r ≡ true → Passes (type_ready t) (type_walk t) v v
   unfolding type_ready type_walk

@@ -14,7 +14,7 @@ use Rattle.write_bitvec.specs.Vector.{vector_if, new_vector, of_int, int_min}
 -- Decimal −1, the number of `Bvnego` over 8 bits, and a width and a value outside their ranges
 answers : ◌≡◌ {A = List (Answer (ℕ × ℕ))}
     (of_int 64 (negsuc 0) ∷ int_min 8 ∷ new_vector 129 0 ∷ new_vector 8 256 ∷ new_vector 8 255 ∷ [])
-    (accepted (64, 18446744073709551615) ∷ accepted (8, 128) ∷ refused 7 0 ∷ refused 7 0 ∷ accepted (8, 255) ∷ [])
+    (accepted (64, 18446744073709551615) ∷ accepted (8, 128) ∷ refused 7 0 0 ∷ refused 7 0 0 ∷ accepted (8, 255) ∷ [])
 unfolding Computes.base twos_complement vector_if new_vector of_int int_min
 answers = refl
 

@@ -16,7 +16,7 @@ pub is_width_range : (n : ℕ) → is_width n ≡ true → (1 ≤ n) × (n ≤ 1
 unfolding between
 is_width_range n h = let p = and_parts (leb 1 n) (leb n 128) (rw h tt) in (leb→le 1 n p.0, leb→le n 128 p.1)
 
-pub vector_if_no : (b : Bool) (n v : ℕ) → b ≡ false → refused 7 0 ≡ vector_if b n v
+pub vector_if_no : (b : Bool) (n v : ℕ) → b ≡ false → refused 7 0 0 ≡ vector_if b n v
 unfolding vector_if
 vector_if_no b n v h = simp h
 

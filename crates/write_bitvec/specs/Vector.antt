@@ -10,12 +10,12 @@ use Rattle.write_bitvec.specs.declared.BitVec.{BitVec}
 -- what a constructor's answer says: a width and a value, or a refusal's number
 unfoldable pub said : Result BitVec Refusal → Answer (ℕ × ℕ)
 said (Ok b) = accepted (b.width, b.value)
-said (Err r) = refused (number r) 0
+said (Err r) = refused (number r) 0 0
 
 -- n bits with value v if a test passes, else refusal 7
 unfoldable pub vector_if : Bool → ℕ → ℕ → Answer (ℕ × ℕ)
 vector_if true n v = accepted (n, v)
-vector_if false n v = refused 7 0
+vector_if false n v = refused 7 0 0
 
 -- the width of a bit vector
 abbrev pub is_width : ℕ → Bool

@@ -117,7 +117,7 @@ ending_within : (x : Bytes) (at : ℕ) → at ≤ length x → ending x at ≡ a
 unfolding ending
 ending_within x at h = rw (le-leb at (length x) h, ending)
 
-ending_past : (x : Bytes) (at : ℕ) → length x < at → ending x at ≡ refused 20 0
+ending_past : (x : Bytes) (at : ℕ) → length x < at → ending x at ≡ refused 20 0 0
 unfolding ending
 ending_past x at h = rw (lt-leb at (length x) h, ending)
 
@@ -125,7 +125,7 @@ pub fitting_within : (s : Bytes) (room : ℕ) → length s ≤ room → fitting 
 unfolding fitting
 fitting_within s room h = rw (le-leb (length s) room h, fitting)
 
-pub fitting_past : (s : Bytes) (room : ℕ) → room < length s → fitting s room ≡ refused 20 0
+pub fitting_past : (s : Bytes) (room : ℕ) → room < length s → fitting s room ≡ refused 20 0 0
 unfolding fitting
 fitting_past s room h = rw (lt-leb (length s) room h, fitting)
 
@@ -158,9 +158,9 @@ leaves_length x y at h e =
     rw (ending_within x at h) (record { says = ap accepted (sym size); holds = rw size e })
 
 -- zeros alone after a refusal
-pub leaves_refused : (x y : Bytes) (n : ℕ) → y ≡ cleared x 0 → Leaves x y (refused n 0) (refused n 0)
+pub leaves_refused : (x y : Bytes) (n : ℕ) → y ≡ cleared x 0 → Leaves x y (refused n 0 0) (refused n 0 0)
 unfolding cleared length_of left
 leaves_refused x y n e = record { says = refl; holds = simp unary_clauses at e }
 
-pub leaves_no_room : (x y : Bytes) (at : ℕ) → length x < at → y ≡ cleared x 0 → Leaves x y (refused 20 0) (ending x at)
+pub leaves_no_room : (x y : Bytes) (at : ℕ) → length x < at → y ≡ cleared x 0 → Leaves x y (refused 20 0 0) (ending x at)
 leaves_no_room x y at h e = rw (ending_past x at h) (leaves_refused x y 20 e)

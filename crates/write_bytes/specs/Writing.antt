@@ -37,12 +37,12 @@ cleared x from = take from x ++ replicate (length x - from) 0
 -- document 01's answer for each case
 unfoldable pub answer : Result ℕ Refusal → Answer ℕ
 answer (Ok n) = accepted n
-answer (Err r) = refused (number r) 0
+answer (Err r) = refused (number r) 0 0
 
 -- an answer by the length of what is written
 unfoldable pub length_of : Answer Bytes → Answer ℕ
 length_of (accepted s) = accepted (length s)
-length_of (refused n p) = refused n p
+length_of (refused n p q) = refused n p q
 
 -- a buffer x has become y and a call answers a, as an answer of document 01 has them
 pub record Leaves (x y : Bytes) (a : Answer ℕ) (w : Answer Bytes) : Type 0 where
@@ -51,4 +51,4 @@ pub record Leaves (x y : Bytes) (a : Answer ℕ) (w : Answer Bytes) : Type 0 whe
 
 -- the answer at the end of a run of writes whose limit is the buffer's length
 unfoldable pub ending : Bytes → ℕ → Answer Bytes
-ending x at = elim (leb at (length x)) [ true ↦ accepted (take at x) | false ↦ refused 20 0 ]
+ending x at = elim (leb at (length x)) [ true ↦ accepted (take at x) | false ↦ refused 20 0 0 ]

@@ -1,8 +1,7 @@
 -- Laws of patterns: the elements that bytes hold, and how a pattern is spelled by its elements.
 -- Assumes nothing.
-use mathlib.Core.Path.{◌≡◌, refl, sym, ap, ◌∙◌}
+use mathlib.Core.Path.{◌≡◌, sym, ap, ◌∙◌}
 use mathlib.Core.List.{List, [], ◌∷◌, ◌++◌, map, append-nil, append_assoc}
-use mathlib.Core.Bool.{Bool, ◌&&◌}
 use Prim.Native.Nat.{ℕ, suc, ◌+◌, ◌-◌, ◌/◌, ◌≤◌, ◌<◌}
 use native.Mathlib.Nat.{div-eq-sub-div, div-eq_of_lt}
 use native.Mathlib.Numerals.{add-one}
@@ -15,10 +14,7 @@ use Rattle.script_spec.specs.Fields.{low}
 use Rattle.script_spec.specs.Text.{literal, escaped, escape}
 use Rattle.script_spec.specs.Command.{headed, spaced}
 use Rattle.script_spec.specs.Spelling.{pattern_element, element_by, pattern}
-use Rattle.script_spec.specs.Walk.{low_enough}
-use Rattle.read_utf8.specs.Decoding.{is_low}
 use Rattle.std.specs.Int.{w32, from_le_bytes}
-use Rattle.std.specs.List.{list_all}
 use Rattle.read_field.specs.Words.{words, elements}
 use Rattle.write_pattern.specs.Elements.{spaced_element, several}
 
@@ -105,10 +101,3 @@ pattern_many c d cs r q h k =
     let e : pattern_element c ++ (collect spaced_element (d ∷ q) ++ bytes ")") ≡ joined (bytes " ") (map pattern_element (c ∷ d ∷ q)) ++ bytes ")"
     = sym (append_assoc (pattern_element c) (collect spaced_element (d ∷ q)) (bytes ")")) ∙ ap (λ (t : Bytes). t ++ bytes ")") (sym (joined_spaced c (d ∷ q))) in
     rw (h, k) (ap (λ (t : Bytes). bytes "(re.++ " ++ t) e)
-
--- ---- code points that SMT-LIB's strings have
-
-pub low_all : (cs : List ℕ) → list_all is_low cs ≡ low_enough cs
-unfolding low_enough is_low
-low_all [] = refl
-low_all (c ∷ cs) = ap (λ (t : Bool). is_low c && t) (low_all cs)

@@ -5,7 +5,8 @@ ghost use Rattle.std.specs.Prelude.{◌≡◌, ◌∷◌, length};
 ghost use Rattle.std.specs.Iterator.{YieldsFirst, at_most};
 ghost use Rattle.script_spec.specs.Base.{collect};
 ghost use Rattle.script_spec.specs.Spelling.{pattern_element, pattern};
-ghost use Rattle.script_spec.specs.Walk.{low_enough};
+ghost use Rattle.script_spec.specs.Walk.{first_high};
+ghost use Rattle.refusal.specs.Numbers.{option_of};
 ghost use Rattle.write_bytes.specs.Writers.{Writes};
 ghost use Rattle.read_field.specs.Words.{elements};
 ghost use Rattle.write_pattern.specs.Elements.{elements_in, spaced_element, several};
@@ -32,11 +33,11 @@ impl Iterator for Elements<'_> {
     }
 }
 
-// Whether SMT-LIB's strings have every code point of a pattern.
-pub fn low_enough(p: &[u8]) -> bool
-    ensures { result ≡ low_enough (elements p.now) }
+// The position of the first element of a pattern that SMT-LIB's strings do not have; a wildcard is no such element.
+pub fn first_high(p: &[u8]) -> Option<usize>
+    ensures { option_of result ≡ first_high (elements p.now) }
 {
-    Elements { bytes: p }.all(read_utf8::is_low)
+    Elements { bytes: p }.position(|c| !read_utf8::is_low(c))
 }
 
 // Writes an element: the wildcard, or a code point.

@@ -16,13 +16,14 @@ use Rattle.script_spec.specs.Text.{decimal}
 use Rattle.script_spec.specs.Command.{headed, spaced}
 use Rattle.script_spec.specs.Spelling.{Names, sort, attribute_name, selector_by, selector}
 use Rattle.script_spec.specs.Walk.{numbered, names}
+use Rattle.refusal.specs.Numbers.{option_of}
 use Rattle.write_bytes.specs.declared.writer.Writer.{Writer}
 use Rattle.write_bytes.specs.Writers.{Writes}
 use Rattle.index.specs.Cells.{cell, term_type, fun_first}
 use Rattle.index.specs.First.{All, Below, OpInRange}
 use Rattle.index.specs.Meaning.{counted}
 use Rattle.index.specs.declared.Records.{Records}
-use Rattle.walk_names.specs.Naming.{fun_names, name_at, place_of, place_said, IndexOf}
+use Rattle.walk_names.specs.Naming.{fun_names, name_at, place_of, IndexOf}
 use Rattle.walk_names.proofs.Names.{name_fun}
 use Rattle.read_operator.specs.Operators.{op_of}
 use Rattle.read_operator.specs.declared.Op.{Op}
@@ -146,8 +147,8 @@ module _ {records : Records} {call : Application} {v w : Writer} where
   unfolding op_of named_op head_of
   head_selector e P = spells_as (λ f S I N k. rw e) (knowing (λ f I k. k.below) P)
 
-  pub head_function : {g : ℕ} (name : std.Option ℕ) → call.op ≡ op.Uuf g → place_said name ≡ place_of (name_at records.work.now records.sizes.rows fun_first fun_names g)
-      → Writes v w (numbered (bytes "f") (place_said name)) → SpellsOperatorHead records call v w
+  pub head_function : {g : ℕ} (name : std.Option ℕ) → call.op ≡ op.Uuf g → option_of name ≡ place_of (name_at records.work.now records.sizes.rows fun_first fun_names g)
+      → Writes v w (numbered (bytes "f") (option_of name)) → SpellsOperatorHead records call v w
   unfolding op_of named_op head_of OpInRange counted
   head_function {g} name e h A = spells_as (λ f S I N k. ap (numbered (bytes "f")) h ∙ sym (name_fun I.rows g N (rw e at k.op_in_range)) ∙ (rw e)) (written A)
 

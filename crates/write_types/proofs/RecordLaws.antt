@@ -14,12 +14,13 @@ use Rattle.script_spec.specs.File.{TermFile, types}
 use Rattle.script_spec.specs.Command.{headed, spaced, line, spelled, datatype_body, constructor_list, declare_datatype}
 use Rattle.script_spec.specs.Spelling.{Names, attribute_name, numbered_from, record_constructor}
 use Rattle.script_spec.specs.Walk.{State, names}
+use Rattle.refusal.specs.Numbers.{option_of}
 use Rattle.write_bytes.specs.Writers.{Writes}
 use Rattle.write_bytes.specs.declared.writer.Writer.{Writer}
 use Rattle.index.specs.declared.Records.{Records}
 use Rattle.write_bytes.specs.Writing.{ceiling}
 use Rattle.write_bytes.proofs.Loop.{Along, along_start, along_step, along_end, along_past}
-use Rattle.walk_names.specs.Naming.{place_said, IndexOf, NumbersOf}
+use Rattle.walk_names.specs.Naming.{IndexOf, NumbersOf}
 use Rattle.walk_names.specs.Script.{Continues}
 use Rattle.walk_names.proofs.Advancing.{continues_refl, ◌further◌}
 use Rattle.walk_names.proofs.Spelling.{written, spells_as, ◌next◌}
@@ -55,7 +56,7 @@ module _ {records : Records} {ty : RecordType} {v : Writer} where
   parts_start = record { same = continues_refl; sum = omega (arith, length_children ty.attributes); go = λ f S I N b. (along_start, b) }
 
   module _ {w : Writer} {i : ℕ} {c : Children} (L : PartsLeft records ty v w i c) where
-    pub parts_on : {p : ℕ} (d : Children) {x : Writer} → children_in c ≡ p ∷ children_in d → SpellsPart records (place_said ty.name) i p w x → PartsLeft records ty v x (i + 1) d
+    pub parts_on : {p : ℕ} (d : Children) {x : Writer} → children_in c ≡ p ∷ children_in d → SpellsPart records (option_of ty.name) i p w x → PartsLeft records ty v x (i + 1) d
     unfolding parts_text Below All
     parts_on {p} d e A = record {
       same = L.same further A.same;

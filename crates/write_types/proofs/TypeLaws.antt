@@ -16,6 +16,7 @@ use Rattle.script_spec.specs.File.{TermFile, types, members, type_at}
 use Rattle.script_spec.specs.Command.{line, declare_datatype}
 use Rattle.script_spec.specs.Spelling.{ext_name, ext_constructors}
 use Rattle.script_spec.specs.Walk.{State}
+use Rattle.refusal.specs.Numbers.{option_of}
 use Rattle.write_bytes.specs.Writers.{Writes}
 use Rattle.write_bytes.specs.declared.writer.Writer.{Writer}
 use Rattle.index.specs.Cells.{cell, type_offset, type_first}
@@ -23,7 +24,7 @@ use Rattle.index.specs.First.{Below}
 use Rattle.index.specs.Meaning.{counted}
 use Rattle.index.specs.declared.Records.{Records}
 use Rattle.index.proofs.Later.{below_more}
-use Rattle.walk_names.specs.Naming.{type_names, name_at, place_of, place_said, IndexOf}
+use Rattle.walk_names.specs.Naming.{type_names, name_at, place_of, IndexOf}
 use Rattle.walk_names.proofs.Names.{place_type}
 use Rattle.walk_names.proofs.Spelling.{written, spells_as, unwritten, knowing}
 use Rattle.index_entry.specs.Types.{ext_type_said, type_said, TypeAt}
@@ -66,14 +67,14 @@ module _ (records : Records) {t : ℕ} {r : TypeEntry} (T : TypeAt records.file.
         (knowing (λ f I l. tt) L)
 
     -- a record type
-    pub spells_record_type : {c : Children} (name : std.Option ℕ) → r ≡ entry.Record c → place_said name ≡ place_of (name_at records.work.now records.sizes.rows type_first type_names t)
+    pub spells_record_type : {c : Children} (name : std.Option ℕ) → r ≡ entry.Record c → option_of name ≡ place_of (name_at records.work.now records.sizes.rows type_first type_names t)
         → SpellsRecordLines records (record { name = name; attributes = c }) v w → SpellsType records t v w
     unfolding type_said datatype datatype_mark
     spells_record_type {c} name e n L =
         spells_as (λ f S I N l.
         type_here f I l (Declared (record_of (names_in c))) (children_in c) (rw e) (λ below tree.
-        let known : place_said name ≡ place (eq_ty (node (Declared (record_of (names_in c))) (forest (map (type_at f) (children_in c))))) S.types = rw (n, tree) (sym (place_type I.rows t N l)) in
-        record_script (members f) S (place_said name) f (names_in c) (children_in c) known ∙ lines_of f S t (record_of (names_in c)) _ tree refl))
+        let known : option_of name ≡ place (eq_ty (node (Declared (record_of (names_in c))) (forest (map (type_at f) (children_in c))))) S.types = rw (n, tree) (sym (place_type I.rows t N l)) in
+        record_script (members f) S (option_of name) f (names_in c) (children_in c) known ∙ lines_of f S t (record_of (names_in c)) _ tree refl))
         (knowing (λ f I l. type_here f I l (Declared (record_of (names_in c))) (children_in c) (rw e) (λ below tree. below)) L)
 
     -- an extension type

@@ -7,10 +7,10 @@ use Rattle.script_spec.specs.File.{TermFile, types, type_at}
 use Rattle.script_spec.specs.Command.{headed, spaced, line, declare_datatype}
 use Rattle.script_spec.specs.Spelling.{Names, sort, attribute_name, numbered_from, record_constructor}
 use Rattle.script_spec.specs.Walk.{numbered, names}
+use Rattle.refusal.specs.Numbers.{option_of}
 use Rattle.write_bytes.specs.declared.writer.Writer.{Writer}
 use Rattle.index.specs.First.{Below}
 use Rattle.index.specs.declared.Records.{Records}
-use Rattle.walk_names.specs.Naming.{place_said}
 use Rattle.walk_names.specs.Spells.{Spells, HasType}
 use Rattle.index_entry.specs.Terms.{children_in}
 use Rattle.write_types.specs.declared.records.RecordType.{RecordType}
@@ -30,7 +30,7 @@ record_name name = numbered (bytes "R") name
 
 -- the name of a record type, and the numbers of its parts
 abbrev pub named_of : RecordType → Bytes
-named_of ty = record_name (place_said ty.name)
+named_of ty = record_name (option_of ty.name)
 
 abbrev pub parts_of : RecordType → List ℕ
 parts_of ty = children_in ty.attributes

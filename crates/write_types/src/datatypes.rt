@@ -3,8 +3,8 @@
 ghost use Rattle.std.specs.Prelude.{[], ◌∷◌};
 ghost use Rattle.script_spec.specs.Command.{line, spaced, constructor_list, declare_datatype};
 ghost use Rattle.script_spec.specs.Spelling.{ext_name, ext_constructors};
+ghost use Rattle.refusal.specs.Numbers.{option_of};
 ghost use Rattle.write_bytes.specs.Writers.{Writes};
-ghost use Rattle.walk_names.specs.Naming.{place_said};
 ghost use Rattle.index_entry.specs.Types.{ext_type_said};
 ghost use Rattle.write_types.specs.Members.{entity_symbol, member_text, members_text, SpellsEntity, SpellsMembers, SpellsEnum};
 
@@ -43,7 +43,7 @@ pub struct EntityDeclaration {
 }
 
 impl Line for EntityDeclaration {
-    ghost written = { λ type. SpellsEntity (place_said type.name) };
+    ghost written = { λ type. SpellsEntity (option_of type.name) };
 
     fn write(self, w: &mut Writer<'_>) {
         smtlib_script::line::put_word(w, Word::DeclareDatatype);
@@ -58,7 +58,7 @@ impl Line for EntityDeclaration {
 
 // Writes the constructor of the i-th member on a line of its own.
 fn put_member(w: &mut Writer<'_>, name: Option<u32>, i: u32)
-    ensures { Writes w.old w.new (member_text (entity_symbol (place_said name)) i) }
+    ensures { Writes w.old w.new (member_text (entity_symbol (option_of name)) i) }
 {
     w.put(b"\n  (");
     naming::put_name(w, b'E', name);
@@ -69,7 +69,7 @@ fn put_member(w: &mut Writer<'_>, name: Option<u32>, i: u32)
 
 // Writes the constructors of n members, as far as the limit.
 fn put_members(w: &mut Writer<'_>, name: Option<u32>, n: u32)
-    ensures { Writes w.old w.new (members_text (entity_symbol (place_said name)) 0 n) }
+    ensures { Writes w.old w.new (members_text (entity_symbol (option_of name)) 0 n) }
 {
     for i in 0..n {
         if w.is_past() {
@@ -81,7 +81,7 @@ fn put_members(w: &mut Writer<'_>, name: Option<u32>, n: u32)
 
 // The constructors of n members; the start of a line where there are none.
 fn put_lines(w: &mut Writer<'_>, name: Option<u32>, n: u32)
-    ensures { SpellsMembers (place_said name) n w.old w.new }
+    ensures { SpellsMembers (option_of name) n w.old w.new }
 {
     if n == 0 {
         return w.put(b"\n  ");
@@ -97,7 +97,7 @@ pub struct EnumDeclaration {
 }
 
 impl Line for EnumDeclaration {
-    ghost written = { λ type. SpellsEnum (place_said type.name) type.members };
+    ghost written = { λ type. SpellsEnum (option_of type.name) type.members };
 
     fn write(self, w: &mut Writer<'_>) {
         smtlib_script::line::put_word(w, Word::DeclareDatatype);

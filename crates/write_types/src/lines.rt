@@ -1,8 +1,8 @@
 // What declares a type: its comment and its declaration, each a line, the second in the rest after the first, by the number of its record.
 ghost use Rattle.std.proofs.Math.Option.{none};
 ghost use Rattle.write_bytes.specs.Writers.{Writes};
-ghost use Rattle.walk_names.specs.Naming.{place_said};
 ghost use Rattle.write_types.specs.Lines.{entity_lines, SpellsRecordLines, SpellsEnumLines, SpellsEntityLines, SpellsType};
+ghost use Rattle.refusal.specs.Numbers.{option_of};
 
 use crate::datatypes::{EntityDeclaration, EnumDeclaration};
 use crate::records::{self, RecordDeclaration, RecordType};
@@ -27,7 +27,7 @@ fn declare_enum_type(
     name: Option<u32>,
     i: u32,
 )
-    ensures { SpellsEnumLines records.entry text.now (place_said name) i w.old w.new }
+    ensures { SpellsEnumLines records.entry text.now (option_of name) i w.old w.new }
 {
     let members = index_entry::symbols::enum_at(records.file, records.get(Column::EnumOffset, i));
     crate::datatype_comments::put_enum_comment(w, text, members);
@@ -39,7 +39,7 @@ fn declare_enum_type(
 
 // Declares the entity type `text`, which is no enum.
 fn declare_plain_type(w: &mut Writer<'_>, text: &[u8], name: Option<u32>)
-    ensures { Writes w.old w.new (entity_lines text.now (place_said name) none) }
+    ensures { Writes w.old w.new (entity_lines text.now (option_of name) none) }
 {
     smtlib_script::line::comment(w, text);
     w.lend(EntityDeclaration { name })
@@ -47,7 +47,7 @@ fn declare_plain_type(w: &mut Writer<'_>, text: &[u8], name: Option<u32>)
 
 // Declares the entity type `text`, which is an enum if one of the file's enums has its name.
 fn declare_entity_type(records: Records<'_>, w: &mut Writer<'_>, text: &[u8], name: Option<u32>)
-    ensures { SpellsEntityLines records.entry text.now (place_said name) w.old w.new }
+    ensures { SpellsEntityLines records.entry text.now (option_of name) w.old w.new }
 {
     match index_search::enums::find(records, text) {
         Some(i) => declare_enum_type(records, w, text, name, i),

@@ -3,8 +3,8 @@ ghost use Rattle.std.specs.Prelude.{◌++◌};
 ghost use Rattle.script_spec.specs.Base.{bytes, joined};
 ghost use Rattle.script_spec.specs.Command.{◌⊹◌, line, comment};
 ghost use Rattle.script_spec.specs.Spelling.{attribute_name};
+ghost use Rattle.refusal.specs.Numbers.{option_of};
 ghost use Rattle.write_bytes.specs.Writers.{Writes};
-ghost use Rattle.walk_names.specs.Naming.{place_said};
 ghost use Rattle.index_entry.specs.Terms.{names_in};
 ghost use Rattle.write_types.specs.Records.{record_name, SpellsPart, SpellsParts, SpellsSpaced, SpellsRecordType};
 
@@ -25,7 +25,7 @@ pub struct RecordType<'a> {
 
 // Writes the start of the i-th part of the record type with this name: its selector.
 fn put_selector(w: &mut Writer<'_>, name: Option<u32>, i: usize)
-    ensures { Writes w.old w.new (bytes " (" ++ attribute_name (record_name (place_said name)) i) }
+    ensures { Writes w.old w.new (bytes " (" ++ attribute_name (record_name (option_of name)) i) }
 {
     w.put(b" (");
     naming::put_name(w, b'R', name);
@@ -35,7 +35,7 @@ fn put_selector(w: &mut Writer<'_>, name: Option<u32>, i: usize)
 
 // Writes the i-th part of the record type with this name, which has the type with number p.
 fn put_part(records: Records<'_>, w: &mut Writer<'_>, name: Option<u32>, i: usize, p: u32)
-    ensures { SpellsPart records.entry (place_said name) i p w.old w.new }
+    ensures { SpellsPart records.entry (option_of name) i p w.old w.new }
 {
     put_selector(w, name, i);
     w.put_byte(b' ');

@@ -1,8 +1,8 @@
 // Sorts of types.
 ghost use Rattle.script_spec.specs.Spelling.{ext_name};
+ghost use Rattle.refusal.specs.Numbers.{option_of};
 ghost use Rattle.write_bytes.specs.Writers.{Writes};
 ghost use Rattle.index.specs.Cells.{cell, type_offset};
-ghost use Rattle.walk_names.specs.Naming.{place_said};
 ghost use Rattle.index_entry.specs.Types.{ext_type_said};
 ghost use Rattle.write_types.specs.Sorts.{OverAt, opened_part, plain_sort, SpellsSort};
 
@@ -59,7 +59,7 @@ fn put_ext_name(w: &mut Writer<'_>, x: ExtType)
 
 // The sort of a type that stands over no part, by its name where it has one.
 fn put_plain_sort(w: &mut Writer<'_>, ty: TypeEntry<'_>, name: Option<u32>)
-    ensures { Writes w.old w.new (plain_sort ty.entry (place_said name)) }
+    ensures { Writes w.old w.new (plain_sort ty.entry (option_of name)) }
 {
     match ty {
         TypeEntry::Bool => w.put(b"Bool"),

@@ -5,4 +5,4 @@ use Rattle.encoder.proofs.CloseLaws as laws
 use Rattle.encoder.proofs.refused_at.Goals as goal
 
 pub returns : goal.returns
-returns c = laws.refused_at c.get-first.ensures refl c.get.ensures
+returns c = laws.refused_at c.get-first.ensures refl refl c.get.ensures

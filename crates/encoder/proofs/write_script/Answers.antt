@@ -13,7 +13,7 @@ returns-in_err-write_records c =
 
 pub returns-then-walk : goal.returns-then-walk
 unfolding number
-returns-then-walk c = script_past c.make_lists.ensures.stays c.make_lists.ensures.made refl c.put_start.ensures refl refl refl c.write_records.ensures c.in_ok-write_records.was (omega arith) (omega arith) refl refl
+returns-then-walk c = script_past c.make_lists.ensures.stays c.make_lists.ensures.made refl c.put_start.ensures refl refl refl c.write_records.ensures c.in_ok-write_records.was (omega arith) (omega arith) refl refl refl
 
 pub returns : goal.returns
 returns c = script_written c.make_lists.ensures.stays c.make_lists.ensures.made refl c.put_start.ensures refl refl refl c.write_records.ensures c.in_ok-write_records.was (omega arith) (omega arith)

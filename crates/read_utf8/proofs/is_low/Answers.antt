@@ -2,7 +2,7 @@
 -- Assumes nothing.
 use borrow.Author.Tests.{le-leb, lt-leb}
 use Rattle.script_spec.specs.Tree.{wildcard}
-use Rattle.read_utf8.specs.Decoding.{is_low}
+use Rattle.script_spec.specs.Walk.{is_low}
 use Rattle.read_utf8.proofs.is_low.Goals as goal
 
 pub returns-then-c-le-HIGHEST : goal.returns-then-c-le-HIGHEST

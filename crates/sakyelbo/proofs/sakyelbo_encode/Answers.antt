@@ -4,4 +4,4 @@ use Rattle.sakyelbo.proofs.Laws.{encodes_file}
 use Rattle.sakyelbo.proofs.sakyelbo_encode.Goals as goal
 
 pub returns : goal.returns
-returns c = encodes_file c.encode.ensures c.of_encode.ensures
+returns c = encodes_file c.encode.ensures c.of_encode.ensures.size c.of_encode.ensures.at

@@ -2,7 +2,7 @@
 -- not past the limit.
 -- Assumes nothing.
 use Rattle.write_bytes.proofs.Laws.{◌then◌}
-use Rattle.write_bytes.proofs.Loop.{along_start, along_step, along_end, along_past}
+use Rattle.write_bytes.proofs.Loop.{along_step, along_end, along_past}
 use Rattle.write_pattern.proofs.Laws.{collect_next, collect_none}
 use Rattle.write_pattern.proofs.put_elements.Goals as goal
 

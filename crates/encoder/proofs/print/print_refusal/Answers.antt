@@ -11,4 +11,4 @@ pub returns : goal.returns
 returns c =
     let w = c.new-w.ensures in
     let same = sym (c.finish.ensures.same ∙ c.put_refusal.ensures.same ∙ w.same) in
-    refusal_printed _ (omega arith) w.holds w.limit w.at c.put_refusal.ensures c.finish.ensures (reached same (λ e. search rules))
+    refusal_printed _ (omega arith) (omega arith) w.holds w.limit w.at c.put_refusal.ensures c.finish.ensures (reached same (λ e. search rules))

@@ -1,4 +1,4 @@
--- `encoder::print::put_refusal` meets its contract: a word and a number, twice.
+-- `encoder::print::put_refusal` meets its contract: a word and a number, twice, and the position.
 -- Assumes nothing.
 use Rattle.script_spec.specs.Base.{bytes}
 use Rattle.script_spec.specs.Walk.{printed}
@@ -10,5 +10,4 @@ pub returns : goal.returns
 unfolding bytes printed
 returns c =
     let n = rw (c.from.ensures, c.number.ensures) at c.put_decimal.ensures in
-    let p = rw c.from-2.ensures at c.put_decimal-2.ensures in
-    says refl (c.put.ensures then n then c.put-2.ensures then p then c.put_byte.ensures)
+    says refl (c.put.ensures then n then c.put-2.ensures then c.put_decimal-2.ensures then c.put_position.ensures then c.put_byte.ensures)

@@ -7,7 +7,7 @@ pub returns-in-RecordGet : goal.returns-in-RecordGet
 returns-in-RecordGet c = asks_attribute c.in-RecordGet.is c.record_get.ensures
 
 pub returns-in-StringLike : goal.returns-in-StringLike
-returns-in-StringLike c = asks_pattern c.in-StringLike.is c.low_enough-low.ensures c.refuse_unless.ensures
+returns-in-StringLike c = asks_pattern _ c.in-StringLike.is c.first_high-high.ensures c.refuse_high.ensures
 
 pub returns-in-Uuf : goal.returns-in-Uuf
 returns-in-Uuf c = asks_fun c.in-Uuf.is c.encode_uuf.ensures
