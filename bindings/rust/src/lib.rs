@@ -4,7 +4,7 @@
 //! // A Bool type, and a variable of a type that is not there.
 //! let file = b"TB\0\0\0\0XV\x09\0\0\0\x01\0\0\0a\x01\0\0\0";
 //! let refusal = sakyelbo::check(file).unwrap_err();
-//! assert_eq!((refusal.number, refusal.place), (8, 1));
+//! assert_eq!((refusal.number, refusal.place, refusal.position), (8, 1, 0));
 //! assert_eq!(sakyelbo::check(&file[..6]), Ok(()));
 //! let script = sakyelbo::encode(&file[..6]).unwrap();
 //! assert_eq!(script, b"(declare-datatype Option (par (X) (\n  (none)\n  (some (val X)))))\n");
@@ -37,15 +37,15 @@ pub fn check_with(file: &[u8], work: &mut [u32]) -> Result<(), Refusal> {
     raw::check(file, work)
 }
 
-/// The script of a term file: check's refusals, then 14 to 19. The buffers are made here, and the script's is doubled until it is long
-/// enough; 20 says that there is no memory for that.
+/// The script of a term file: check's refusals, then 14 to 19, 24 and 25. The buffers are made here, and the script's is doubled until it
+/// is long enough; 20 says that there is no memory for that.
 pub fn encode(file: &[u8]) -> Result<Vec<u8>, Refusal> {
     let mut work = vec![0; work_entries(file)];
     let mut script = Vec::new();
     let mut room = 65_536.max(2 * work.len());
     loop {
         if script.try_reserve_exact(room - script.len()).is_err() {
-            return Err(Refusal { number: 20, place: 0 });
+            return Err(Refusal { number: 20, place: 0, position: 0 });
         }
         script.resize(room, 0);
         match encode_with(file, &mut work, &mut script) {

@@ -12,7 +12,8 @@ Turns term files of Cedar's terms into SMT-LIB scripts.
     sakyelbo --help                 says this
 
 FILE is a term file of at most 1,048,576 bytes; `-` is standard input. tools/termfile writes one from a readable text.
-A refusal is written to standard error as `refused N record P`, with what is wrong behind it.
+A refusal is written to standard error as `refused N record P: WORDS`, where WORDS say what is wrong. Where the record's id, string or
+pattern has code points above 196607, it is `refused N record P at Q: WORDS`, the first being at position Q. P and Q count from 0.
 
 The exit status is 0, or 1 for a refusal, or 2 for bad usage and files that cannot be read or written.
 ";
@@ -50,7 +51,8 @@ fn read(name: &OsStr) -> Result<Vec<u8>> {
 
 /// Says a refusal.
 fn refused(refusal: sakyelbo::Refusal) -> ExitCode {
-    eprintln!("refused {} record {}: {refusal}", refusal.number, refusal.place);
+    let position = if refusal.has_position() { format!(" at {}", refusal.position) } else { String::new() };
+    eprintln!("refused {} record {}{position}: {refusal}", refusal.number, refusal.place);
     ExitCode::from(1)
 }
 

@@ -9,13 +9,21 @@ pub struct Text {
     count: usize,
 }
 
+/// Where a refusal is: the place of its record, and the position in its text.
+#[repr(C)]
+#[derive(Default)]
+pub struct Where {
+    place: usize,
+    position: usize,
+}
+
 /// The texts of a list, as the library takes them; they must not be used after the list is gone.
 fn texts(list: &[&[u8]]) -> Vec<Text> {
     list.iter().map(|t| Text { bytes: t.as_ptr(), count: t.len() }).collect()
 }
 
 extern "C" {
-    fn sakyelbo_check(file: *const u8, file_count: usize, work: *mut u32, work_count: usize) -> u64;
+    fn sakyelbo_check(file: *const u8, file_count: usize, work: *mut u32, work_count: usize, at: *mut Where) -> u32;
     fn sakyelbo_encode(
         file: *const u8,
         file_count: usize,
@@ -24,8 +32,9 @@ extern "C" {
         script: *mut u8,
         script_count: usize,
         size: *mut usize,
-    ) -> u64;
-    fn sakyelbo_comment(text: *const u8, text_count: usize, out: *mut u8, out_count: usize, size: *mut usize) -> u64;
+        at: *mut Where,
+    ) -> u32;
+    fn sakyelbo_comment(text: *const u8, text_count: usize, out: *mut u8, out_count: usize, size: *mut usize) -> u32;
     fn sakyelbo_declare_datatype(
         id: *const u8,
         id_count: usize,
@@ -36,7 +45,7 @@ extern "C" {
         out: *mut u8,
         out_count: usize,
         size: *mut usize,
-    ) -> u64;
+    ) -> u32;
     fn sakyelbo_declare_const(
         id: *const u8,
         id_count: usize,
@@ -45,7 +54,7 @@ extern "C" {
         out: *mut u8,
         out_count: usize,
         size: *mut usize,
-    ) -> u64;
+    ) -> u32;
     fn sakyelbo_declare_fun(
         id: *const u8,
         id_count: usize,
@@ -56,7 +65,7 @@ extern "C" {
         out: *mut u8,
         out_count: usize,
         size: *mut usize,
-    ) -> u64;
+    ) -> u32;
     fn sakyelbo_define_fun(
         id: *const u8,
         id_count: usize,
@@ -71,21 +80,21 @@ extern "C" {
         out: *mut u8,
         out_count: usize,
         size: *mut usize,
-    ) -> u64;
+    ) -> u32;
     fn sakyelbo_assert_that(
         body: *const u8,
         body_count: usize,
         out: *mut u8,
         out_count: usize,
         size: *mut usize,
-    ) -> u64;
+    ) -> u32;
     fn sakyelbo_set_logic(
         logic: *const u8,
         logic_count: usize,
         out: *mut u8,
         out_count: usize,
         size: *mut usize,
-    ) -> u64;
+    ) -> u32;
     fn sakyelbo_set_option(
         option: *const u8,
         option_count: usize,
@@ -94,29 +103,32 @@ extern "C" {
         out: *mut u8,
         out_count: usize,
         size: *mut usize,
-    ) -> u64;
-    fn sakyelbo_check_sat(out: *mut u8, out_count: usize, size: *mut usize) -> u64;
-    fn sakyelbo_get_model(out: *mut u8, out_count: usize, size: *mut usize) -> u64;
-    fn sakyelbo_reset(out: *mut u8, out_count: usize, size: *mut usize) -> u64;
-    fn sakyelbo_exit(out: *mut u8, out_count: usize, size: *mut usize) -> u64;
+    ) -> u32;
+    fn sakyelbo_check_sat(out: *mut u8, out_count: usize, size: *mut usize) -> u32;
+    fn sakyelbo_get_model(out: *mut u8, out_count: usize, size: *mut usize) -> u32;
+    fn sakyelbo_reset(out: *mut u8, out_count: usize, size: *mut usize) -> u32;
+    fn sakyelbo_exit(out: *mut u8, out_count: usize, size: *mut usize) -> u32;
 }
 
-/// Acceptance, or the refusal that a number says.
-fn accepted(answer: u64) -> Result<(), Refusal> {
-    match answer {
+/// Acceptance, or the refusal of a number.
+fn accepted(number: u32, at: Where) -> Result<(), Refusal> {
+    match number {
         0 => Ok(()),
-        _ => Err(Refusal { number: (answer >> 32) as u32, place: answer as u32 }),
+        _ => Err(Refusal { number, place: at.place, position: at.position }),
     }
 }
 
 pub fn check(file: &[u8], work: &mut [u32]) -> Result<(), Refusal> {
-    accepted(unsafe { sakyelbo_check(file.as_ptr(), file.len(), work.as_mut_ptr(), work.len()) })
+    let mut at = Where::default();
+    let number = unsafe { sakyelbo_check(file.as_ptr(), file.len(), work.as_mut_ptr(), work.len(), &mut at) };
+    accepted(number, at)
 }
 
 pub fn encode(file: &[u8], work: &mut [u32], script: &mut [u8]) -> Result<usize, Refusal> {
     let (w, wn, s, sn) = (work.as_mut_ptr(), work.len(), script.as_mut_ptr(), script.len());
-    let mut size = 0;
-    accepted(unsafe { sakyelbo_encode(file.as_ptr(), file.len(), w, wn, s, sn, &mut size) }).map(|()| size)
+    let (mut size, mut at) = (0, Where::default());
+    let number = unsafe { sakyelbo_encode(file.as_ptr(), file.len(), w, wn, s, sn, &mut size, &mut at) };
+    accepted(number, at).map(|()| size)
 }
 
 /// A command, by its texts.
@@ -136,11 +148,11 @@ pub enum Command<'a> {
     Exit,
 }
 
-/// Writes a command to the start of a buffer, and returns its length.
+/// Writes a command to the start of a buffer, and returns its length. A refusal is of no record.
 pub fn write(command: Command, out: &mut [u8]) -> Result<usize, Refusal> {
     let mut size = 0;
     let (o, n, s) = (out.as_mut_ptr(), out.len(), &mut size as *mut usize);
-    let answer = unsafe {
+    let number = unsafe {
         match command {
             Command::Comment(text) => sakyelbo_comment(text.as_ptr(), text.len(), o, n, s),
             Command::DeclareDatatype(id, params, constructors) => {
@@ -183,7 +195,7 @@ pub fn write(command: Command, out: &mut [u8]) -> Result<usize, Refusal> {
             Command::Exit => sakyelbo_exit(o, n, s),
         }
     };
-    accepted(answer).map(|()| size)
+    accepted(number, Where::default()).map(|()| size)
 }
 
 #[cfg(test)]
@@ -207,7 +219,7 @@ mod tests {
 
     #[test]
     fn a_refusal_leaves_zeros() {
-        let refused = |number| Err(Refusal { number, place: 0 });
+        let refused = |number| Err(Refusal { number, place: 0, position: 0 });
         for room in 0..7 {
             assert_eq!(write_lent(Command::Exit, room), (refused(20), vec![0; room]));
         }
@@ -249,7 +261,7 @@ mod tests {
             let room = if room == "any" { 3 * text.len() + 8 } else { room.parse().unwrap() };
             let mut expected = vec![0; room];
             let wanted = match answer.strip_prefix("refused ") {
-                Some(number) => Err(Refusal { number: number.parse().unwrap(), place: 0 }),
+                Some(number) => Err(Refusal { number: number.parse().unwrap(), place: 0, position: 0 }),
                 None => {
                     let line = bytes(answer);
                     expected[..line.len()].copy_from_slice(&line);

@@ -2,11 +2,21 @@
 use std::error::Error;
 use std::fmt::{Display, Formatter, Result};
 
-/// A refusal of document 01: its number, 1 to 20, and the place of the record, counted from 0 (0 for 1, 2 and 20).
+/// A refusal of documents 01 and 02: its number, 1 to 20, 24 or 25; the place of the record, counted from 0 (0 for 1, 2 and 20); and the
+/// position of the first code point above 196607 in an entity's id (15), a string (24) or a pattern (25), counted from 0 in code points, a
+/// wildcard as one (0 for every other refusal).
 #[derive(Clone, Copy, Debug, PartialEq, Eq, Hash)]
 pub struct Refusal {
     pub number: u32,
-    pub place: u32,
+    pub place: usize,
+    pub position: usize,
+}
+
+impl Refusal {
+    /// Whether the position is that of a code point: for 15, 24 and 25.
+    pub fn has_position(&self) -> bool {
+        matches!(self.number, 15 | 24 | 25)
+    }
 }
 
 impl Display for Refusal {
@@ -27,14 +37,20 @@ impl Display for Refusal {
             12 => "is a term whose type is not listed before it",
             13 => "is the 60,001st type or term, or is nested 257 deep",
             14 => "names a member that its enum does not have",
-            15 => "has a code point above 196607, which no SMT-LIB string holds",
+            15 => "is an entity whose id has a code point above 196607, which no SMT-LIB string holds",
             16 => "gets an attribute that the record type does not have",
             17 => "gets an attribute of a term that is no record",
             18 => "gets an attribute of a term whose type the script does not declare",
             19 => "gets an attribute and has no argument to get it from",
-            _ => "is refused by a number that document 01 does not have",
+            24 => "is a string with a code point above 196607, which no SMT-LIB string holds",
+            25 => "applies a pattern with a code point above 196607, which no SMT-LIB string holds",
+            _ => "is refused by an unknown number",
         };
-        write!(f, "record {} {words}", self.place)
+        write!(f, "record {} {words}", self.place)?;
+        if self.has_position() {
+            write!(f, ", at position {}", self.position)?;
+        }
+        Ok(())
     }
 }
 
@@ -46,10 +62,26 @@ mod tests {
 
     #[test]
     fn each_number_has_its_own_words() {
-        let words: Vec<String> = (1..=21).map(|number| Refusal { number, place: 4321 }.to_string()).collect();
-        for (i, text) in words.iter().enumerate() {
-            assert!(!words[..i].contains(text), "{text}");
-            assert_eq!(text.contains("record 4321 "), ![1, 2, 20].contains(&(i + 1)), "{text}");
+        let mut words: Vec<String> = Vec::new();
+        for number in (1..=21).chain([24, 25]) {
+            let refusal = Refusal { number, place: 4321, position: 8765 };
+            let text = refusal.to_string();
+            assert!(!words.contains(&text), "{text}");
+            assert_eq!(text.contains("record 4321 "), ![1, 2, 20].contains(&number), "{text}");
+            let positioned = [15, 24, 25].contains(&number);
+            assert_eq!((refusal.has_position(), text.contains("8765")), (positioned, positioned), "{text}");
+            words.push(text);
+        }
+    }
+
+    #[test]
+    fn a_code_point_that_is_too_high_has_its_text_and_its_position() {
+        for (number, text) in [(15, "an entity whose id has"), (24, "a string with"), (25, "a pattern with")] {
+            let refusal = Refusal { number, place: 1, position: 8765 };
+            let words = refusal.to_string();
+            assert!(refusal.has_position());
+            assert!(words.contains(&format!("{text} a code point above 196607")), "{words}");
+            assert!(words.ends_with(", at position 8765"), "{words}");
         }
     }
 }

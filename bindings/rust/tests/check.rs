@@ -30,7 +30,7 @@ fn a_cut_file_is_accepted_at_a_border_and_else_refused_there() {
         let places = borders(&case.file);
         for end in (0..case.file.len()).take(2000) {
             let whole = places.partition_point(|&p| p <= end) - 1;
-            let expected = if places[whole] == end { Ok(()) } else { refusal(3, whole as u32) };
+            let expected = if places[whole] == end { Ok(()) } else { refusal(3, whole) };
             assert_eq!(check(&case.file[..end]), expected, "{} cut at {end}", case.name);
         }
     }
@@ -39,15 +39,15 @@ fn a_cut_file_is_accepted_at_a_border_and_else_refused_there() {
 #[test]
 fn a_damaged_file_is_answered_and_memory_is_zero() {
     for case in cases().iter().filter(|c| c.file.len() < 200) {
-        let many = case.file.len() as u32;
+        let many = case.file.len();
         for at in 0..case.file.len() {
             for change in [0x01, 0x80, 0xff] {
                 let mut file = case.file.clone();
                 file[at] ^= change;
                 let answer = check_lent(&file, work_entries(&file));
                 assert_eq!(answer, check(&file));
-                if let Err(Refusal { number, place }) = answer {
-                    assert!((3..=13).contains(&number) && place < many, "{} at {at}", case.name);
+                if let Err(Refusal { number, place, position }) = answer {
+                    assert!((3..=13).contains(&number) && place < many && position == 0, "{} at {at}", case.name);
                 }
             }
         }

@@ -66,6 +66,21 @@ fn encode_says_a_refusal_and_writes_nothing() {
 }
 
 #[test]
+fn encode_says_where_a_high_code_point_is() {
+    for (name, number, place, position, words) in [
+        ("entity-id-at-0", 15, 1, 0, "is an entity whose id has"),
+        ("entity-id-after-two-bytes", 15, 1, 1, "is an entity whose id has"),
+        ("string-after-three-bytes", 24, 1, 2, "is a string with"),
+        ("pattern-after-three-bytes", 25, 3, 2, "applies a pattern with"),
+    ] {
+        let bytes = fs::read(path("crates/vectors/data/high").join(format!("{name}.term"))).unwrap();
+        let line = format!("refused {number} record {place} at {position}: record {place} {words} a code point");
+        let error = format!("{line} above 196607, which no SMT-LIB string holds, at position {position}\n");
+        assert_eq!(run(&["encode", "-"], &bytes), (1, String::new(), error), "{name}");
+    }
+}
+
+#[test]
 fn a_longer_file_is_refused() {
     let expected = (1, String::new(), "refused 1 record 0: the file is longer than 1,048,576 bytes\n".to_string());
     for request in ["check", "encode"] {
@@ -98,4 +113,5 @@ fn help_is_said() {
     let (status, output, error) = run(&["--help"], b"");
     assert_eq!((status, error.as_str()), (0, ""));
     assert!(output.contains("sakyelbo check FILE"));
+    assert!(output.contains("`refused N record P: WORDS`") && output.contains("`refused N record P at Q: WORDS`"));
 }

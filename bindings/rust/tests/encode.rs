@@ -1,7 +1,8 @@
-//! Encode: the vectors, comments, the escapes of code points, damaged files, the room for a script, and lent memory that comes back zero.
+//! Encode: the vectors, comments, the escapes of code points and the positions of high ones, damaged files, the room for a script, and
+//! lent memory that comes back zero.
 mod cases;
 
-use cases::{answer, cases, path, record, text, used_memory, word};
+use cases::{answer, cases, path, record, refusal, text, used_memory, word};
 use sakyelbo::{check, encode, encode_with, work_entries, Refusal};
 use std::fs;
 
@@ -22,13 +23,14 @@ fn vectors(folder: &str, ending: &str) -> Vec<(String, Vec<u8>, Vec<u8>)> {
 /// A script with its comments cut after 200 code points and with spaces for their control characters. Other lines stay as they are.
 fn tidied(script: &[u8]) -> Vec<u8> {
     let text = std::str::from_utf8(script).unwrap();
-    let lines = text.split_inclusive('\n').map(|line| match line.strip_prefix("; ").and_then(|l| l.strip_suffix('\n')) {
-        Some(comment) => {
-            let kept = comment.chars().take(200).map(|c| if c < ' ' || c == '\x7f' { ' ' } else { c });
-            format!("; {}\n", kept.collect::<String>())
-        }
-        None => line.to_string(),
-    });
+    let lines =
+        text.split_inclusive('\n').map(|line| match line.strip_prefix("; ").and_then(|l| l.strip_suffix('\n')) {
+            Some(comment) => {
+                let kept = comment.chars().take(200).map(|c| if c < ' ' || c == '\x7f' { ' ' } else { c });
+                format!("; {}\n", kept.collect::<String>())
+            }
+            None => line.to_string(),
+        });
     lines.collect::<String>().into_bytes()
 }
 
@@ -89,11 +91,58 @@ fn each_refused_vector_has_its_refusal() {
 }
 
 #[test]
+fn each_high_code_point_has_its_position() {
+    for (name, file, written) in vectors("high", "txt") {
+        let expected = match std::str::from_utf8(&written).unwrap() {
+            line if line.starts_with("refused ") => Err(answer(line).unwrap_err()),
+            _ => Ok(written),
+        };
+        assert_eq!(encode_lent(&file, work_entries(&file), 65_536), expected, "{name}");
+    }
+}
+
+/// The files of an entity whose id is these characters, of a string of them, and of a pattern of them with a wildcard for each star, with
+/// the number and the place of a refusal.
+fn high_files(s: &str) -> [(Vec<u8>, u32, usize); 3] {
+    let input = |n| record("IN", &[&word(n)]);
+    let entity = [record("TE", &[&text("A")]), record("XE", &[&word(0), &text(s)]), input(0)].concat();
+    let string = [record("TS", &[]), record("XS", &[&text(s)]), input(0)].concat();
+    let elements: Vec<u8> = s.chars().flat_map(|c| if c == '*' { vec![0xff; 4] } else { word(c as usize) }).collect();
+    let operator = [&[30], &word(s.chars().count())[..], &elements].concat();
+    let variable = [record("TB", &[]), record("TS", &[]), record("XV", &[&text("s"), &word(1)])].concat();
+    let like = [variable, record("XA", &[&word(0), &operator, &word(1), &word(0)]), input(1)].concat();
+    [(entity, 15, 1), (string, 24, 1), (like, 25, 3)]
+}
+
+#[test]
+fn the_position_counts_code_points() {
+    // Characters of one to four bytes, some written by more characters than one, and two that are too high.
+    let characters: Vec<char> = "a*\"\\\0é€\u{ffff}\u{2ffff}\u{30000}\u{10ffff}".chars().collect();
+    let mut state = 1u32;
+    let mut next = || {
+        state = state.wrapping_mul(1_664_525).wrapping_add(1_013_904_223);
+        (state >> 16) as usize
+    };
+    let mut refused = 0;
+    for _ in 0..2000 {
+        let (length, most) = (next() % 12, if next() % 2 == 0 { 9 } else { characters.len() });
+        let s: String = (0..length).map(|_| characters[next() % most]).collect();
+        let high = s.chars().position(|c| c > '\u{2ffff}');
+        refused += usize::from(high.is_some());
+        for (file, number, place) in high_files(&s) {
+            let expected = high.map(|position| Refusal { number, place, position });
+            assert_eq!(encode_lent(&file, work_entries(&file), 4096).err(), expected, "{s:?}");
+        }
+    }
+    assert!((200..1800).contains(&refused));
+}
+
+#[test]
 fn a_script_needs_its_length_and_no_more() {
     for (name, file, script) in rust_vectors() {
         assert_eq!(encode_lent(&file, work_entries(&file), script.len()), Ok(script.clone()), "{name}");
         for room in [0, 1, script.len() / 2, script.len() - 1] {
-            assert_eq!(encode_lent(&file, work_entries(&file), room), Err(Refusal { number: 20, place: 0 }), "{name}");
+            assert_eq!(encode_lent(&file, work_entries(&file), room), refusal(20, 0), "{name}");
         }
     }
 }
@@ -161,7 +210,7 @@ fn a_damaged_file_is_answered_and_memory_is_zero() {
             let answer = encode_lent(&damaged, work_entries(&damaged), 65_536);
             match (check(&damaged), answer) {
                 (Err(refusal), answer) => assert_eq!(answer, Err(refusal), "{name} at {at}"),
-                (Ok(()), Err(refusal)) => assert!((14..=19).contains(&refusal.number), "{name} at {at}"),
+                (Ok(()), Err(refusal)) => assert!(matches!(refusal.number, 14..=19 | 24 | 25), "{name} at {at}"),
                 (Ok(()), Ok(_)) => {}
             }
         }

@@ -9,6 +9,7 @@
 
 static uint8_t out[80];
 static size_t size;
+static sakyelbo_where at;
 static int faults;
 
 static void expect(int holds, const char *what)
@@ -20,7 +21,7 @@ static void expect(int holds, const char *what)
 }
 
 /* Expects that these words were written, and zeros behind them. */
-static void expect_written(uint64_t answer, const char *words)
+static void expect_written(uint32_t answer, const char *words)
 {
     size_t i, count = strlen(words);
 
@@ -31,29 +32,37 @@ static void expect_written(uint64_t answer, const char *words)
     size = sizeof out;
 }
 
-/* Expects a refusal. */
-static void expect_refused(uint64_t answer, uint32_t number, uint32_t place, const char *what)
+/* Expects this answer, at a place and a position. */
+static void expect_answer(uint32_t answer, uint32_t number, size_t place, size_t position, const char *what)
 {
-    expect(SAKYELBO_NUMBER(answer) == number && SAKYELBO_PLACE(answer) == place, what);
+    expect(answer == number && at.place == place && at.position == position, what);
+    at.place = at.position = 77;
 }
 
 int main(void)
 {
     static const uint8_t file[] = "TB\0\0\0\0XV\x09\0\0\0\1\0\0\0a\1\0\0\0";
+    static const uint8_t high[] = "TS\0\0\0\0XS\x0b\0\0\0\7\0\0\0a\xc3\xa9\xf0\xb0\x80\x80IN\4\0\0\0\0\0\0\0";
     static const char script[] = "(declare-datatype Option (par (X) (\n  (none)\n  (some (val X)))))\n";
     const sakyelbo_text x = {BYTES("X")}, constructors[] = {{BYTES("(none)")}, {BYTES("(some (val X))")}};
     const sakyelbo_text sorts[] = {{BYTES("E0")}, {BYTES("Bool")}}, names[] = {{BYTES("x")}, {BYTES("y")}, {BYTES("z")}};
-    uint32_t work[2 * sizeof file];
+    uint32_t work[2 * sizeof high];
     size_t i;
 
     memset(work, 0xa5, sizeof work);
-    expect(sakyelbo_check(file, 6, work, 12) == 0, "a Bool type is accepted");
-    expect_refused(sakyelbo_check(file, sizeof file - 1, work, 2 * sizeof file), 8, 1, "a type that is not there is refusal 8 in record 1");
+    at.place = at.position = 77;
+    expect_answer(sakyelbo_check(file, 6, work, 12, &at), 0, 0, 0, "a Bool type is accepted");
+    expect_answer(sakyelbo_check(file, sizeof file - 1, work, 2 * sizeof file, &at), 8, 1, 0,
+                   "a type that is not there is refusal 8 in record 1");
     for (i = 0; i < 2 * sizeof file; i++)
         expect(work[i] == 0, "working memory is zero");
-    expect_written(sakyelbo_encode(file, 6, work, 12, OUT), script);
-    expect_refused(sakyelbo_encode(file, 6, work, 12, out, sizeof script - 2, &size), 20, 0, "a byte too few for the script is refusal 20");
+    expect_written(sakyelbo_encode(file, 6, work, 12, OUT, &at), script);
+    expect(at.place == 0 && at.position == 0, "acceptance is at no place");
+    expect_answer(sakyelbo_encode(file, 6, work, 12, out, sizeof script - 2, &size, &at), 20, 0, 0,
+                   "a byte too few for the script is refusal 20");
     expect(size == 0 && out[0] == 0, "a refusal leaves nothing");
+    expect_answer(sakyelbo_encode(high, sizeof high - 1, work, 2 * sizeof high, OUT, &at), 24, 1, 2,
+                   "a high code point has its position, in code points");
 
     expect_written(sakyelbo_comment(BYTES("a comment"), OUT), "; a comment\n");
     expect_written(sakyelbo_declare_datatype(BYTES("Option"), &x, 1, constructors, 2, OUT), script);
@@ -68,7 +77,7 @@ int main(void)
     expect_written(sakyelbo_get_model(OUT), "(get-model)\n");
     expect_written(sakyelbo_reset(OUT), "(reset)\n");
     expect_written(sakyelbo_exit(OUT), "(exit)\n");
-    expect_refused(sakyelbo_exit(out, 6, &size), 20, 0, "six bytes are too few");
+    expect(sakyelbo_exit(out, 6, &size) == 20, "six bytes are too few");
     expect(size == 0, "a refusal has no length");
     return faults != 0;
 }

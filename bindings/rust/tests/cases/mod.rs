@@ -44,17 +44,22 @@ fn case(name: String, entries: usize, file: Vec<u8>, line: Option<&str>) -> Case
     Case { name, entries, file, answer }
 }
 
-/// The answer of a line `accepted` or `refused N record P`.
+/// The answer of a line `accepted`, `refused N record P` or `refused N record P at Q`.
 pub fn answer(line: &str) -> Result<(), Refusal> {
     match line.trim_end().split(' ').collect::<Vec<_>>()[..] {
         ["accepted"] => Ok(()),
         ["refused", number, "record", place] => refusal(number.parse().unwrap(), place.parse().unwrap()),
+        ["refused", number, "record", place, "at", position] => Err(Refusal {
+            number: number.parse().unwrap(),
+            place: place.parse().unwrap(),
+            position: position.parse().unwrap(),
+        }),
         _ => panic!("{line}"),
     }
 }
 
-pub fn refusal<T>(number: u32, place: u32) -> Result<T, Refusal> {
-    Err(Refusal { number, place })
+pub fn refusal<T>(number: u32, place: usize) -> Result<T, Refusal> {
+    Err(Refusal { number, place, position: 0 })
 }
 
 fn number(rest: &mut &[u8]) -> usize {
