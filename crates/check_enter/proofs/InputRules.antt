@@ -1,4 +1,4 @@
--- An input is entered: its body is the number of its term, which is stored with its offset and place.
+-- An input is entered: its body is the number of its term, which is stored.
 -- Assumes nothing.
 use mathlib.Core.Path.{◌≡◌, refl, sym, ap, ◌∙◌, subst}
 use Prim.Native.Nat.{ℕ, suc, ◌+◌, ◌≤◌, ◌<◌, min}
@@ -15,7 +15,7 @@ use Rattle.script_spec.specs.File.{TermFile, input, terms, inputs, term_at, name
 use Rattle.script_spec.proofs.Laws.{never}
 use Rattle.script_spec.proofs.Readers.{got_value}
 use Rattle.index_compare.proofs.Standing.{entry_whole}
-use Rattle.index.specs.Cells.{store, input_place, input_offset, input_term}
+use Rattle.index.specs.Cells.{store, input_term}
 use Rattle.index.specs.First.{InRange}
 use Rattle.index.specs.Standing.{loose, mark_at, body_at, entry_of, entry_at}
 use Rattle.index.specs.Meaning.{Stands, SizesOf}
@@ -65,19 +65,19 @@ number_read file o n e =
     let mark_is : mark_at file o ≡ bytes "IN" = entry_mark (mark_at file o) (body_at file o) e in
     input_number (body_at file o) n (ap (λ (s : Bytes). entry_of s (body_at file o)) (sym mark_is) ∙ e)
 
-pub input_entered : (v : RecordsMut) (o place : ℕ) {n m : ℕ} {body : Bytes} {w : RecordsMut} → body ≡ body_at v.file.now o → n ≡ number_at body 0
-    → Rewritten v w (store (store (store v.work.now v.sizes.rows input_offset v.sizes.inputs o) v.sizes.rows input_term v.sizes.inputs n) v.sizes.rows input_place v.sizes.inputs place) → m ≡ min (v.sizes.inputs + 1) 4294967295
-    → Enters input v (record { file = w.file; work = w.work; sizes = record { rows = w.sizes.rows; types = w.sizes.types; funs = w.sizes.funs; terms = w.sizes.terms; enums = w.sizes.enums; inputs = m } }) o place (Ok tt)
+pub input_entered : (v : RecordsMut) (o : ℕ) {n m : ℕ} {body : Bytes} {w : RecordsMut} → body ≡ body_at v.file.now o → n ≡ number_at body 0
+    → Rewritten v w (store v.work.now v.sizes.rows input_term v.sizes.inputs n) → m ≡ min (v.sizes.inputs + 1) 4294967295
+    → Enters input v (record { file = w.file; work = w.work; sizes = record { rows = w.sizes.rows; types = w.sizes.types; funs = w.sizes.funs; terms = w.sizes.terms; enums = w.sizes.enums; inputs = m } }) o (Ok tt)
 unfolding rules broken
-input_entered v o place {n} {m} {body} {w} hb hn R more =
+input_entered v o {n} {m} {body} {w} hb hn R more =
     record {
       kept = keeps_counted R _ refl;
-      go = λ f C room p t s.
+      go = λ f C room t s.
           let c = C.sizes_are in
           record {
             rule = refl;
             memory = record {
-              indexed = indexed_as R (stored f C.indexed c room p t s);
+              indexed = indexed_as R (stored f C.indexed c room t s);
               sizes_are = sizes_input (sizes_as R c) t (one_more more (ap (λ (s : Sizes). s.inputs) R.becomes.sizes_are) (omega (arith, c.inputs_are, counts_together f, room, C.indexed.searchable.small)));
             };
           };
@@ -86,13 +86,13 @@ input_entered v o place {n} {m} {body} {w} hb hn R more =
     k : ℕ
     k = v.sizes.rows
 
-    stored : (f : TermFile) → Indexed v.file.now f v.work.now k → SizesOf f v.sizes → suc (length f) ≤ k → place ≡ length f → (t : Tm) → Stands v.file.now f (earlier f) o (input t)
-        → Indexed v.file.now (f ++ (input t ∷ [])) (store (store (store v.work.now k input_offset v.sizes.inputs o) k input_term v.sizes.inputs n) k input_place v.sizes.inputs place) k
-    stored f I c room p t s =
+    stored : (f : TermFile) → Indexed v.file.now f v.work.now k → SizesOf f v.sizes → suc (length f) ≤ k → (t : Tm) → Stands v.file.now f (earlier f) o (input t)
+        → Indexed v.file.now (f ++ (input t ∷ [])) (store v.work.now k input_term v.sizes.inputs n) k
+    stored f I c room t s =
         let B = by_number f s.entry t s.names s.in_range in
         let reads : entry_at v.file.now o ≡ some (fields.input B.number) = s.reads ∙ ap some B.is in
         let n-is : n ≡ B.number = hn ∙ ap (λ (b : Bytes). number_at b 0) hb ∙ number_read v.file.now o B.number reads in
         let i = length (inputs f) in
-        let row = store (store (store v.work.now k input_offset i o) k input_term i B.number) k input_place i (length f) in
-        let K : Indexed v.file.now (f ++ (input t ∷ [])) row k = subst (λ (u : Tm). Indexed v.file.now (f ++ (input u ∷ [])) row k) B.names (indexed_input I room o reads B.below) in
-        rw (c.inputs_are, n-is, p) K
+        let row = store v.work.now k input_term i B.number in
+        let K : Indexed v.file.now (f ++ (input t ∷ [])) row k = subst (λ (u : Tm). Indexed v.file.now (f ++ (input u ∷ [])) row k) B.names (indexed_input I room B.below) in
+        rw (c.inputs_are, n-is) K

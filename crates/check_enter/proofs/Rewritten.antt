@@ -5,7 +5,7 @@ use Prim.Native.Nat.{ℕ, suc, ◌+◌, ◌<◌, min}
 use native.Mathlib.Omega.{arith}
 use mathlib.Core.List.{List}
 use lib.ListN.{length}
-use Rattle.index.specs.Cells.{store}
+use Rattle.index.specs.Cells.{store, with_term_row, term_offset, term_first, term_type, term_depth, term_place, note}
 use Rattle.index.specs.Held.{Becomes, Stays}
 use Rattle.index.specs.declared.RecordsMut.{RecordsMut}
 use Rattle.index.specs.declared.Sizes.{Sizes}
@@ -37,6 +37,24 @@ rewritten_then {w = w} column i a R B =
         memory = B.memory ∙ (λ j. store (A.memory j) ((ap (λ (s : Sizes). s.rows) A.sizes_are) j) column i a);
       };
       size = ap length B.memory ∙ length_store w.work.now w.sizes.rows column i a ∙ R.size;
+    }
+
+-- after the row of a term
+pub rewritten_term : {v w x : RecordsMut} {work : List ℕ} (i offset first type depth place : ℕ) → Rewritten v w work → Becomes w x (with_term_row w.work.now w.sizes.rows i offset first type depth place)
+    → Rewritten v x (with_term_row work v.sizes.rows i offset first type depth place)
+rewritten_term {v} {w} i offset first type depth place R B =
+    let A = R.becomes in
+    let k = w.sizes.rows in
+    record {
+      becomes = record {
+        file_is = B.file_is ∙ A.file_is;
+        sizes_are = B.sizes_are ∙ A.sizes_are;
+        lent = B.lent ∙ A.lent;
+        memory = B.memory ∙ (λ j. with_term_row (A.memory j) ((ap (λ (s : Sizes). s.rows) A.sizes_are) j) i offset first type depth place);
+      };
+      size =
+          ap length B.memory ∙ length_store _ k note i 0 ∙ length_store _ k term_place i place ∙ length_store _ k term_depth i depth ∙ length_store _ k term_type i type
+          ∙ length_store _ k term_first i first ∙ length_store w.work.now k term_offset i offset ∙ R.size;
     }
 
 -- with other counts

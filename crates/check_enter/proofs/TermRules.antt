@@ -16,13 +16,13 @@ use Rattle.script_spec.specs.Base.{Bytes, is_some, place, place_from}
 use Rattle.script_spec.specs.Tree.{Tm, eq_ty, type_of, depth, node, forest, Bool·, nil}
 use Rattle.script_spec.specs.File.{TermFile, term, types, terms, type_at, term_at, named, named_mark, earlier, Rule, rules, broken}
 use Rattle.script_spec.proofs.Laws.{eq_ty_eq}
-use Rattle.index.specs.Cells.{cell, store, term_offset, term_first, term_type, term_depth, term_place, note}
+use Rattle.index.specs.Cells.{cell, with_term_row, term_offset, term_first, term_type, term_depth}
 use Rattle.index.specs.First.{or_else, first, first_type, InRange}
-use Rattle.index.specs.Meaning.{SizesOf}
+use Rattle.index.specs.Meaning.{SizesOf, together}
 use Rattle.index.specs.declared.Sizes.{Sizes}
 use Rattle.index.specs.declared.RecordsMut.{RecordsMut}
 use Rattle.index.specs.Held.{Becomes}
-use Rattle.index.proofs.Growth.{counts_fewer}
+use Rattle.index.proofs.Growth.{counts_fewer, together_are}
 use Rattle.refusal.specs.Numbers.{number, option_of}
 use Rattle.refusal.specs.declared.Refusal.{Refusal}
 use Rattle.refusal.specs.declared.Refusal.TheVariants.{TypeNotListed, TooMany}
@@ -45,18 +45,18 @@ use Rattle.check_enter.proofs.FirstBroken.{broken_here, broken_later, none_broke
 use Rattle.check_enter.proofs.Rewritten.{Rewritten, keeps_counted, keeps_left, keeps_then, unchanged_left, counted_left, indexed_as, sizes_as, one_more}
 use Rattle.check_enter.proofs.Sizes.{sizes_term}
 
-pub term_row_stored : (v : RecordsMut) (o ty deep place : ℕ) {first m : ℕ} {w₀ w : RecordsMut} → EnrolsIn v w₀ term_offset term_first 2 v.sizes.terms o first
-    → Rewritten v w
-    (store (store (store (store (store (store w₀.work.now v.sizes.rows term_offset v.sizes.terms o) v.sizes.rows term_first v.sizes.terms first) v.sizes.rows term_type v.sizes.terms ty) v.sizes.rows term_depth v.sizes.terms deep) v.sizes.rows term_place v.sizes.terms place) v.sizes.rows note v.sizes.terms 0)
+pub term_row_stored : (v : RecordsMut) (o ty deep : ℕ) {place first m : ℕ} {w₀ w : RecordsMut} → EnrolsIn v w₀ term_offset term_first 2 v.sizes.terms o first
+    → (together v.sizes < 4294967296 → place ≡ together v.sizes) → Rewritten v w (with_term_row w₀.work.now v.sizes.rows v.sizes.terms o first ty deep place)
     → m ≡ min (v.sizes.terms + 1) 4294967295
-    → StoresTerm v (record { file = w.file; work = w.work; sizes = record { rows = w.sizes.rows; types = w.sizes.types; funs = w.sizes.funs; terms = m; enums = w.sizes.enums; inputs = w.sizes.inputs } }) o ty deep place
-term_row_stored v o ty deep place E R more =
+    → StoresTerm v (record { file = w.file; work = w.work; sizes = record { rows = w.sizes.rows; types = w.sizes.types; funs = w.sizes.funs; terms = m; enums = w.sizes.enums; inputs = w.sizes.inputs } }) o ty deep
+term_row_stored v o ty deep E placed R more =
     record {
       kept = keeps_counted R _ refl;
-      go = λ f C room t s below type_is type_first_is d few p.
+      go = λ f C room t s below type_is type_first_is d few.
           let c = C.sizes_are in
+          let all = together_are c in
           record {
-            indexed = indexed_as R (rw (c.terms_are, p) (indexed_term C.indexed room (rw c.terms_are at E.enrols) s below type_is type_first_is d few));
+            indexed = indexed_as R (rw (c.terms_are, placed (omega (arith, all, room, C.indexed.searchable.small)) ∙ all) (indexed_term C.indexed room (rw c.terms_are at E.enrols) s below type_is type_first_is d few));
             sizes_are = sizes_term (sizes_as R c) t (one_more more (ap (λ (s : Sizes). s.terms) R.becomes.sizes_are) (omega (arith, c.terms_are, (counts_fewer f).terms_fewer, room, C.indexed.searchable.small)));
           };
     }
@@ -153,12 +153,12 @@ module _ (v : RecordsMut) {o n : ℕ} {r : Result (Unit {0}) Refusal} (octets : 
   told : {f : TermFile} {t : Tm} (I : Indexed v.file.now f v.work.now v.sizes.rows) (P : TermParts v.file.now f o t) → broken_rule r ≡ broken (list_rules_by f (cell v.work.now v.sizes.rows term_first) P.m P.rs)
   told {f} I P = R.go f P.m P.rs (λ i. depth (term_at f i)) (λ i. depth_positive (term_at f i)) (is ∙ deepest_is I P octets ∙ deepest_terms I P) P.reads
 
-  module _ {w : RecordsMut} (U : Becomes v w v.work.now) (place : ℕ) where
-    pub term_broken : {e : Refusal} → r ≡ Err e → Enters term v w o place (Err e)
+  module _ {w : RecordsMut} (U : Becomes v w v.work.now) where
+    pub term_broken : {e : Refusal} → r ≡ Err e → Enters term v w o (Err e)
     term_broken h =
         record {
           kept = keeps_left U;
-          go = λ f C room p t s.
+          go = λ f C room t s.
               let P = term_parts s in
               let I = C.indexed in
               record {
@@ -184,48 +184,48 @@ module _ (v : RecordsMut) {o n : ℕ} {r : Result (Unit {0}) Refusal} (octets : 
       unfolding is_some
       listed g {f} I c P = rules_left I P ∙ broken_later 12 _ (ap is_some (sym (sought_is f I c P) ∙ ap option_of g))
 
-      pub term_unlisted : found ≡ rust.None → Enters term v w o place (Err TypeNotListed)
+      pub term_unlisted : found ≡ rust.None → Enters term v w o (Err TypeNotListed)
       unfolding is_some number
       term_unlisted g =
           record {
             kept = keeps_left U;
-            go = λ f C room p t s.
+            go = λ f C room t s.
                 let P = term_parts s in
                 let q : sought C.indexed P ≡ none = sym (sought_is f C.indexed C.sizes_are P) ∙ ap option_of g in
                 record { rule = rules_left C.indexed P ∙ broken_here 12 _ (ap is_some q); memory = unchanged_left U };
           }
 
       module _ {ty : ℕ} (g : found ≡ rust.Some ty) where
-        pub term_many : 60000 ≤ v.sizes.terms → Enters term v w o place (Err TooMany)
+        pub term_many : 60000 ≤ v.sizes.terms → Enters term v w o (Err TooMany)
         unfolding number
         term_many d =
             record {
               kept = keeps_left U;
-              go = λ f C room p t s. let P = term_parts s in record { rule = listed g C.indexed C.sizes_are P ∙ broken_here 13 _ (rw (← C.sizes_are.terms_are, le-ltb v.sizes.terms 60000 d)); memory = unchanged_left U };
+              go = λ f C room t s. let P = term_parts s in record { rule = listed g C.indexed C.sizes_are P ∙ broken_here 13 _ (rw (← C.sizes_are.terms_are, le-ltb v.sizes.terms 60000 d)); memory = unchanged_left U };
             }
 
-        pub term_deep : v.sizes.terms < 60000 → 255 < n → Enters term v w o place (Err TooMany)
+        pub term_deep : v.sizes.terms < 60000 → 255 < n → Enters term v w o (Err TooMany)
         unfolding number
         term_deep d e =
             record {
               kept = keeps_left U;
-              go = λ f C room p t s.
+              go = λ f C room t s.
                   let P = term_parts s in
                   let q : n ≡ deepest v.work.now v.sizes.rows term_depth P = is ∙ deepest_is C.indexed P octets in
                   record { rule = listed g C.indexed C.sizes_are P ∙ broken_here 13 _ (rw (← C.sizes_are.terms_are, lt-ltb v.sizes.terms 60000 d, ← q, lt-leb (suc n) 256 (omega arith))); memory = unchanged_left U };
             }
 
-        pub term_entered : {x : RecordsMut} → v.sizes.terms < 60000 → n ≤ 255 → StoresTerm w x o ty (n + 1) place → Enters term v x o place (Ok tt)
+        pub term_entered : {x : RecordsMut} → v.sizes.terms < 60000 → n ≤ 255 → StoresTerm w x o ty (n + 1) → Enters term v x o (Ok tt)
         term_entered d e S =
             record {
               kept = keeps_then (keeps_left U) S.kept;
-              go = λ f C room p t s.
+              go = λ f C room t s.
                   let P = term_parts s in
                   let q : n ≡ deepest v.work.now v.sizes.rows term_depth P = is ∙ deepest_is C.indexed P octets in
                   let F = type_found C.indexed P ty (sym (sought_is f C.indexed C.sizes_are P) ∙ ap option_of g) in
                   record {
                     rule = listed g C.indexed C.sizes_are P ∙ broken_later 13 _ (rw (← C.sizes_are.terms_are, lt-ltb v.sizes.terms 60000 d, ← q, le-leb (suc n) 256 (omega arith))) ∙ none_broken;
-                    memory = S.go f (counted_left U C) (rw U.sizes_are room) t (rw U.file_is s) F.below F.type_is F.type_first_is (add-one n ∙ ap suc q ∙ term_depth_is C.indexed P) (omega arith) p;
+                    memory = S.go f (counted_left U C) (rw U.sizes_are room) t (rw U.file_is s) F.below F.type_is F.type_first_is (add-one n ∙ ap suc q ∙ term_depth_is C.indexed P) (omega arith);
                   };
             }
 

@@ -13,7 +13,7 @@ use lib.ListN.{length}
 use Rattle.script_spec.specs.Base.{Bytes, if_some, ascending}
 use Rattle.script_spec.specs.Tree.{Ty, node, nil, attributes}
 use Rattle.script_spec.specs.File.{TermFile, type, types, rules, broken}
-use Rattle.index.specs.Cells.{store, type_offset, type_first, type_depth, type_place, type_list}
+use Rattle.index.specs.Cells.{store, type_offset, type_first, type_depth, type_list}
 use Rattle.index.specs.declared.Sizes.{Sizes}
 use Rattle.index.specs.declared.RecordsMut.{RecordsMut}
 use Rattle.index.proofs.Growth.{counts_fewer}
@@ -34,18 +34,18 @@ use Rattle.check_enter.proofs.FirstBroken.{broken_here, broken_later, none_broke
 use Rattle.check_enter.proofs.Rewritten.{Rewritten, keeps_counted, keeps_same, unchanged, indexed_as, sizes_as, one_more}
 use Rattle.check_enter.proofs.Sizes.{sizes_type}
 
-pub type_row_stored : (v : RecordsMut) (o deep place : ℕ) {first m : ℕ} {w₀ w : RecordsMut} → EnrolsIn v w₀ type_offset type_first 0 v.sizes.types o first
+pub type_row_stored : (v : RecordsMut) (o deep : ℕ) {first m : ℕ} {w₀ w : RecordsMut} → EnrolsIn v w₀ type_offset type_first 0 v.sizes.types o first
     → Rewritten v w
-    (store (store (store (store (store w₀.work.now v.sizes.rows type_offset v.sizes.types o) v.sizes.rows type_first v.sizes.types first) v.sizes.rows type_depth v.sizes.types deep) v.sizes.rows type_place v.sizes.types place) v.sizes.rows type_list v.sizes.types 0)
+    (store (store (store (store w₀.work.now v.sizes.rows type_offset v.sizes.types o) v.sizes.rows type_first v.sizes.types first) v.sizes.rows type_depth v.sizes.types deep) v.sizes.rows type_list v.sizes.types 0)
     → m ≡ min (v.sizes.types + 1) 4294967295
-    → StoresType v (record { file = w.file; work = w.work; sizes = record { rows = w.sizes.rows; types = m; funs = w.sizes.funs; terms = w.sizes.terms; enums = w.sizes.enums; inputs = w.sizes.inputs } }) o deep place
-type_row_stored v o deep place E R more =
+    → StoresType v (record { file = w.file; work = w.work; sizes = record { rows = w.sizes.rows; types = m; funs = w.sizes.funs; terms = w.sizes.terms; enums = w.sizes.enums; inputs = w.sizes.inputs } }) o deep
+type_row_stored v o deep E R more =
     record {
       kept = keeps_counted R _ refl;
-      go = λ f C room t s d few p.
+      go = λ f C room t s d few.
           let c = C.sizes_are in
           record {
-            indexed = indexed_as R (rw (c.types_are, p) (indexed_type C.indexed room (rw c.types_are at E.enrols) s d few));
+            indexed = indexed_as R (rw c.types_are (indexed_type C.indexed room (rw c.types_are at E.enrols) s d few));
             sizes_are = sizes_type (sizes_as R c) t (one_more more (ap (λ (s : Sizes). s.types) R.becomes.sizes_are) (omega (arith, c.types_are, (counts_fewer f).types_fewer, room, C.indexed.searchable.small)));
           };
     }
@@ -66,28 +66,28 @@ module _ {file : Bytes} {f : TermFile} {work : List ℕ} {k o : ℕ} {t : Ty} (I
 ascends_is : {file : Bytes} {o : ℕ} {b : Bool} → TypeAscends file o b → {f : TermFile} {t : Ty} (P : TypeParts file f o t) → if_some ascending (attributes (node P.m nil)) ≡ b
 ascends_is A P = sym (A.go P.m P.rs P.reads)
 
-module _ (v : RecordsMut) (o place : ℕ) {b : Bool} (A : TypeAscends v.file.now o b) where
-  pub type_unordered : b ≡ false → Enters type v v o place (Err NotAscending)
+module _ (v : RecordsMut) (o : ℕ) {b : Bool} (A : TypeAscends v.file.now o b) where
+  pub type_unordered : b ≡ false → Enters type v v o (Err NotAscending)
   unfolding number
-  type_unordered h = record { kept = keeps_same v; go = λ f C room p t s. let P = type_parts s in record { rule = ap broken (type_rules C.indexed P) ∙ broken_here 9 _ (ascends_is A P ∙ h); memory = unchanged v } }
+  type_unordered h = record { kept = keeps_same v; go = λ f C room t s. let P = type_parts s in record { rule = ap broken (type_rules C.indexed P) ∙ broken_here 9 _ (ascends_is A P ∙ h); memory = unchanged v } }
 
-  pub type_many : b ≡ true → 60000 ≤ v.sizes.types → Enters type v v o place (Err TooMany)
+  pub type_many : b ≡ true → 60000 ≤ v.sizes.types → Enters type v v o (Err TooMany)
   unfolding number
   type_many h g =
       record {
         kept = keeps_same v;
-        go = λ f C room p t s.
+        go = λ f C room t s.
             let P = type_parts s in
             record { rule = ap broken (type_rules C.indexed P) ∙ broken_later 9 _ (ascends_is A P ∙ h) ∙ broken_here 13 _ (rw (← C.sizes_are.types_are, le-ltb v.sizes.types 60000 g)); memory = unchanged v };
       }
 
   module _ {n : ℕ} (octets : Octets v.file.now) (is : n ≡ greatest (reference_numbers 2 (map (viewed v.work.now v.sizes.rows Depth) (segments_at v.file.now o)))) where
-    pub type_deep : b ≡ true → v.sizes.types < 60000 → 255 < n → Enters type v v o place (Err TooMany)
+    pub type_deep : b ≡ true → v.sizes.types < 60000 → 255 < n → Enters type v v o (Err TooMany)
     unfolding number
     type_deep h g d =
         record {
           kept = keeps_same v;
-          go = λ f C room p t s.
+          go = λ f C room t s.
               let P = type_parts s in
               let q : n ≡ deepest v.work.now v.sizes.rows type_depth P = is ∙ deepest_is C.indexed P octets in
               record {
@@ -96,15 +96,15 @@ module _ (v : RecordsMut) (o place : ℕ) {b : Bool} (A : TypeAscends v.file.now
               };
         }
 
-    pub type_entered : {w : RecordsMut} → b ≡ true → v.sizes.types < 60000 → n ≤ 255 → StoresType v w o (n + 1) place → Enters type v w o place (Ok tt)
+    pub type_entered : {w : RecordsMut} → b ≡ true → v.sizes.types < 60000 → n ≤ 255 → StoresType v w o (n + 1) → Enters type v w o (Ok tt)
     type_entered h g d S =
         record {
           kept = S.kept;
-          go = λ f C room p t s.
+          go = λ f C room t s.
               let P = type_parts s in
               let q : n ≡ deepest v.work.now v.sizes.rows type_depth P = is ∙ deepest_is C.indexed P octets in
               record {
                 rule = ap broken (type_rules C.indexed P) ∙ broken_later 9 _ (ascends_is A P ∙ h) ∙ broken_later 13 _ (rw (← C.sizes_are.types_are, lt-ltb v.sizes.types 60000 g, ← q, le-leb (suc n) 256 (omega arith))) ∙ none_broken;
-                memory = S.go f C room t s (add-one n ∙ ap suc q ∙ type_depth_is C.indexed P) (omega arith) p;
+                memory = S.go f C room t s (add-one n ∙ ap suc q ∙ type_depth_is C.indexed P) (omega arith);
               };
         }

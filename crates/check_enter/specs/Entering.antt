@@ -42,12 +42,12 @@ pub record Outcome (f : TermFile) (v w : RecordsMut) (x : Named) (r : Result (Un
   pub rule : broken (rules f x) ≡ entered_rule r
   pub memory : Memory f v w x r
 
--- a record of one kind at an offset is entered after the records f, of which there are `place`
-pub record Enters {A : Type 0} (wrap : A → Named) (v w : RecordsMut) (o place : ℕ) (r : Result (Unit {0}) Refusal) : Type 0 where
+-- a record of one kind at an offset is entered after the records f
+pub record Enters {A : Type 0} (wrap : A → Named) (v w : RecordsMut) (o : ℕ) (r : Result (Unit {0}) Refusal) : Type 0 where
   pub kept : Keeps v w
-  pub go : (f : TermFile) → Counted f v → suc (length f) ≤ v.sizes.rows → place ≡ length f → (a : A) → Stands v.file.now f (earlier f) o (wrap a) → Outcome f v w (wrap a) r
+  pub go : (f : TermFile) → Counted f v → suc (length f) ≤ v.sizes.rows → (a : A) → Stands v.file.now f (earlier f) o (wrap a) → Outcome f v w (wrap a) r
 
--- the row of a type of this depth and place is stored, and the type is counted
-pub record StoresType (v w : RecordsMut) (o deep place : ℕ) : Type 0 where
+-- the row of a type of this depth is stored, and the type is counted
+pub record StoresType (v w : RecordsMut) (o deep : ℕ) : Type 0 where
   pub kept : Keeps v w
-  pub go : (f : TermFile) → Counted f v → suc (length f) ≤ v.sizes.rows → (t : Ty) → Stands v.file.now f (earlier f) o (type t) → deep ≡ depth t → deep ≤ 256 → place ≡ length f → Counted (f ++ (type t ∷ [])) w
+  pub go : (f : TermFile) → Counted f v → suc (length f) ≤ v.sizes.rows → (t : Ty) → Stands v.file.now f (earlier f) o (type t) → deep ≡ depth t → deep ≤ 256 → Counted (f ++ (type t ∷ [])) w

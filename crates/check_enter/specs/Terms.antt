@@ -13,13 +13,13 @@ use Rattle.refusal.specs.declared.Refusal.{Refusal}
 use Rattle.check_types.specs.Sought.{TypeSought}
 use Rattle.check_enter.specs.Entering.{Keeps, Counted, Enters}
 
--- the row of a term of this type, depth and place is stored, and the term is counted
-pub record StoresTerm (v w : RecordsMut) (o ty deep place : ℕ) : Type 0 where
+-- the row of a term of this type and depth is stored, and the term is counted
+pub record StoresTerm (v w : RecordsMut) (o ty deep : ℕ) : Type 0 where
   pub kept : Keeps v w
   pub go : (f : TermFile) → Counted f v → suc (length f) ≤ v.sizes.rows → (t : Tm) → Stands v.file.now f (earlier f) o (term t)
-      → ty < length (types f) → type_at f ty ≡ type_of t → first_type f ty ≡ ty → deep ≡ depth t → deep ≤ 256 → place ≡ length f → Counted (f ++ (term t ∷ [])) w
+      → ty < length (types f) → type_at f ty ≡ type_of t → first_type f ty ≡ ty → deep ≡ depth t → deep ≤ 256 → Counted (f ++ (term t ∷ [])) w
 
 -- a term of this kind is entered where `found` says its type
-pub record EntersTyped (v w : RecordsMut) (o : ℕ) (kind : Kind) (place : ℕ) (found : Option ℕ) (r : Result (Unit {0}) Refusal) : Type 0 where
+pub record EntersTyped (v w : RecordsMut) (o : ℕ) (kind : Kind) (found : Option ℕ) (r : Result (Unit {0}) Refusal) : Type 0 where
   pub kept : Keeps v w
-  pub go : Marked (mark_at v.file.now o) (Some kind) → TypeSought v.file.now v.work.now v.sizes o found → Enters term v w o place r
+  pub go : Marked (mark_at v.file.now o) (Some kind) → TypeSought v.file.now v.work.now v.sizes o found → Enters term v w o r

@@ -6,9 +6,9 @@ use check_rules::members;
 use index::{Column, RecordsMut};
 use refusal::Refusal;
 
-// Enters the enum at an offset and a place, without a list of members.
-pub fn enter_enum(records: &mut RecordsMut<'_>, offset: u32, place: u32) -> Result<(), Refusal>
-    ensures { Enters enum_named records.old records.new offset place result }
+// Enters the enum at an offset, without a list of members.
+pub fn enter_enum(records: &mut RecordsMut<'_>, offset: u32) -> Result<(), Refusal>
+    ensures { Enters enum_named records.old records.new offset result }
 {
     if !members::members_ascend(records.file, offset) {
         return Err(Refusal::NotAscending);
@@ -22,7 +22,6 @@ pub fn enter_enum(records: &mut RecordsMut<'_>, offset: u32, place: u32) -> Resu
         return Err(Refusal::SecondEnum);
     }
     records.set(Column::EnumOffset, n, offset);
-    records.set(Column::EnumPlace, n, place);
     records.set(Column::EnumList, n, 0);
     records.sizes.enums = n.saturating_add(1);
     Ok(())

@@ -6,15 +6,13 @@ use index::{Column, RecordsMut};
 use index_entry::records::{body_at, number_at};
 use refusal::Refusal;
 
-// Enters the input at an offset and a place: the number of its term is its body.
-pub fn enter_input(records: &mut RecordsMut<'_>, offset: u32, place: u32) -> Result<(), Refusal>
-    ensures { Enters input records.old records.new offset place result }
+// Enters the input at an offset: the number of its term is its body.
+pub fn enter_input(records: &mut RecordsMut<'_>, offset: u32) -> Result<(), Refusal>
+    ensures { Enters input records.old records.new offset result }
 {
     let term = number_at(body_at(records.file, offset), 0);
     let n = records.sizes.inputs;
-    records.set(Column::InputOffset, n, offset);
     records.set(Column::InputTerm, n, term);
-    records.set(Column::InputPlace, n, place);
     records.sizes.inputs = n.saturating_add(1);
     Ok(())
 }

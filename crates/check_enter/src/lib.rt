@@ -20,37 +20,35 @@ pub const MOST: u32 = 60000;
 // The greatest depth that a part of a type or of a term may have.
 pub const DEEPEST_PART: u32 = 255;
 
-// Enters the function at an offset and a place, without a name.
-pub fn enter_fun(records: &mut RecordsMut<'_>, offset: u32, place: u32) -> Result<(), Refusal>
-    ensures { Enters func records.old records.new offset place result }
+// Enters the function at an offset, without a name.
+pub fn enter_fun(records: &mut RecordsMut<'_>, offset: u32) -> Result<(), Refusal>
+    ensures { Enters func records.old records.new offset result }
 {
     let n = records.sizes.funs;
     let first = index_search::search::enrol(records, Compared::Funs, offset);
     records.set(Column::FunOffset, n, offset);
     records.set(Column::FunFirst, n, first);
-    records.set(Column::FunPlace, n, place);
     records.set(Column::FunName, n, 0);
     records.sizes.funs = n.saturating_add(1);
     Ok(())
 }
 
-// Stores the row of a type, with its depth and its place, and without a list of attributes, and counts it.
-fn store_type(records: &mut RecordsMut<'_>, offset: u32, depth: u32, place: u32)
-    ensures { StoresType records.old records.new offset depth place }
+// Stores the row of a type, with its depth and without a list of attributes, and counts it.
+fn store_type(records: &mut RecordsMut<'_>, offset: u32, depth: u32)
+    ensures { StoresType records.old records.new offset depth }
 {
     let n = records.sizes.types;
     let first = index_search::search::enrol(records, Compared::Types, offset);
     records.set(Column::TypeOffset, n, offset);
     records.set(Column::TypeFirst, n, first);
     records.set(Column::TypeDepth, n, depth);
-    records.set(Column::TypePlace, n, place);
     records.set(Column::TypeList, n, 0);
     records.sizes.types = n.saturating_add(1);
 }
 
-// Enters the type at an offset and a place.
-pub fn enter_type(records: &mut RecordsMut<'_>, offset: u32, place: u32) -> Result<(), Refusal>
-    ensures { Enters type records.old records.new offset place result }
+// Enters the type at an offset.
+pub fn enter_type(records: &mut RecordsMut<'_>, offset: u32) -> Result<(), Refusal>
+    ensures { Enters type records.old records.new offset result }
 {
     if !check_rules::record::attributes_ascend(records.file, offset) {
         return Err(Refusal::NotAscending);
@@ -63,6 +61,6 @@ pub fn enter_type(records: &mut RecordsMut<'_>, offset: u32, place: u32) -> Resu
     if DEEPEST_PART < deepest {
         return Err(Refusal::TooMany);
     }
-    store_type(records, offset, deepest + 1, place);
+    store_type(records, offset, deepest + 1);
     Ok(())
 }

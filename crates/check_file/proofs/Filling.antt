@@ -8,15 +8,16 @@ use lib.ListN.{length, replicate}
 use Rattle.std.specs.Prelude.{Ok, Err}
 use Rattle.script_spec.specs.Base.{Bytes}
 use Rattle.index.specs.declared.RecordsMut.{RecordsMut}
+use Rattle.index.specs.Meaning.{together}
 use Rattle.index.proofs.Cells.{capacity_fits}
+use Rattle.index.proofs.Growth.{together_are}
 use Rattle.refusal.specs.Numbers.{number, answered}
 use Rattle.refusal.specs.declared.Refusal.{Refusal}
 use Rattle.refusal.specs.declared.Refusal.TheVariants.{FileTooLong, MemoryTooSmall}
 use Rattle.refusal.specs.declared.Refused.{Refused}
-use Rattle.check_file.specs.Promise.{together, Fills}
+use Rattle.check_file.specs.Promise.{Fills}
 use Rattle.check_file.specs.Clearing.{Refusing}
 use Rattle.check_file.specs.Stepping.{EntersAll}
-use Rattle.check_file.proofs.Over.{placed_at}
 use Rattle.check_file.proofs.Records.{checked_long, checked_narrow, checked_records}
 
 -- what is behind a reference, by its ghost name
@@ -55,7 +56,8 @@ module _ (file : Bytes) (work : List ℕ) {v w : RecordsMut} (is : v.file.now �
   unfolding answered
   fills_broken {e} {place} E p Z same left =
       let A = E.told in
-      let here : place ≡ length A.records = placed_at A.records A.sizes_are A.few p in
+      let all : together w.sizes ≡ length A.records = together_are A.sizes_are in
+      let here : place ≡ length A.records = p (omega (arith, A.few)) ∙ all in
       record {
         refuses = rw (Z.refusal_is, Z.place_is, Z.position_is, here) (checked_records file (length work) short room ∙ (rw is at A.is));
         cleared = left ∙ Z.cleared ∙ ap (λ (m : ℕ). replicate m 0) (E.kept.size ∙ same);

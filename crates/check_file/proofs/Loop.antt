@@ -10,16 +10,18 @@ use borrow.Author.Tests.{le-leb, lt-leb}
 use Rattle.std.specs.Prelude.{Ok, Err}
 use Rattle.script_spec.specs.Base.{collect}
 use Rattle.script_spec.specs.File.{TermFile, types, funs, terms, enums, inputs}
-use Rattle.index.specs.Cells.{cell, emptied, zeroed, hash}
-use Rattle.index.specs.Held.{Becomes}
+use Rattle.index.specs.Cells.{cell, store, emptied, zeroed, key, hash}
+use Rattle.index.specs.Held.{Becomes, Stays}
 use Rattle.index.specs.declared.Sizes.{Sizes}
 use Rattle.index.specs.declared.RecordsMut.{RecordsMut}
-use Rattle.index.proofs.Cells.{capacity_fits}
+use Rattle.index.proofs.Cells.{capacity_fits, cell_store_other}
 use Rattle.index.proofs.Columns.{cell_emptied}
+use Rattle.index.proofs.Held.{stays_becomes, stays_store}
 use Rattle.index_search.proofs.Entered.{indexed_none}
 use Rattle.refusal.specs.declared.Refusal.{Refusal}
 use Rattle.check_enter.specs.Entering.{Keeps}
 use Rattle.check_enter.proofs.Rewritten.{keeps_same, keeps_then}
+use Rattle.check_file.specs.Beginning.{Begins}
 use Rattle.check_file.specs.Stepping.{Before, Stepped, TurnedBack, Steps, EntersAll}
 use Rattle.check_file.proofs.Records.{Rest, rest_start, rest_end, rest_bad, rest_got}
 
@@ -42,20 +44,33 @@ length_emptied work k = go (dec_le (12 * k) (length work))
     go (yes l) = rw (le-leb (12 * k) (length work) l, emptied) (simp (length-append, length-take, length-replicate, length-drop) (omega arith))
     go (no l) = rw (lt-leb (12 * k) (length work) (omega arith), emptied)
 
-pub same_length : {v w : RecordsMut} → Becomes v w (emptied v.work.now v.sizes.rows hash) → length w.work.now ≡ length v.work.now
-same_length {v} B = ap length B.memory ∙ length_emptied v.work.now v.sizes.rows
+-- the slots are emptied, and the two halves of the key are stored
+pub ready : {v w x y : RecordsMut} (low high : ℕ) → Becomes v w (emptied v.work.now v.sizes.rows hash) → Becomes w x (store w.work.now w.sizes.rows key 0 low) → Becomes x y (store x.work.now x.sizes.rows key 1 high) → Begins v y
+ready {v} {w} {x} low high A B C =
+    let k = v.sizes.rows in
+    let rows : w.sizes.rows ≡ k = ap (λ (s : Sizes). s.rows) A.sizes_are in
+    let rows' : x.sizes.rows ≡ k = ap (λ (s : Sizes). s.rows) B.sizes_are ∙ rows in
+    let a : Stays v w = stays_becomes A (length_emptied v.work.now k) in
+    record {
+      stays = stays_store x.sizes.rows key 1 high (stays_store w.sizes.rows key 0 low a B) C;
+      empty = λ i.
+          ap (λ (m : List ℕ). cell m k hash i) (C.memory ∙ ap (λ (n : ℕ). store x.work.now n key 1 high) rows')
+          ∙ cell_store_other x.work.now k key 1 high hash i (omega arith) (omega arith) (λ e q. omega arith)
+          ∙ ap (λ (m : List ℕ). cell m k hash i) (B.memory ∙ ap (λ (n : ℕ). store w.work.now n key 0 low) rows)
+          ∙ cell_store_other w.work.now k key 0 low hash i (omega arith) (omega arith) (λ e q. omega arith)
+          ∙ ap (λ (m : List ℕ). cell m k hash i) A.memory ∙ cell_emptied v.work.now k hash (omega arith) i;
+    }
 
-pub begins : {v w : RecordsMut} → Becomes v w (emptied v.work.now v.sizes.rows hash) → length v.file.now ≤ 1048576 → 2 * length v.file.now ≤ length v.work.now → v.sizes.rows ≡ length v.file.now / 6 → Uncounted v.sizes → Before [] w 0
+pub begins : {v w : RecordsMut} → Begins v w → length v.file.now ≤ 1048576 → 2 * length v.file.now ≤ length v.work.now → v.sizes.rows ≡ length v.file.now / 6 → Uncounted v.sizes → Before [] w 0
 unfolding types funs terms enums inputs collect
 begins {v} {w} B short room rows U =
-    let same = same_length B in
-    let empty : (i : ℕ) → cell w.work.now v.sizes.rows hash i ≡ 0 = λ i. rw B.memory (cell_emptied v.work.now v.sizes.rows hash (omega arith) i) in
+    let S = B.stays in
     record {
-      short = rw B.file_is short;
-      rows_are = rw (B.file_is, B.sizes_are) rows;
+      short = rw S.file_is short;
+      rows_are = rw (S.file_is, S.sizes_are) rows;
       counted = record {
-        indexed = rw (B.file_is, B.sizes_are) (indexed_none v.file.now w.work.now v.sizes.rows (omega (arith, rows, capacity_fits (length v.file.now))) (omega (arith, rows, capacity_fits (length v.file.now))) empty);
-        sizes_are = rw B.sizes_are record { types_are = U.types_none; funs_are = U.funs_none; terms_are = U.terms_none; enums_are = U.enums_none; inputs_are = U.inputs_none };
+        indexed = rw (S.file_is, S.sizes_are) (indexed_none v.file.now w.work.now v.sizes.rows (omega (arith, rows, capacity_fits (length v.file.now), S.size)) (omega (arith, rows, capacity_fits (length v.file.now))) B.empty);
+        sizes_are = rw S.sizes_are record { types_are = U.types_none; funs_are = U.funs_none; terms_are = U.terms_none; enums_are = U.enums_none; inputs_are = U.inputs_none };
       };
       places = omega arith;
     }

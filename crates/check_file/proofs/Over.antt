@@ -10,11 +10,10 @@ use Rattle.script_spec.specs.Tree.{uuf, node, forest}
 use Rattle.script_spec.specs.Fields.{got, Entry}
 use Rattle.script_spec.specs.File.{TermFile, Named, type, func, term, input, type_at, term_at, named_mark, named, earlier, rules, broken}
 use Rattle.index.specs.Standing.{mark_at, body_at, entry_at}
-use Rattle.index.specs.Meaning.{Stands, SizesOf}
-use Rattle.index.specs.declared.Sizes.{Sizes}
+use Rattle.index.specs.Meaning.{Stands}
 use Rattle.index.specs.declared.RecordsMut.{RecordsMut}
 use Rattle.index.proofs.Cells.{below_capacity}
-use Rattle.index.proofs.Growth.{counts_fewer, counts_together}
+use Rattle.index.proofs.Growth.{counts_fewer}
 use Rattle.refusal.specs.declared.Refusal.{Refusal}
 use Rattle.read_record.specs.Marks.{MarkedAs, Marked}
 use Rattle.read_record.specs.declared.mark.Kind.{Kind}
@@ -22,7 +21,6 @@ use Rattle.check_rules.specs.Marks.{mark_of}
 use Rattle.check_rules.proofs.Marks.{entry_mark}
 use Rattle.check_enter.specs.Entering.{Keeps, Outcome, Enters}
 use Rattle.check_enter.specs.Enums.{enum_named}
-use Rattle.check_file.specs.Promise.{together}
 use Rattle.check_file.specs.Stepping.{Before, ReadUpTo, TypeRecord, EnumRecord, FunRecord, TermOf, InputRecord, EnterTells, StepsOver}
 use Rattle.check_file.proofs.Reading.{read_entry, read_stands}
 use Rattle.check_file.proofs.Kept.{next_kept, next_broken}
@@ -67,16 +65,10 @@ module _ {f : TermFile} {v : RecordsMut} {at to : ℕ} {x : Entry} (B : Before f
       }
   entered e (Err x) K = record { next = next_broken f (drop at v.file.now) R.read (ap (λ (n : Named). broken (rules f n)) e ∙ K.rule); unchanged = K.memory }
 
--- the place of the next record is the number of those before it
-pub placed_at : (f : TermFile) {sizes : Sizes} {place : ℕ} → SizesOf f sizes → length f < 4294967296 → (together sizes < 4294967296 → place ≡ together sizes) → place ≡ length f
-placed_at f {sizes} S few place =
-    let all : together sizes ≡ length f = (rw (S.types_are, S.funs_are, S.terms_are, S.enums_are, S.inputs_are)) ∙ counts_together f in
-    place (omega arith) ∙ all
-
 -- ---- each kind
 
-module _ {v w : RecordsMut} {at o place : ℕ} {r : Result (Unit {0}) Refusal} (low : at < 4294967296 → o ≡ at) (counted : together v.sizes < 4294967296 → place ≡ together v.sizes) where
-  pub type_over : Enters type v w o place r → StepsOver TypeRecord v w at r
+module _ {v w : RecordsMut} {at o : ℕ} {r : Result (Unit {0}) Refusal} (low : at < 4294967296 → o ≡ at) where
+  pub type_over : Enters type v w o r → StepsOver TypeRecord v w at r
   unfolding named
   type_over E =
       record {
@@ -84,20 +76,20 @@ module _ {v w : RecordsMut} {at o place : ℕ} {r : Result (Unit {0}) Refusal} (
         go = λ f B to x R K.
             let e = ap (named f) K.2 in
             let t = node K.0 (forest (map (type_at f) K.1)) in
-            entered B R e r (E.go f B.counted (next_room B R) (placed_at f B.counted.sizes_are (omega (arith, few B R)) counted) t (rw (low (at_low B R)) (stands_as B R e)));
+            entered B R e r (E.go f B.counted (next_room B R) t (rw (low (at_low B R)) (stands_as B R e)));
       }
 
-  pub enum_over : Enters enum_named v w o place r → StepsOver EnumRecord v w at r
+  pub enum_over : Enters enum_named v w o r → StepsOver EnumRecord v w at r
   unfolding named enum_named
   enum_over E =
       record {
         kept = E.kept;
         go = λ f B to x R K.
             let e = ap (named f) K.2 in
-            entered B R e r (E.go f B.counted (next_room B R) (placed_at f B.counted.sizes_are (omega (arith, few B R)) counted) (K.0, K.1) (rw (low (at_low B R)) (stands_as B R e)));
+            entered B R e r (E.go f B.counted (next_room B R) (K.0, K.1) (rw (low (at_low B R)) (stands_as B R e)));
       }
 
-  pub fun_over : Enters func v w o place r → StepsOver FunRecord v w at r
+  pub fun_over : Enters func v w o r → StepsOver FunRecord v w at r
   unfolding named
   fun_over E =
       record {
@@ -105,10 +97,10 @@ module _ {v w : RecordsMut} {at o place : ℕ} {r : Result (Unit {0}) Refusal} (
         go = λ f B to x R K.
             let e = ap (named f) K.3 in
             let g = uuf K.0 (type_at f K.1) (type_at f K.2) in
-            entered B R e r (E.go f B.counted (next_room B R) (placed_at f B.counted.sizes_are (omega (arith, few B R)) counted) g (rw (low (at_low B R)) (stands_as B R e)));
+            entered B R e r (E.go f B.counted (next_room B R) g (rw (low (at_low B R)) (stands_as B R e)));
       }
 
-  pub input_over : Enters input v w o place r → StepsOver InputRecord v w at r
+  pub input_over : Enters input v w o r → StepsOver InputRecord v w at r
   unfolding named
   input_over E =
       record {
@@ -116,10 +108,10 @@ module _ {v w : RecordsMut} {at o place : ℕ} {r : Result (Unit {0}) Refusal} (
         go = λ f B to x R K.
             let e = ap (named f) K.1 in
             let t = term_at f K.0 in
-            entered B R e r (E.go f B.counted (next_room B R) (placed_at f B.counted.sizes_are (omega (arith, few B R)) counted) t (rw (low (at_low B R)) (stands_as B R e)));
+            entered B R e r (E.go f B.counted (next_room B R) t (rw (low (at_low B R)) (stands_as B R e)));
       }
 
-  pub term_over : (kind : Kind) → Keeps v w → (Marked (mark_at v.file.now o) (Some kind) → Enters term v w o place r) → StepsOver (TermOf kind) v w at r
+  pub term_over : (kind : Kind) → Keeps v w → (Marked (mark_at v.file.now o) (Some kind) → Enters term v w o r) → StepsOver (TermOf kind) v w at r
   unfolding named MarkedAs
   term_over kind kept E =
       record {
@@ -128,5 +120,5 @@ module _ {v w : RecordsMut} {at o place : ℕ} {r : Result (Unit {0}) Refusal} (
             let e = ap (named f) K.0.2 in
             let t = node (named_mark f K.0.0) (forest (map (term_at f) K.0.1)) in
             let M : Marked (mark_at v.file.now o) (Some kind) = record { is = rw (low (at_low B R), K.1) (next_mark B R) } in
-            entered B R e r ((E M).go f B.counted (next_room B R) (placed_at f B.counted.sizes_are (omega (arith, few B R)) counted) t (rw (low (at_low B R)) (stands_as B R e)));
+            entered B R e r ((E M).go f B.counted (next_room B R) t (rw (low (at_low B R)) (stands_as B R e)));
       }

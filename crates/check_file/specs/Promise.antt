@@ -1,6 +1,6 @@
 -- What check and fill promise: document 01's answer, and the working memory that they leave.
 -- Assumes nothing.
-use Rattle.std.specs.Prelude.{◌≡◌, ℕ, ◌+◌, ◌/◌, List, length, replicate, Result}
+use Rattle.std.specs.Prelude.{◌≡◌, ℕ, ◌/◌, List, length, replicate, Result}
 use Rattle.script_spec.specs.Base.{Bytes, Answer, accepted, refused}
 use Rattle.script_spec.specs.File.{TermFile, checked}
 use Rattle.index.specs.Meaning.{Unnamed, CheckedIndex}
@@ -25,10 +25,6 @@ pub record Checks (file : Bytes) (work work' : List ℕ) (r : Result (Unit {0}) 
   pub cleared : work' ≡ replicate (length work) 0
 
 -- ---- fill
-
--- how many records the sizes count
-abbrev pub together : Sizes → ℕ
-together sizes = sizes.types + sizes.funs + sizes.terms + sizes.enums + sizes.inputs
 
 -- the file is accepted, and the memory at exit is the index of its records, of which these are the sizes and none has a name
 pub record Accepts (file : Bytes) (work work' : List ℕ) (sizes : Sizes) : Type 0 where

@@ -4,28 +4,18 @@
 pub mod next;
 pub mod step;
 
-ghost use Rattle.std.specs.Prelude.{◌≡◌, ◌<◌, []};
-ghost use Rattle.check_file.specs.Promise.{together, Fills, Checks};
+ghost use Rattle.std.specs.Prelude.{[]};
+ghost use Rattle.check_file.specs.Promise.{Fills, Checks};
+ghost use Rattle.check_file.specs.Beginning.{Begins};
 ghost use Rattle.check_file.specs.Stepping.{Before, EntersAll};
 ghost use Rattle.check_file.specs.Clearing.{Refusing};
 
 use index::{Column, RecordsMut, Sizes};
 use refusal::{Refusal, Refused};
+use std::hash::{DefaultHasher, Hasher};
 
 // As many bytes as a file may have.
 const MOST_BYTES: usize = 1048576;
-
-// How many records there are, or the greatest number of 32 bits where there are more.
-pub fn together(sizes: Sizes) -> u32
-    ensures { together sizes < 4294967296 → result ≡ together sizes }
-{
-    sizes
-        .types
-        .saturating_add(sizes.funs)
-        .saturating_add(sizes.terms)
-        .saturating_add(sizes.enums)
-        .saturating_add(sizes.inputs)
-}
 
 // Refuses: clears the memory.
 fn refuse(work: &mut [u32], refusal: Refusal, place: usize) -> Refused
@@ -37,6 +27,23 @@ fn refuse(work: &mut [u32], refusal: Refusal, place: usize) -> Refused
         place,
         position: 0,
     }
+}
+
+// The key of a file: what SipHash-1-3 makes of its bytes, with its lowest bit set, so that it is not 0.
+fn key_of_file(file: &[u8]) -> u64 {
+    let mut hasher = DefaultHasher::new();
+    hasher.write(file);
+    hasher.finish() | 1
+}
+
+// Makes ready for the first record: the slots of the hash table are empty, and the file's key is stored.
+fn begin(records: &mut RecordsMut<'_>)
+    ensures { Begins records.old records.new }
+{
+    records.clear_column(Column::Hash);
+    let key = key_of_file(records.file);
+    records.set(Column::Key, 0, (key % 4294967296) as u32);
+    records.set(Column::Key, 1, (key >> 32) as u32);
 }
 
 // Enters the records of a file one after the other, up to the first that is refused.
@@ -51,8 +58,8 @@ fn enter_all(records: &mut RecordsMut<'_>) -> Result<(), Refusal>
     Ok(())
 }
 
-// Enters the records of a file; the memory is their index, or all zero where one is refused. Only the slots of the hash table are read before
-// they are written, and so emptied first.
+// Enters the records of a file; the memory is their index, or all zero where one is refused. Only the slots of the hash table and the file's key are
+// read before a record writes them, and so they are made ready first.
 pub fn fill(file: &[u8], work: &mut [u32]) -> Result<Sizes, Refused>
     ensures { Fills file.now work.old work.new result }
 {
@@ -71,11 +78,11 @@ pub fn fill(file: &[u8], work: &mut [u32]) -> Result<Sizes, Refused>
         inputs: 0,
     };
     let mut records = RecordsMut { file, work, sizes };
-    records.clear_column(Column::Hash);
+    begin(&mut records);
     match enter_all(&mut records) {
         Ok(()) => Ok(records.sizes),
         Err(refusal) => {
-            let place = together(records.sizes) as usize;
+            let place = records.sizes.together() as usize;
             Err(refuse(&mut *records.work, refusal, place))
         }
     }

@@ -9,17 +9,16 @@ use index::RecordsMut;
 use read_record::mark::Kind;
 use refusal::Refusal;
 
-// Enters a record of a kind that was read from `at` on; its place is how many there are before it.
+// Enters a record of a kind that was read from `at` on.
 fn enter_next(records: &mut RecordsMut<'_>, at: usize, kind: Kind) -> Result<(), Refusal>
     ensures { StepsOver (HasMark kind) records.old records.new at result }
 {
     let offset = u32::try_from(at).unwrap_or(0);
-    let place = crate::together(records.sizes);
     match kind {
         Kind::TB | Kind::TS | Kind::TV | Kind::TO | Kind::TC | Kind::TE | Kind::TX | Kind::TR =>
-            enter_type(records, offset, place),
-        Kind::EN => enter_enum(records, offset, place),
-        Kind::UF => enter_fun(records, offset, place),
+            enter_type(records, offset),
+        Kind::EN => enter_enum(records, offset),
+        Kind::UF => enter_fun(records, offset),
         Kind::XV
         | Kind::XB
         | Kind::XN
@@ -30,8 +29,8 @@ fn enter_next(records: &mut RecordsMut<'_>, at: usize, kind: Kind) -> Result<(),
         | Kind::X1
         | Kind::XC
         | Kind::XR
-        | Kind::XA => enter_term(records, offset, kind, place),
-        Kind::IN => enter_input(records, offset, place),
+        | Kind::XA => enter_term(records, offset, kind),
+        Kind::IN => enter_input(records, offset),
     }
 }
 

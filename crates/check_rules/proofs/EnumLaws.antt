@@ -10,11 +10,12 @@ use lib.Dec.{ltb}
 use borrow.Author.Tests.{lt-ltb}
 use lib.ListN.{drop}
 use Rattle.script_spec.specs.Base.{Bytes, ascending, empty}
-use Rattle.script_spec.specs.Fields.{got, text, u32, times, list, enum}
+use Rattle.script_spec.specs.Fields.{got, ◌>>=◌, part, text, u32, times, list, enum}
 use Rattle.script_spec.proofs.Laws.{never}
-use Rattle.script_spec.proofs.Readers.{bind_inverse, pure_inverse}
+use Rattle.script_spec.proofs.Readers.{bind_inverse, pure_inverse, tested_inverse}
 use denote.Ref.{Bor}
 use Rattle.std.specs.Prelude.{Result, Ok, Err}
+use Rattle.script_spec.specs.Utf8.{is_utf8}
 use Rattle.std.specs.Result.{result_unwrap_or}
 use Rattle.refusal.specs.declared.Refusal.{Refusal}
 use Rattle.read_field.specs.Reads.{as_read}
@@ -22,36 +23,43 @@ use Rattle.read_field.specs.declared.Cursor.{Cursor}
 use Rattle.read_field.specs.Takes.{TakesTo, RefusesAt, Takes, bytes_of}
 use Rattle.index.specs.Standing.{entry_at, mark_at, body_at}
 use Rattle.check_rules.specs.Decided.{DecidesList}
-use Rattle.check_rules.specs.Tests.{item_text, any_given}
+use Rattle.check_rules.specs.Tests.{counted, item_text, any_given}
 use Rattle.check_rules.specs.Enums.{NameRead, MembersFrom, EnumAscends, EnumGiven, NameAt}
 use Rattle.check_rules.proofs.Decided.{decides_list}
 use Rattle.check_rules.proofs.Shapes.{enum_read}
 
 -- ---- the parts of the body
 
+-- a text that is read is read without the test too
+text_counted : (s : Bytes) {t left : Bytes} → text s ≡ got t left → counted s ≡ got t left
+unfolding text counted ◌>>=◌
+text_counted s e =
+    let b = bind_inverse u32 _ s e in
+    rw (◌>>=◌, b.first) (tested_inverse (part b.value) 6 is_utf8 b.mid b.after)
+
 -- the text that a cursor at the start of a body takes, or not
 here : {body : Bor Bytes} {c : Cursor} → (c.body ≡ body) × (c.at ≡ 0) → drop c.at c.body.now ≡ body.now
 here {c = c} starts = ap (λ (n : ℕ). drop n c.body.now) starts.1 ∙ ap (λ (b : Bor Bytes). b.now) starts.0
 
 module _ {body : Bor Bytes} {c : Cursor} (starts : (c.body ≡ body) × (c.at ≡ 0)) where
-  name_is_read : {d : Cursor} {t : Bytes} → TakesTo text c d t → NameRead body.now t
+  name_is_read : {d : Cursor} {t : Bytes} → TakesTo counted c d t → NameRead body.now t
   unfolding as_read
-  name_is_read h = let r = rw (here starts) at h.reads.is in record { go = λ u left e. cc (r, e) }
+  name_is_read h = let r = rw (here starts) at h.reads.is in record { go = λ u left e. cc (r, text_counted body.now e) }
 
-  name_bad : {x : Refusal} (name : Bytes) → RefusesAt text c x → NameRead body.now name
+  name_bad : {x : Refusal} (name : Bytes) → RefusesAt counted c x → NameRead body.now name
   unfolding as_read
-  name_bad name h = let r = rw (here starts) at h.reads.is in record { go = λ u left e. never (cc (r, e)) }
+  name_bad name h = let r = rw (here starts) at h.reads.is in record { go = λ u left e. never (cc (r, text_counted body.now e)) }
 
   -- the members stand after the name, if it can be read
-  members_after : {d : Cursor} {t : Bytes} → TakesTo text c d t → (d.body ≡ body) × MembersFrom body.now d.at
+  members_after : {d : Cursor} {t : Bytes} → TakesTo counted c d t → (d.body ≡ body) × MembersFrom body.now d.at
   unfolding as_read
-  members_after h = let r = rw (here starts) at h.reads.is in let b = ap (λ (b : Bor Bytes). b.now) starts.0 in (h.body ∙ starts.0, record { go = λ u left e. rw (← b) (cc (r, e)) })
+  members_after h = let r = rw (here starts) at h.reads.is in let b = ap (λ (b : Bor Bytes). b.now) starts.0 in (h.body ∙ starts.0, record { go = λ u left e. rw (← b) (cc (r, text_counted body.now e)) })
 
-  members_bad : {x : Refusal} (at : ℕ) → RefusesAt text c x → MembersFrom body.now at
+  members_bad : {x : Refusal} (at : ℕ) → RefusesAt counted c x → MembersFrom body.now at
   unfolding as_read
-  members_bad at h = let r = rw (here starts) at h.reads.is in record { go = λ u left e. never (cc (r, e)) }
+  members_bad at h = let r = rw (here starts) at h.reads.is in record { go = λ u left e. never (cc (r, text_counted body.now e)) }
 
-  pub parts_read : (x : Result (Bor Bytes × Cursor) Refusal) → Takes text c (bytes_of x)
+  pub parts_read : (x : Result (Bor Bytes × Cursor) Refusal) → Takes counted c (bytes_of x)
       → NameRead body.now (result_unwrap_or x (body, c)).0.now × ((result_unwrap_or x (body, c)).1.body ≡ body) × MembersFrom body.now (result_unwrap_or x (body, c)).1.at
   parts_read (Ok v) h = let m = members_after h in (name_is_read h, m.0, m.1)
   parts_read (Err e) h = (name_bad _ h, starts.0, members_bad _ h)

@@ -2,9 +2,13 @@
 -- Assumes nothing.
 use Rattle.std.specs.Prelude.{ℕ, Bool, true, false, not, List, ◌∷◌, map, eqb}
 use Rattle.script_spec.specs.Base.{Bytes, ascending, any, empty}
-use Rattle.script_spec.specs.Fields.{Reader, ◌>>=◌, pure, text, u32}
+use Rattle.script_spec.specs.Fields.{Reader, ◌>>=◌, pure, part, text, u32}
 use Rattle.index.specs.Cells.{cell, term_first}
 use Rattle.index.specs.Rules.{different}
+
+-- a text without the test that it is UTF-8
+unfoldable pub counted : Reader Bytes
+counted = do n ← u32; part n
 
 -- a text with a reference after it
 unfoldable pub named_text : Reader Bytes

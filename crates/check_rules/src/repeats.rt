@@ -73,12 +73,13 @@ pub fn repeats(list: Cursor<'_>, records: &mut RecordsMut<'_>, count: u32) -> Op
     ensures { Tells list.entry.body.now records.old records.new list.entry.at count result }
 {
     let n = note(list, records, count);
+    if n == count {
+        clear(list, records, n);
+        return Some(false);
+    }
     let f = first_at(list, records.view(), n);
     let v = records.get(Column::Note, f);
     clear(list, records, n);
-    if n == count {
-        return Some(false);
-    }
     if same_earlier(list, records.view(), v, n) {
         return Some(true);
     }

@@ -8,6 +8,7 @@ use Rattle.script_spec.specs.File.{TermFile, types}
 use Rattle.refusal.specs.Numbers.{option_of}
 use Rattle.index.specs.Cells.{cell, type_offset, type_first}
 use Rattle.index.specs.First.{canonical}
+use Rattle.index.specs.Names.{key_of}
 use Rattle.index.specs.Rules.{listed, type_named}
 use Rattle.index_compare.specs.Printed.{type_segments}
 use Rattle.check_rules.specs.Marks.{type_bytes}
@@ -17,11 +18,11 @@ use Rattle.check_types.specs.Sought.{Seeks}
 
 -- r is the hash of the type of the term at an offset
 pub record TypeHash (file : Bytes) (work : List ℕ) (rows o r : ℕ) : Type 0 where
-  pub go : (f : TermFile) (t : TypeMark) (parts : List ℕ) → Seeks file work rows o f t parts → r ≡ hashed (type_bytes t) (type_segments t (map (cell work rows type_first) parts))
+  pub go : (f : TermFile) (t : TypeMark) (parts : List ℕ) → Seeks file work rows o f t parts → r ≡ hashed (key_of work rows) (type_bytes t) (type_segments t (map (cell work rows type_first) parts))
 
 -- b is the home slot of that type
 pub record TypeHome (file : Bytes) (work : List ℕ) (rows o b : ℕ) : Type 0 where
-  pub go : (f : TermFile) (t : TypeMark) (parts : List ℕ) → Seeks file work rows o f t parts → 0 < rows → b ≡ home_of rows (canonical f (type t parts))
+  pub go : (f : TermFile) (t : TypeMark) (parts : List ℕ) → Seeks file work rows o f t parts → 0 < rows → b ≡ home_of (key_of work rows) rows (canonical f (type t parts))
 
 -- what is looked for, among `count` types, each of which is reached in the slots
 pub record LooksForType (file : Bytes) (work : List ℕ) (rows count o : ℕ) (f : TermFile) (t : TypeMark) (parts : List ℕ) : Type 0 where

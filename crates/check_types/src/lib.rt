@@ -104,28 +104,32 @@ impl Sought {
     }
 
     // Its hash.
-    fn hash(self, records: Records<'_>) -> u32
+    fn hash(self, records: Records<'_>) -> u64
         ensures { (o : ℕ) → Wanted records.entry.file.now records.entry.work.now records.entry.sizes.rows o self → TypeHash records.entry.file.now records.entry.work.now records.entry.sizes.rows o result }
     {
         index_search::octets(records.file);
+        let key = records.key();
         let letter = self.letter();
         match self {
-            Sought::Bool => hash::segment_hash(letter, Segment::Plain(&[])),
-            Sought::String => hash::segment_hash(letter, Segment::Plain(&[])),
+            Sought::Bool => hash::segment_hash(key, letter, Segment::Plain(&[])),
+            Sought::String => hash::segment_hash(key, letter, Segment::Plain(&[])),
             Sought::BitVec(width) => hash::segment_hash(
+                key,
                 letter,
                 Segment::Plain(&width.to_le_bytes()),
             ),
-            Sought::Extension(code) => hash::segment_hash(letter, Segment::Plain(&[code])),
+            Sought::Extension(code) => hash::segment_hash(key, letter, Segment::Plain(&[code])),
             Sought::Option(part) => hash::segment_hash(
+                key,
                 letter,
                 Segment::Reference(Referent::Type, part),
             ),
             Sought::Set(part) => hash::segment_hash(
+                key,
                 letter,
                 Segment::Reference(Referent::Type, part),
             ),
-            Sought::Record(offset) => hash::listed_hash(records, offset),
+            Sought::Record(offset) => hash::listed_hash(key, records, offset),
         }
     }
 

@@ -17,6 +17,8 @@ use Rattle.script_spec.specs.Base.{Bytes, place, place_from, collect}
 use Rattle.script_spec.specs.Tree.{Ty, Fun, Tm, eq_ty, eq_fun, eq_tm}
 use Rattle.script_spec.specs.File.{TermFile, Named, type, enum, func, term, input, types, funs, terms, inputs, enums, type_at, fun_at, term_at}
 use Rattle.script_spec.proofs.Laws.{collect_append, place_append, is_true}
+use Rattle.index.specs.Meaning.{SizesOf, together}
+use Rattle.index.specs.declared.Sizes.{Sizes}
 use Rattle.index.specs.First.{or_else, first, first_type, first_fun, first_term}
 use Rattle.index.proofs.Firsts.{Equality, equal_types, equal_funs, equal_terms, place_first}
 
@@ -186,6 +188,10 @@ counts_together (enum n ms ∷ f) = omega (arith, counts_together f)
 counts_together (func g ∷ f) = omega (arith, counts_together f)
 counts_together (term t ∷ f) = omega (arith, counts_together f)
 counts_together (input t ∷ f) = omega (arith, counts_together f)
+
+-- so the sizes tell how many
+pub together_are : {f : TermFile} {sizes : Sizes} → SizesOf f sizes → together sizes ≡ length f
+together_are {f} S = (rw (S.types_are, S.funs_are, S.terms_are, S.enums_are, S.inputs_are)) ∙ counts_together f
 
 -- and no more of each kind
 pub record Counted (f : TermFile) : Type 0 where

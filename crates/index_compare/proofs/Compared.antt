@@ -17,7 +17,8 @@ use Rattle.std.proofs.lemmas.List.{append_cancel_left}
 use Rattle.script_spec.specs.Base.{Bytes}
 use Rattle.index_compare.specs.Segment.{Segment, plain}
 use Rattle.index_compare.specs.Step.{kind_number, refer, told}
-use Rattle.index_compare.specs.View.{kind_of, reference_number, bytes_of, Decides}
+use Rattle.index_compare.specs.View.{kind_of, reference_number, bytes_of, viewed, Decides}
+use Rattle.index_compare.specs.declared.compare.View.TheVariants.{First}
 use Rattle.index_compare.specs.contracts.segments.Referent.{the_type}
 use Rattle.index_compare.specs.declared.segments.Referent.{Referent}
 use Rattle.index_compare.specs.declared.segments.Referent.TheVariants as referent
@@ -56,6 +57,12 @@ module _ {p q : Bytes} where
 
   same_plain : Decides (pointwise eqb p q) (plain p ≡ plain q)
   same_plain = let d = bytes_decides p q in record { true_of = λ e. d.1 (plain_bytes e); of_true = λ h. ap plain (d.0 h) }
+
+-- bytes alone, in a view
+pub same_bare : (work : List ℕ) (k : ℕ) {p q : Bytes} {x y : List Segment} {r : Bool} → r ≡ pointwise eqb p q → x ≡ plain p ∷ [] → y ≡ plain q ∷ []
+    → Decides r (map (viewed work k First) x ≡ map (viewed work k First) y)
+unfolding viewed
+same_bare work k e f g = rw (e, f, g) (decides_same same_plain (λ h. ap (λ (s : Segment). s ∷ []) h) head-eq_of_cons-eq)
 
 -- references by their kinds and their numbers
 refer_kind : (r : Referent) (n : ℕ) → kind_of (refer r n ∷ []) ≡ kind_number r

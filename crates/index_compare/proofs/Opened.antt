@@ -132,3 +132,7 @@ module _ (work : List ℕ) (k kind : ℕ) where
   pub greatest_applied : {t found : ℕ} (p q : Bytes) (l : List Segment) {m : List Segment} → found ≡ greatest (reference_numbers kind (map (viewed work k Depth) (type_ref t ∷ l)))
       → m ≡ type_ref t ∷ plain p ∷ plain q ∷ l → found ≡ greatest (reference_numbers kind (map (viewed work k Depth) m))
   greatest_applied p q l h e = greatest_listing p (plain q ∷ l) (greatest_listing q l h refl) e
+
+  pub greatest_bare : {p : Bytes} {l : List Segment} → l ≡ plain p ∷ [] → 0 ≡ greatest (reference_numbers kind (map (viewed work k Depth) l))
+  unfolding reference_numbers greatest
+  greatest_bare {p} e = rw e (sym (greatest_plain p []))

@@ -3,6 +3,7 @@
 use Prim.Native.Nat.{ℕ, zero, suc, ◌+◌, ◌-◌, ◌<◌}
 use native.Mathlib.Omega.{arith}
 use mathlib.Core.Path.{◌≡◌, refl, sym, ap, ◌∙◌}
+use mathlib.Core.Logic.{◌⊎◌, inl, inr}
 use mathlib.Core.Bool.{false, true≢false}
 use mathlib.Core.List.{List, [], ◌∷◌}
 use lib.Dec.{leb}
@@ -14,7 +15,7 @@ use Rattle.script_spec.specs.Base.{Bytes}
 use Rattle.script_spec.specs.Fields.{low}
 use Rattle.index.specs.Standing.{body_at}
 use Rattle.index_compare.specs.Segment.{Segment, plain, type_ref, term_ref}
-use Rattle.index_compare.specs.Machine.{operand_of, coded_then, operator_then, field_then, item_then, items, count_then, reference, text_then, counted_size, last, walk_start, start_term, start_list, remaining, segments}
+use Rattle.index_compare.specs.Machine.{operand_of, coded_then, operator_then, field_then, item_then, items, count_then, reference, text_then, counted_size, last, walk_start, start_type, start_term, start_list, remaining, segments}
 use Rattle.index_compare.specs.Step.{WordRead}
 use Rattle.index_compare.specs.declared.segments.Item.TheVariants.{Term}
 use Rattle.index_compare.specs.Shape.{terms_ahead}
@@ -68,6 +69,23 @@ module _ (body : Bytes) where
   pub sole_shown : {n : ℕ} → WordRead body (Some n) → remaining (walk_start 88 49) body ≡ term_ref n ∷ []
   unfolding remaining walk_start start_term field_then last items
   sole_shown h = reference_at body term_ref (λ s. []) h
+
+  -- bytes alone, of a type
+  pub bare_type : {b : ℕ} → (b ≡ 66) ⊎ ((b ≡ 69) ⊎ ((b ≡ 83) ⊎ ((b ≡ 86) ⊎ (b ≡ 88)))) → remaining (walk_start 84 b) body ≡ plain body ∷ []
+  unfolding remaining walk_start start_type field_then last items
+  bare_type (inl h) = rw h refl
+  bare_type (inr (inl h)) = rw h refl
+  bare_type (inr (inr (inl h))) = rw h refl
+  bare_type (inr (inr (inr (inl h)))) = rw h refl
+  bare_type (inr (inr (inr (inr h)))) = rw h refl
+
+  -- and of a term
+  pub bare_term : {b : ℕ} → (b ≡ 66) ⊎ ((b ≡ 78) ⊎ ((b ≡ 83) ⊎ (b ≡ 88))) → remaining (walk_start 88 b) body ≡ plain body ∷ []
+  unfolding remaining walk_start start_term start_list field_then last items
+  bare_term (inl h) = rw h refl
+  bare_term (inr (inl h)) = rw h refl
+  bare_term (inr (inr (inl h))) = rw h refl
+  bare_term (inr (inr (inr h))) = rw h refl
 
   pub applied_shown : {t n : ℕ} → operand_of (get_or body 4 0) ≡ None → WordRead body (Some t) → WordRead (drop 5 body) (Some n)
       → remaining (walk_start 88 65) body ≡ type_ref t ∷ plain (take 1 (drop 4 body)) ∷ plain (take 4 (drop 5 body)) ∷ items Term n (drop 9 body)

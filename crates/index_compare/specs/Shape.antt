@@ -1,6 +1,7 @@
 -- What is told of a record's segments with no walk.
 -- Assumes nothing.
 use Rattle.std.specs.Prelude.{ℕ, ◌≡◌, ◌⊎◌, true, false, List, [], ◌∷◌, Option, Some, None, leb, length, take}
+use denote.Ref.{Bor}
 use Rattle.script_spec.specs.Base.{Bytes}
 use Rattle.script_spec.specs.Fields.{low}
 use Rattle.index.specs.Cells.{cell}
@@ -13,7 +14,7 @@ use Rattle.index_compare.specs.declared.segments.Field.TheVariants as field
 use Rattle.index_compare.specs.declared.segments.Item.TheVariants.{Term}
 use Rattle.index_compare.specs.declared.shape.Terms.{Terms}
 use Rattle.index_compare.specs.declared.shape.Shape.{Shape}
-use Rattle.index_compare.specs.declared.shape.Shape.TheVariants.{Sole, Applied, Listing, Named}
+use Rattle.index_compare.specs.declared.shape.Shape.TheVariants.{Sole, Applied, Listing, Named, Bare}
 
 -- the references still to come
 unfoldable pub terms_ahead : Terms → List Segment
@@ -25,7 +26,13 @@ Shaped l (Some (Sole n)) = l ≡ term_ref n ∷ []
 Shaped l (Some (Applied t code count terms)) = l ≡ type_ref t ∷ plain code.now ∷ plain count.now ∷ terms_ahead terms
 Shaped l (Some (Listing t count terms)) = l ≡ type_ref t ∷ plain count.now ∷ terms_ahead terms
 Shaped l (Some (Named text t)) = l ≡ plain text.now ∷ type_ref t ∷ []
+Shaped l (Some (Bare body)) = l ≡ plain body.now ∷ []
 Shaped l None = Unit
+
+-- the segments l of a body that is bytes alone
+abbrev pub IsBare : List Segment → Option (Bor Bytes) → Type 0
+IsBare l (Some body) = l ≡ plain body.now ∷ []
+IsBare l None = Unit
 
 -- the column of the first type of a body for the reference that a walk from its start begins with
 abbrev pub Opens : Walk → Option Column → Type 0

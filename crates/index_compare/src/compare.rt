@@ -10,6 +10,7 @@ pub use crate::depth::greatest;
 pub use crate::opening::first_reference;
 use crate::record::body_at;
 use crate::segments::{Referent, Segment, Segments};
+use crate::shape::bare_at;
 use index::{Column, Records};
 
 // What stands for a reference: the number of the first equal record; the same, and for a term that of its type, as a reference to a
@@ -104,6 +105,11 @@ fn same_segments(records: Records<'_>, offset: u32, s: View, other: u32, t: View
 pub fn same_record(records: Records<'_>, offset: u32, other: u32) -> bool
     ensures { Decides result (SameSegments records.entry.file.now (viewed records.entry.work.now records.entry.sizes.rows View.First) offset (viewed records.entry.work.now records.entry.sizes.rows View.First) other) }
 {
+    if let Some(a) = bare_at(records.file, offset)
+        && let Some(b) = bare_at(records.file, other)
+    {
+        return a == b;
+    }
     same_segments(records, offset, View::First, other, View::First)
 }
 

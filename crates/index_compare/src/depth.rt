@@ -24,7 +24,8 @@ fn larger(found: Referent, number: u32, kind: Referent, most: u32) -> u32
     most
 }
 
-// The greatest depth ahead that the index has for references of a kind, 0 where there are none.
+// The greatest depth ahead that the index has for references of a kind, 0 where there are none. It is rare, and out of line it keeps `greatest` short.
+#[inline(never)]
 fn greatest_ahead(records: Records<'_>, rest: Segments<'_>, kind: Referent) -> u32
     ensures { result ≡ greatest (reference_numbers (kind_number kind) (map (viewed records.entry.work.now records.entry.sizes.rows View.Depth) (ahead rest.entry))) }
 {
@@ -73,6 +74,7 @@ pub fn greatest(records: Records<'_>, offset: u32, kind: Referent) -> u32
         Some(Shape::Applied(t, _, _, terms)) => greatest_listed(records, t, terms, kind),
         Some(Shape::Listing(t, _, terms)) => greatest_listed(records, t, terms, kind),
         Some(Shape::Named(_, t)) => type_depth(records, t, kind),
+        Some(Shape::Bare(_)) => 0,
         None => greatest_ahead(records, segments_at(records.file, offset), kind),
     }
 }

@@ -70,7 +70,8 @@ fn first_ahead(records: Records<'_>, rest: Segments<'_>) -> u32
     0
 }
 
-// The first type in a body, by the shape that the two bytes of its mark give it, or by a walk.
+// The first type in a body, by the shape that the two bytes of its mark give it, or by a walk. It is rare, and out of line it keeps `first_reference` short.
+#[inline(never)]
 fn first_shaped(records: Records<'_>, a: u8, b: u8, body: &[u8]) -> u32
     ensures { result ≡ get_or (reference_numbers 2 (map (viewed records.entry.work.now records.entry.sizes.rows View.Listed) (remaining (walk_start a b) body.now))) 0 0 }
 {
@@ -81,6 +82,7 @@ fn first_shaped(records: Records<'_>, a: u8, b: u8, body: &[u8]) -> u32
 }
 
 // The first type that a record refers to, or that a term has to which it refers, by the number of the first equal type; 0 where there is none.
+#[inline(always)]
 pub fn first_reference(records: Records<'_>, offset: u32) -> u32
     ensures { result ≡ get_or (reference_numbers 2 (map (viewed records.entry.work.now records.entry.sizes.rows View.Listed) (segments_at records.entry.file.now offset))) 0 0 }
 {

@@ -4,7 +4,7 @@ ghost use Rattle.std.specs.Iterator.{YieldsFirstBy, item_count};
 ghost use Rattle.index_compare.specs.Segment.{term_ref};
 ghost use Rattle.index_compare.specs.Machine.{remaining, walk_start};
 ghost use Rattle.index_compare.specs.View.{segments_at};
-ghost use Rattle.index_compare.specs.Shape.{Shaped, terms_ahead};
+ghost use Rattle.index_compare.specs.Shape.{Shaped, IsBare, terms_ahead};
 
 use crate::compare::byte_at;
 use crate::record::body_at;
@@ -37,14 +37,15 @@ impl Iterator for Terms<'_> {
 }
 
 // The segments of a record, where they are told with no walk: a reference to a term; a reference to a type, the code of an operator
-// that has no operand, a count, and so many references to terms; the same with no code; or a text with its count, and a reference to a
-// type.
+// that has no operand, a count, and so many references to terms; the same with no code; a text with its count, and a reference to a
+// type; or bytes alone.
 #[derive(Clone, Copy)]
 pub enum Shape<'a> {
     Sole(u32),
     Applied(u32, &'a [u8], &'a [u8], Terms<'a>),
     Listing(u32, &'a [u8], Terms<'a>),
     Named(&'a [u8], u32),
+    Bare(&'a [u8]),
 }
 
 // The shape of a body that is a reference to a term.
@@ -94,23 +95,46 @@ fn named<'a>(body: &'a [u8]) -> Option<Shape<'a>>
     Some(Shape::Named(&body[..size], t))
 }
 
-// The shape of a body by the two bytes of its mark.
-pub fn shape_by<'a>(a: u8, b: u8, body: &'a [u8]) -> Option<Shape<'a>>
-    ensures { Shaped (remaining (walk_start a b) body.now) result }
+// The shape of the body of a type.
+#[inline(always)]
+fn type_shape<'a>(b: u8, body: &'a [u8]) -> Option<Shape<'a>>
+    ensures { Shaped (remaining (walk_start 84 b) body.now) result }
 {
-    if a != b'X' {
-        return None;
+    match b {
+        b'B' | b'S' | b'V' | b'E' | b'X' => Some(Shape::Bare(body)),
+        _ => None,
     }
+}
+
+// Of that of a term.
+#[inline(always)]
+fn term_shape<'a>(b: u8, body: &'a [u8]) -> Option<Shape<'a>>
+    ensures { Shaped (remaining (walk_start 88 b) body.now) result }
+{
     match b {
         b'1' => sole(body),
         b'A' => applied(body),
         b'V' => named(body),
         b'C' => listing(body),
+        b'B' | b'N' | b'S' | b'X' => Some(Shape::Bare(body)),
+        _ => None,
+    }
+}
+
+// The shape of a body by the two bytes of its mark. As a part of its callers a shape is never stored.
+#[inline(always)]
+pub fn shape_by<'a>(a: u8, b: u8, body: &'a [u8]) -> Option<Shape<'a>>
+    ensures { Shaped (remaining (walk_start a b) body.now) result }
+{
+    match a {
+        b'T' => type_shape(b, body),
+        b'X' => term_shape(b, body),
         _ => None,
     }
 }
 
 // The shape of the record at an offset.
+#[inline(always)]
 pub fn shape_at<'a>(file: &'a [u8], offset: u32) -> Option<Shape<'a>>
     ensures { Shaped (segments_at file.now offset) result }
 {
@@ -120,4 +144,14 @@ pub fn shape_at<'a>(file: &'a [u8], offset: u32) -> Option<Shape<'a>>
         byte_at(file, at + 1),
         body_at(file, offset),
     )
+}
+
+// The body of the record at an offset, where it is told to be bytes alone.
+pub fn bare_at<'a>(file: &'a [u8], offset: u32) -> Option<&'a [u8]>
+    ensures { IsBare (segments_at file.now offset) result }
+{
+    match shape_at(file, offset) {
+        Some(Shape::Bare(body)) => Some(body),
+        _ => None,
+    }
 }

@@ -6,25 +6,23 @@ use native.Mathlib.Nat.{not-suc-le-zero}
 use native.Mathlib.Omega.{arith}
 use mathlib.Core.Bool.{true≢false, false}
 use mathlib.Core.List.{List, [], ◌∷◌, ◌++◌}
-use mathlib.Core.Option.{some}
 use lib.Dec.{eqb}
 use lib.ListN.{length, length-append}
 use borrow.Author.Tests.{eq-eqb}
 use Rattle.script_spec.specs.Base.{Bytes, collect}
 use Rattle.script_spec.specs.Tree.{Ty, Fun, Tm, type_of, depth}
-use Rattle.script_spec.specs.Fields as fields
 use Rattle.script_spec.specs.File.{TermFile, Named, type, enum, func, term, input, types, funs, terms, inputs, enums, type_at, term_at, earlier}
-use Rattle.index.specs.Cells.{placed, cell, store, type_offset, type_first, type_depth, fun_offset, fun_first, term_offset, term_first, term_type, term_depth, enum_offset, hash, term_place, type_place, fun_place, enum_place, input_place, input_offset, input_term, enum_list, type_list, note, fun_name}
+use Rattle.index.specs.Cells.{placed, cell, store, type_offset, type_first, type_depth, fun_offset, fun_first, term_offset, term_first, term_type, term_depth, enum_offset, hash, term_place, input_term, enum_list, type_list, note, fun_name}
 use Rattle.index.specs.First.{canonical, first_type}
 use Rattle.index.specs.Standing.{entry_at}
 use Rattle.index.specs.Meaning.{Stands, IndexedWithDepths}
 use Rattle.index.proofs.Cells.{shared, cell_store_apart}
 use Rattle.index.proofs.Growth.{counts_fewer, lists_type, lists_func, lists_term, lists_enum, lists_input}
 use Rattle.index.proofs.Later.{canonical_kept}
-use Rattle.index.proofs.Stores.{untouched_then, type_stored, fun_stored, term_stored, enum_stored, input_stored}
+use Rattle.index.proofs.Stores.{key_kept, untouched_then, type_stored, fun_stored, term_stored, enum_stored, input_stored}
 use Rattle.index.proofs.Entered as rows
 use Rattle.index.proofs.Names.{Stays, reached_kept, name_last, names_added}
-use Rattle.index.specs.Names.{name_home, Reached, enum_name}
+use Rattle.index.specs.Names.{key_of, name_home, Reached, enum_name}
 use Rattle.index.specs.Empties.{empties}
 use Rattle.index.proofs.Empties.{empties_all, empties_same}
 use Rattle.index_search.specs.Slots.{home_of, entries}
@@ -83,47 +81,47 @@ module _ {file : Bytes} {f : TermFile} {work : List ℕ} {k : ℕ} (I : Indexed 
 
   pub indexed_type : {work₀ : List ℕ} {o m d : ℕ} {t : Ty} → Enrols file work work₀ k type_offset type_first 0 (length (types f)) o m → Stands file f (earlier f) o (type t) → d ≡ depth t → d ≤ 256
       → Indexed file (f ++ (type t ∷ []))
-      (store (store (store (store (store work₀ k type_offset (length (types f)) o) k type_first (length (types f)) m) k type_depth (length (types f)) d) k type_place (length (types f)) (length f)) k type_list (length (types f)) 0) k
+      (store (store (store (store work₀ k type_offset (length (types f)) o) k type_first (length (types f)) m) k type_depth (length (types f)) d) k type_list (length (types f)) 0) k
   unfolding shared placed
   indexed_type {work₀} {o} {m} {d} {t} E s deep shallow =
       let n = length (types f) in
-      let work' = store (store (store (store (store work₀ k type_offset n o) k type_first n m) k type_depth n d) k type_place n (length f)) k type_list n 0 in
+      let work' = store (store (store (store work₀ k type_offset n o) k type_first n m) k type_depth n d) k type_list n 0 in
       let A = E.go f s.entry (entries file work k type_offset) (type_looks I.index I.searchable.type_slots s) (omega (arith, few, (counts_fewer f).types_fewer)) empty_left in
       let C = enrolled_untouched A f in
       let fits = I.index.fits in
-      let S = type_stored f k work₀ (rw C.same_size fits) room o m d (length f) in
+      let S = type_stored f k work₀ (rw C.same_size fits) room o m d in
       let U = untouched_then C S.untouched in
       let same : (i : ℕ) → cell work' k hash i ≡ cell work₀ k hash i
-      = λ i. slots_beside _ k type_list n 0 refl refl i ∙ slots_beside _ k type_place n (length f) refl refl i ∙ slots_beside _ k type_depth n d refl refl i ∙ slots_beside _ k type_first n m refl refl i
+      = λ i. slots_beside _ k type_list n 0 refl refl i ∙ slots_beside _ k type_depth n d refl refl i ∙ slots_beside _ k type_first n m refl refl i
       ∙ slots_beside _ k type_offset n o refl refl i in
-      let J = rows.indexed_type without room (record { untouched = U; unlisted = λ B. S.unlisted (enrolled_unlisted A B); offset_is = S.offset_is; first_is = S.first_is; depth_is = S.depth_is; place_is = S.place_is }) (enrolled_stays A fits work' same) s (type_found I.index s (enrolled_found A)) deep shallow in
+      let J = rows.indexed_type without room (record { untouched = U; unlisted = λ B. S.unlisted (enrolled_unlisted A B); offset_is = S.offset_is; first_is = S.first_is; depth_is = S.depth_is }) (enrolled_stays A fits work' same) s (type_found I.index s (enrolled_found A)) deep shallow in
       let L = lists_type f t in
       record {
         index = J.index;
         depths = J.depths;
         searchable =
             slots_grown file f (type t) k work work' I.index U I.searchable (enrolled_stays A fits work' same) (enrolled_fewer A fits work' same)
-            (λ l. subst (λ (count : ℕ). Reached (home_of k) k (cell work' k hash) 0 count (λ m. canonical (f ++ (type t ∷ [])) (entries file work' k type_offset m)) n) (one_more (types f) t L.types_are)
-            (enrolled_reached A fits work' same _ (types_kept file f (type t) k work work' I.index U) (entry_added file f (type t) k work' type_offset n S.offset_is s) I.searchable.type_slots))
+            (λ l. subst (λ (count : ℕ). Reached (home_of (key_of work' k) k) k (cell work' k hash) 0 count (λ m. canonical (f ++ (type t ∷ [])) (entries file work' k type_offset m)) n) (one_more (types f) t L.types_are)
+            (enrolled_reached A fits work' same (key_kept U) _ (types_kept file f (type t) k work work' I.index U) (entry_added file f (type t) k work' type_offset n S.offset_is s) I.searchable.type_slots))
             (λ l. absurd (omega (arith, ap length L.funs_are)))
             (λ l. absurd (omega (arith, ap length L.terms_are)));
       }
 
   pub indexed_func : {work₀ : List ℕ} {o m : ℕ} {g : Fun} → Enrols file work work₀ k fun_offset fun_first 1 (length (funs f)) o m → Stands file f (earlier f) o (func g)
       → Indexed file (f ++ (func g ∷ []))
-      (store (store (store (store work₀ k fun_offset (length (funs f)) o) k fun_first (length (funs f)) m) k fun_place (length (funs f)) (length f)) k fun_name (length (funs f)) 0) k
+      (store (store (store work₀ k fun_offset (length (funs f)) o) k fun_first (length (funs f)) m) k fun_name (length (funs f)) 0) k
   unfolding shared placed
   indexed_func {work₀} {o} {m} {g} E s =
       let n = length (funs f) in
-      let work' = store (store (store (store work₀ k fun_offset n o) k fun_first n m) k fun_place n (length f)) k fun_name n 0 in
+      let work' = store (store (store work₀ k fun_offset n o) k fun_first n m) k fun_name n 0 in
       let A = E.go f s.entry (entries file work k fun_offset) (fun_looks I.index I.searchable.fun_slots s) (omega (arith, few, (counts_fewer f).funs_fewer)) empty_left in
       let C = enrolled_untouched A f in
       let fits = I.index.fits in
-      let S = fun_stored f k work₀ (rw C.same_size fits) room o m (length f) in
+      let S = fun_stored f k work₀ (rw C.same_size fits) room o m in
       let U = untouched_then C S.untouched in
       let same : (i : ℕ) → cell work' k hash i ≡ cell work₀ k hash i
-      = λ i. slots_beside _ k fun_name n 0 refl refl i ∙ slots_beside _ k fun_place n (length f) refl refl i ∙ slots_beside _ k fun_first n m refl refl i ∙ slots_beside _ k fun_offset n o refl refl i in
-      let J = rows.indexed_func without room (record { untouched = U; unlisted = λ B. S.unlisted (enrolled_unlisted A B); offset_is = S.offset_is; first_is = S.first_is; place_is = S.place_is; name_is = S.name_is }) (enrolled_stays A fits work' same) s (fun_found I.index s (enrolled_found A)) in
+      = λ i. slots_beside _ k fun_name n 0 refl refl i ∙ slots_beside _ k fun_first n m refl refl i ∙ slots_beside _ k fun_offset n o refl refl i in
+      let J = rows.indexed_func without room (record { untouched = U; unlisted = λ B. S.unlisted (enrolled_unlisted A B); offset_is = S.offset_is; first_is = S.first_is; name_is = S.name_is }) (enrolled_stays A fits work' same) s (fun_found I.index s (enrolled_found A)) in
       let L = lists_func f g in
       record {
         index = J.index;
@@ -131,8 +129,8 @@ module _ {file : Bytes} {f : TermFile} {work : List ℕ} {k : ℕ} (I : Indexed 
         searchable =
             slots_grown file f (func g) k work work' I.index U I.searchable (enrolled_stays A fits work' same) (enrolled_fewer A fits work' same)
             (λ l. absurd (omega (arith, ap length L.types_are)))
-            (λ l. subst (λ (count : ℕ). Reached (home_of k) k (cell work' k hash) 1 count (λ m. canonical (f ++ (func g ∷ [])) (entries file work' k fun_offset m)) n) (one_more (funs f) g L.funs_are)
-            (enrolled_reached A fits work' same _ (funs_kept file f (func g) k work work' I.index U) (entry_added file f (func g) k work' fun_offset n S.offset_is s) I.searchable.fun_slots))
+            (λ l. subst (λ (count : ℕ). Reached (home_of (key_of work' k) k) k (cell work' k hash) 1 count (λ m. canonical (f ++ (func g ∷ [])) (entries file work' k fun_offset m)) n) (one_more (funs f) g L.funs_are)
+            (enrolled_reached A fits work' same (key_kept U) _ (funs_kept file f (func g) k work work' I.index U) (entry_added file f (func g) k work' fun_offset n S.offset_is s) I.searchable.fun_slots))
             (λ l. absurd (omega (arith, ap length L.terms_are)));
       }
 
@@ -161,31 +159,31 @@ module _ {file : Bytes} {f : TermFile} {work : List ℕ} {k : ℕ} (I : Indexed 
             slots_grown file f (term t) k work work' I.index U I.searchable (enrolled_stays A fits work' same) (enrolled_fewer A fits work' same)
             (λ l. absurd (omega (arith, ap length L.types_are)))
             (λ l. absurd (omega (arith, ap length L.funs_are)))
-            (λ l. subst (λ (count : ℕ). Reached (home_of k) k (cell work' k hash) 2 count (λ m. canonical (f ++ (term t ∷ [])) (entries file work' k term_offset m)) n) (one_more (terms f) t L.terms_are)
-            (enrolled_reached A fits work' same _ (terms_kept file f (term t) k work work' I.index U) (entry_added file f (term t) k work' term_offset n S.offset_is s) I.searchable.term_slots));
+            (λ l. subst (λ (count : ℕ). Reached (home_of (key_of work' k) k) k (cell work' k hash) 2 count (λ m. canonical (f ++ (term t ∷ [])) (entries file work' k term_offset m)) n) (one_more (terms f) t L.terms_are)
+            (enrolled_reached A fits work' same (key_kept U) _ (terms_kept file f (term t) k work work' I.index U) (entry_added file f (term t) k work' term_offset n S.offset_is s) I.searchable.term_slots));
       }
 
   pub indexed_enum : {work₀ : List ℕ} {o : ℕ} {name : Bytes} {members : List Bytes} → NewName work work₀ k f (length (enums f)) name → Stands file f (earlier f) o (enum name members)
-      → Indexed file (f ++ (enum name members ∷ [])) (store (store (store work₀ k enum_offset (length (enums f)) o) k enum_place (length (enums f)) (length f)) k enum_list (length (enums f)) 0) k
+      → Indexed file (f ++ (enum name members ∷ [])) (store (store work₀ k enum_offset (length (enums f)) o) k enum_list (length (enums f)) 0) k
   unfolding shared placed
   indexed_enum {work₀} {o} {name} {members} N s =
       let n = length (enums f) in
       let T = N.stored in
-      let work' = store (store (store work₀ k enum_offset n o) k enum_place n (length f)) k enum_list n 0 in
+      let work' = store (store work₀ k enum_offset n o) k enum_list n 0 in
       let C = stored_untouched T f in
       let fits = I.index.fits in
-      let S = enum_stored f k work₀ (rw C.same_size fits) room o (length f) in
+      let S = enum_stored f k work₀ (rw C.same_size fits) room o in
       let U = untouched_then C S.untouched in
       let same : (i : ℕ) → cell work' k hash i ≡ cell work₀ k hash i
-      = λ i. slots_beside _ k enum_list n 0 refl refl i ∙ slots_beside _ k enum_place n (length f) refl refl i ∙ slots_beside work₀ k enum_offset n o refl refl i in
+      = λ i. slots_beside _ k enum_list n 0 refl refl i ∙ slots_beside work₀ k enum_offset n o refl refl i in
       let stays : Stays (cell work k hash) (cell work' k hash) = record { same = λ i g. same i ∙ (stored_stays fits T).same i g } in
       let L = lists_enum f name members in
-      let new : Reached (name_home k) k (cell work' k hash) 3 (suc n) (enum_name (f ++ (enum name members ∷ []))) n
-      = reached_kept (record { same = λ i g. same i }) (λ m l. refl) (omega arith) n (omega arith) (reached_new fits T refl (ap (name_home k) (sym (name_last f (f ++ (enum name members ∷ [])) name members L.enums_are)))) in
+      let new : Reached (name_home (key_of work' k) k) k (cell work' k hash) 3 (suc n) (enum_name (f ++ (enum name members ∷ []))) n
+      = rw (key_kept U) (reached_kept (record { same = λ i g. same i }) (λ m l. refl) (omega arith) n (omega arith) (reached_new fits T refl (ap (name_home (key_of work k) k) (sym (name_last f (f ++ (enum name members ∷ [])) name members L.enums_are))))) in
       let M =
-      names_added f (f ++ (enum name members ∷ [])) name members L.enums_are stays I.index.names
-      (subst (λ (count : ℕ). Reached (name_home k) k (cell work' k hash) 3 count (enum_name (f ++ (enum name members ∷ []))) n) (one_more (enums f) (name, members) L.enums_are) new) N.miss.none in
-      let J = rows.indexed_enum without room (record { untouched = U; unlisted = λ B. S.unlisted (stored_unlisted T B); offset_is = S.offset_is; place_is = S.place_is }) M s in
+      names_added f (f ++ (enum name members ∷ [])) name members L.enums_are stays (key_kept U) I.index.names
+      (subst (λ (count : ℕ). Reached (name_home (key_of work' k) k) k (cell work' k hash) 3 count (enum_name (f ++ (enum name members ∷ []))) n) (one_more (enums f) (name, members) L.enums_are) new) N.miss.none in
+      let J = rows.indexed_enum without room (record { untouched = U; unlisted = λ B. S.unlisted (stored_unlisted T B); offset_is = S.offset_is }) M s in
       record {
         index = J.index;
         depths = J.depths;
@@ -197,18 +195,17 @@ module _ {file : Bytes} {f : TermFile} {work : List ℕ} {k : ℕ} (I : Indexed 
             (λ l. absurd (omega (arith, ap length L.terms_are)));
       }
 
-  pub indexed_input : (o : ℕ) {n : ℕ} → entry_at file o ≡ some (fields.input n) → n < length (terms f)
-      → Indexed file (f ++ (input (term_at f n) ∷ [])) (store (store (store work k input_offset (length (inputs f)) o) k input_term (length (inputs f)) n) k input_place (length (inputs f)) (length f)) k
+  pub indexed_input : {n : ℕ} → n < length (terms f) → Indexed file (f ++ (input (term_at f n) ∷ [])) (store work k input_term (length (inputs f)) n) k
   unfolding shared placed
-  indexed_input o {n} reads below =
+  indexed_input {n} below =
       let t = term_at f n in
       let i = length (inputs f) in
-      let work' = store (store (store work k input_offset i o) k input_term i n) k input_place i (length f) in
-      let S = input_stored f k work I.index.fits room o n (length f) in
+      let work' = store work k input_term i n in
+      let S = input_stored f k work I.index.fits room n in
       let same : (i : ℕ) → cell work' k hash i ≡ cell work k hash i
-      = λ j. slots_beside _ k input_place i (length f) refl refl j ∙ slots_beside _ k input_term i n refl refl j ∙ slots_beside work k input_offset i o refl refl j in
+      = λ j. slots_beside work k input_term i n refl refl j in
       let stays : Stays (cell work k hash) (cell work' k hash) = record { same = λ i g. same i } in
-      let J = rows.indexed_input without room S stays reads below in
+      let J = rows.indexed_input without room S stays below in
       let L = lists_input f t in
       record {
         index = J.index;

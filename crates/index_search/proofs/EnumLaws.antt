@@ -1,6 +1,6 @@
 -- The search of a name: the enum that has it is the first of that name, and its members are those of the name.
 -- Assumes nothing.
-use mathlib.Core.Path.{◌≡◌, refl, sym, ap, ◌∙◌}
+use mathlib.Core.Path.{◌≡◌, refl, sym, ◌∙◌}
 use Prim.Native.Nat.{ℕ, zero, suc, ◌<◌}
 use native.Mathlib.Nat.{not-suc-le-zero, le_of_suc-le-suc}
 use borrow.Author.Tests.{ltb-true, ltb-false, lt-ltb, le-ltb}
@@ -19,7 +19,7 @@ use Rattle.index.specs.First.{or_else}
 use Rattle.index.specs.Names.{enum_name, enum_number}
 use Rattle.index.specs.Meaning.{Rows, SizesOf}
 use Rattle.index.specs.declared.Sizes.{Sizes}
-use Rattle.index_search.specs.Named.{HitNamed, MissNamed}
+use Rattle.index_search.specs.Named.{EnumRows, HitNamed, MissNamed}
 use Rattle.index_search.proofs.Lookup.{equal_texts, other_texts}
 use Rattle.index_search.specs.Enums.{enum_at, members_at, FindsEnum}
 
@@ -67,6 +67,10 @@ lookup_place s (x ∷ xs) = go (same s x.0) refl (place (same s) (firsts xs)) re
 
 -- ---- the enums
 
+-- the rows of all records have those of the enums
+pub enum_rows : {file : Bytes} {f : TermFile} {work : List ℕ} {k : ℕ} → Rows file f work k → EnumRows file f work k
+enum_rows I = record { row = I.enum_row; names = I.names }
+
 -- the members of a name are those of its enum
 pub number_members : (f : TermFile) (name : Bytes) → members f name ≡ members_at f (enum_number f name)
 unfolding members members_at enum_at enum_number or_else chosen
@@ -79,18 +83,13 @@ found_number rust.None d e = rw (← e)
 found_number (rust.Some n) d e = rw (← e)
 
 -- it is that of the enum with the name
-pub finds_number : {file : Bytes} {work : List ℕ} {sizes : Sizes} {name : Bytes} {r : rust.Option ℕ} → FindsEnum file work sizes name r → (f : TermFile) → Rows file f work sizes.rows → SizesOf f sizes → unwrap_or r sizes.enums ≡ enum_number f name
+pub finds_number : {file : Bytes} {work : List ℕ} {sizes : Sizes} {name : Bytes} {r : rust.Option ℕ} → FindsEnum file work sizes name r → (f : TermFile) → EnumRows file f work sizes.rows → SizesOf f sizes → unwrap_or r sizes.enums ≡ enum_number f name
 unfolding enum_number
 finds_number {r = r} F f I c = rw c.enums_are (found_number r (length (enums f)) (F.go f I c))
 
--- and its members are those of the name
-pub finds_members : {file : Bytes} {work : List ℕ} {sizes : Sizes} {name : Bytes} {r : rust.Option ℕ} → FindsEnum file work sizes name r → (f : TermFile) → Rows file f work sizes.rows → SizesOf f sizes
-    → members f name ≡ members_at f (unwrap_or r sizes.enums)
-finds_members {name = name} F f I c = number_members f name ∙ ap (members_at f) (sym (finds_number F f I c))
-
 -- ---- an enum that has the name, and none
 
-module _ {file : Bytes} {work : List ℕ} {sizes : Sizes} {f : TermFile} {name : Bytes} (I : Rows file f work sizes.rows) (c : SizesOf f sizes) where
+module _ {file : Bytes} {work : List ℕ} {sizes : Sizes} {f : TermFile} {name : Bytes} (I : EnumRows file f work sizes.rows) (c : SizesOf f sizes) where
   pub hit_place : {r : ℕ} → HitNamed f sizes.enums name r → some r ≡ place (same name) (firsts (enums f))
   unfolding enum_name
   hit_place {r} h =

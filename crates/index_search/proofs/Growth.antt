@@ -17,8 +17,8 @@ use Rattle.index.specs.Meaning.{Rows}
 use Rattle.index.proofs.Rows.{all_rows}
 use Rattle.index.proofs.Growth.{types_grown, funs_grown, terms_grown}
 use Rattle.index.proofs.Later.{more_append, canonical_kept}
-use Rattle.index.proofs.Stores.{used_entries, Untouched, untouched_refl, untouched_slot, blank_slot}
-use Rattle.index.specs.Names.{slot, Reached}
+use Rattle.index.proofs.Stores.{used_entries, key_kept, Untouched, untouched_refl, untouched_slot, blank_slot}
+use Rattle.index.specs.Names.{slot, key_of, Reached}
 use Rattle.index.proofs.Names.{Stays, reached_kept}
 use Rattle.index.specs.Empties.{empties}
 use Rattle.index.proofs.Empties.{empties_same}
@@ -63,15 +63,16 @@ module _ {work work₀ : List ℕ} {k firsts kind count r : ℕ} {f : TermFile} 
       enrolled_fewer = omega (arith, slots_fewer, empties_same (cell work₀ k hash) (cell work' k hash) k (λ i l. same i))
 
       -- the new record
-      pub enrolled_reached : (ε' : ℕ → Entry) → ((n : ℕ) → n < count → ε' n ≡ canonical f (ε n)) → ε' count ≡ canonical f x
-          → ((n : ℕ) → n < count → Reached (home_of k) k (cell work k hash) kind count (λ m. canonical f (ε m)) n) → Reached (home_of k) k (cell work' k hash) kind (suc count) ε' count
-      enrolled_reached ε' agree last all =
-          ⊎_elim
+      pub enrolled_reached : key_of work' k ≡ key_of work k → (ε' : ℕ → Entry) → ((n : ℕ) → n < count → ε' n ≡ canonical f (ε n)) → ε' count ≡ canonical f x
+          → ((n : ℕ) → n < count → Reached (home_of (key_of work k) k) k (cell work k hash) kind count (λ m. canonical f (ε m)) n) → Reached (home_of (key_of work' k) k) k (cell work' k hash) kind (suc count) ε' count
+      enrolled_reached keyed ε' agree last all =
+          rw keyed
+          (⊎_elim
           (λ K. let h = K.hit in
           reached_equal (agree h.number h.below ∙ h.equal ∙ sym last)
           (reached_kept enrolled_stays agree (omega arith) h.number h.below (all h.number h.below)))
-          (λ N. reached_kept (record { same = λ i g. same i }) (λ n l. refl) (omega arith) count (omega arith) (reached_new fits N.stored refl (ap (home_of k) (sym last))))
-          E.told
+          (λ N. reached_kept (record { same = λ i g. same i }) (λ n l. refl) (omega arith) count (omega arith) (reached_new fits N.stored refl (ap (home_of (key_of work k) k) (sym last))))
+          E.told)
 
 -- ---- all slots
 
@@ -98,7 +99,7 @@ module _ (file : Bytes) (f : TermFile) (r : Named) (k : ℕ) (work work' : List 
 
     -- a number of the longer file is reached
     abbrev ReachedIn : ℕ → ℕ → ℕ → ℕ → Type 0
-    ReachedIn offsets kind count n = Reached (home_of k) k (cell work' k hash) kind count (λ m. canonical (f ++ (r ∷ [])) (entries file work' k offsets m)) n
+    ReachedIn offsets kind count n = Reached (home_of (key_of work' k) k) k (cell work' k hash) kind count (λ m. canonical (f ++ (r ∷ [])) (entries file work' k offsets m)) n
 
     pub slots_grown : Slots file f work k → Stays (cell work k hash) (cell work' k hash) → empties (cell work k hash) k ≤ suc (empties (cell work' k hash) k)
         → (length (types f) < length (types (f ++ (r ∷ []))) → ReachedIn type_offset 0 (length (types (f ++ (r ∷ [])))) (length (types f)))
@@ -112,12 +113,12 @@ module _ (file : Bytes) (f : TermFile) (r : Named) (k : ℕ) (work work' : List 
           small = S.small;
           type_slots =
               all_rows (types f) (types (f ++ (r ∷ []))) (ReachedIn type_offset 0 (length (types (f ++ (r ∷ []))))) (types_grown f r)
-              (λ n l. reached_kept stays types_kept more.types_more n l (S.type_slots n l)) new-type;
+              (λ n l. rw (key_kept U) (reached_kept stays types_kept more.types_more n l (S.type_slots n l))) new-type;
           fun_slots =
               all_rows (funs f) (funs (f ++ (r ∷ []))) (ReachedIn fun_offset 1 (length (funs (f ++ (r ∷ []))))) (funs_grown f r)
-              (λ n l. reached_kept stays funs_kept more.funs_more n l (S.fun_slots n l)) new-fun;
+              (λ n l. rw (key_kept U) (reached_kept stays funs_kept more.funs_more n l (S.fun_slots n l))) new-fun;
           term_slots =
               all_rows (terms f) (terms (f ++ (r ∷ []))) (ReachedIn term_offset 2 (length (terms (f ++ (r ∷ []))))) (terms_grown f r)
-              (λ n l. reached_kept stays terms_kept more.terms_more n l (S.term_slots n l)) new_term;
+              (λ n l. rw (key_kept U) (reached_kept stays terms_kept more.terms_more n l (S.term_slots n l))) new_term;
           taken = rw length-append (omega (arith, S.taken, fewer));
         }

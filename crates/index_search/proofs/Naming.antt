@@ -11,8 +11,8 @@ use Rattle.std.specs.Prelude.{Result, Ok, Err, Option, Some, None}
 use Rattle.script_spec.specs.Base.{Bytes}
 use Rattle.script_spec.specs.File.{TermFile, enums}
 use Rattle.index.specs.Cells.{cell, enum_offset, hash}
-use Rattle.index.specs.Names.{name_home, enum_name}
-use Rattle.index.specs.Meaning.{Rows, SizesOf}
+use Rattle.index.specs.Names.{key_of, name_home, enum_name}
+use Rattle.index.specs.Meaning.{SizesOf}
 use Rattle.index.specs.declared.Sizes.{Sizes}
 use Rattle.index.specs.declared.Records.{Records}
 use Rattle.index.specs.declared.RecordsMut.{RecordsMut}
@@ -21,10 +21,10 @@ use Rattle.index_compare.specs.View.{Decides}
 use Rattle.check_rules.specs.Enums.{NameAt}
 use Rattle.index_search.specs.Storing.{NameHome}
 use Rattle.index_search.specs.Probed.{Viewed, Met, Unmet, Probes, TakesSlot}
-use Rattle.index_search.specs.Named.{IsNamed, HitNamed, MissNamed, EnrolsNamed}
+use Rattle.index_search.specs.Named.{EnumRows, IsNamed, HitNamed, MissNamed, EnrolsNamed}
 use Rattle.index_search.specs.Enums.{FindsEnum}
 use Rattle.index_search.proofs.Probing.{met_equal, unmet_none, taken_stored}
-use Rattle.index_search.proofs.EnumLaws.{hit_place, miss_place}
+use Rattle.index_search.proofs.EnumLaws.{enum_rows, hit_place, miss_place}
 
 -- ---- one enum
 
@@ -34,7 +34,7 @@ unfolding enum_name
 named_at {n = n} {s = s} row N test =
     record {
       go = λ f I l.
-          let q : s ≡ enum_name f n = N.go (get_or (enums f) n ([], [])).0 (get_or (enums f) n ([], [])).1 (rw row (I.enum_row n l).stands) in
+          let q : s ≡ enum_name f n = N.go (get_or (enums f) n ([], [])).0 (get_or (enums f) n ([], [])).1 (rw row (I.row n l).stands) in
           record { true_of = λ e. test.1 (q ∙ e); of_true = λ t. sym q ∙ test.0 t };
     }
 
@@ -48,7 +48,7 @@ named_viewed V T = rw (V.file_is, V.work_is, V.sizes_are) at T
 
 -- ---- the search
 
-module _ (file : Bytes) (work : List ℕ) (sizes : Sizes) {name : Bytes} {b : ℕ} (H : NameHome sizes.rows name b) (f : TermFile) (I : Rows file f work sizes.rows) (c : SizesOf f sizes) where
+module _ (file : Bytes) (work : List ℕ) (sizes : Sizes) {name : Bytes} {b : ℕ} (H : NameHome (key_of work sizes.rows) sizes.rows name b) (f : TermFile) (I : EnumRows file f work sizes.rows) (c : SizesOf f sizes) where
   abbrev test : ℕ → Bool → Type 0
   test = HasName file work sizes.rows name
 
@@ -59,22 +59,22 @@ module _ (file : Bytes) (work : List ℕ) (sizes : Sizes) {name : Bytes} {b : �
   named_hit M = record { below = M.below; equal = met_equal (enum_name f) name decides M }
 
   named_miss : {d : ℕ} → Unmet sizes.rows (cell work sizes.rows hash) 3 sizes.enums test b d → MissNamed f sizes.enums name
-  named_miss U = record { none = λ n l q. unmet_none (enum_name f) name decides U {home = name_home sizes.rows} H.is n q (rw c.enums_are (I.names.reached n (omega (arith, c.enums_are)))) }
+  named_miss U = record { none = λ n l q. unmet_none (enum_name f) name decides U {home = name_home (key_of work sizes.rows) sizes.rows} H.is n q (rw c.enums_are (I.names.reached n (omega (arith, c.enums_are)))) }
 
-pub name_found : (file : Bytes) {work : List ℕ} (sizes : Sizes) {name : Bytes} {b : ℕ} {o : Option ℕ} → NameHome sizes.rows name b → (r : Result ℕ ℕ) → Probes work sizes.rows 3 sizes.enums (HasName file work sizes.rows name) b r → o ≡ result_ok r
+pub name_found : (file : Bytes) {work : List ℕ} (sizes : Sizes) {name : Bytes} {b : ℕ} {o : Option ℕ} → NameHome (key_of work sizes.rows) sizes.rows name b → (r : Result ℕ ℕ) → Probes work sizes.rows 3 sizes.enums (HasName file work sizes.rows name) b r → o ≡ result_ok r
     → FindsEnum file work sizes name o
 name_found file {work} sizes H (Ok n) P e = record { go = λ f I c. rw e (hit_place I c (named_hit file work sizes H f I c P.told)) }
 name_found file {work} sizes H (Err d) P e = record { go = λ f I c. rw e (miss_place I c (named_miss file work sizes H f I c P.told)) }
 
-pub name_enrolled : (v : RecordsMut) {w : RecordsMut} {name : Bytes} {b : ℕ} → NameHome v.sizes.rows name b → (r : Option ℕ) → TakesSlot v w 3 v.sizes.enums (HasName v.file.now v.work.now v.sizes.rows name) b r → EnrolsNamed v w name r
-name_enrolled v H (Some n) E = record { stays = E.stays; go = λ f I c room. record { hit = named_hit v.file.now v.work.now v.sizes H f I.index c E.told.0; unchanged = E.told.1 } }
+pub name_enrolled : (v : RecordsMut) {w : RecordsMut} {name : Bytes} {b : ℕ} → NameHome (key_of v.work.now v.sizes.rows) v.sizes.rows name b → (r : Option ℕ) → TakesSlot v w 3 v.sizes.enums (HasName v.file.now v.work.now v.sizes.rows name) b r → EnrolsNamed v w name r
+name_enrolled v H (Some n) E = record { stays = E.stays; go = λ f I c room. record { hit = named_hit v.file.now v.work.now v.sizes H f (enum_rows I.index) c E.told.0; unchanged = E.told.1 } }
 name_enrolled v H None E =
     record {
       stays = E.stays;
       go = λ f I c room.
           let U = E.told.1 in
           record {
-            miss = named_miss v.file.now v.work.now v.sizes H f I.index c U;
+            miss = named_miss v.file.now v.work.now v.sizes H f (enum_rows I.index) c U;
             stored = rw (H.is (omega arith)) at (taken_stored U.empty H.inside (omega (arith, I.searchable.taken)) (E.told.2 (omega (arith, I.searchable.small, (counts_fewer f).enums_fewer, c.enums_are))));
           };
     }

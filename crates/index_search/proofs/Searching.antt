@@ -10,6 +10,7 @@ use Rattle.script_spec.specs.Fields.{Entry}
 use Rattle.script_spec.specs.File.{TermFile}
 use Rattle.std.specs.Prelude.{Option, Some, None}
 use Rattle.index.specs.Cells.{cell}
+use Rattle.index.specs.Names.{key_of}
 use Rattle.index.specs.First.{canonical}
 use Rattle.index.specs.declared.Records.{Records}
 use Rattle.index.specs.declared.RecordsMut.{RecordsMut}
@@ -34,7 +35,7 @@ module _ (v : RecordsMut) (offsets o : ℕ) {b : ℕ} (H : Home v.file.now v.wor
   test = EqualTo v.file.now v.work.now v.sizes.rows offsets o
 
   module _ {kind count : ℕ} {f : TermFile} {x : Entry} {ε : ℕ → Entry} (L : LooksFor v.file.now v.work.now v.sizes.rows offsets kind count o f x ε) where
-    home_is : 0 < v.sizes.rows → b ≡ home_of v.sizes.rows (canonical f x)
+    home_is : 0 < v.sizes.rows → b ≡ home_of (key_of v.work.now v.sizes.rows) v.sizes.rows (canonical f x)
     home_is = H.is f x L.index L.sought.reads L.sought.in_range
 
     decides : (n : ℕ) (r : Bool) → n < count → test n r → Decides r (canonical f (ε n) ≡ canonical f x)

@@ -6,8 +6,9 @@ use Rattle.std.specs.Prelude as rust
 use Rattle.script_spec.specs.Base.{Bytes, same, place, firsts}
 use Rattle.script_spec.specs.File.{TermFile, enums}
 use Rattle.refusal.specs.Numbers.{option_of}
-use Rattle.index.specs.Meaning.{Rows, SizesOf}
+use Rattle.index.specs.Meaning.{SizesOf}
 use Rattle.index.specs.declared.Sizes.{Sizes}
+use Rattle.index_search.specs.Named.{EnumRows}
 
 -- the enum with a number: its name and its members
 unfoldable pub enum_at : TermFile → ℕ → Bytes × List Bytes
@@ -19,4 +20,4 @@ members_at f n = elim (ltb n (length (enums f))) [ true ↦ some (enum_at f n).1
 
 -- the number that was found is that of the enum with the name, and none is found where no enum has it
 pub record FindsEnum (file : Bytes) (work : List ℕ) (sizes : Sizes) (name : Bytes) (r : rust.Option ℕ) : Type 0 where
-  pub go : (f : TermFile) → Rows file f work sizes.rows → SizesOf f sizes → option_of r ≡ place (same name) (firsts (enums f))
+  pub go : (f : TermFile) → EnumRows file f work sizes.rows → SizesOf f sizes → option_of r ≡ place (same name) (firsts (enums f))

@@ -10,7 +10,7 @@ use Rattle.index.specs.First.{canonical, InRange}
 use Rattle.index.specs.Standing.{entry_at}
 use Rattle.index.specs.Meaning.{Rows}
 use Rattle.index_compare.specs.View.{Decides}
-use Rattle.index.specs.Names.{code_of, Reached}
+use Rattle.index.specs.Names.{code_of, key_of, Reached}
 use Rattle.index.specs.Empties.{empties}
 use Rattle.index.specs.Held as Held
 use Rattle.index.specs.declared.RecordsMut.{RecordsMut}
@@ -32,7 +32,7 @@ pub record LooksFor (file : Bytes) (work : List ℕ) (rows offsets kind count o 
   pub sought : At file f o x
   pub stand : (n : ℕ) → n < count → At file f (cell work rows offsets n) (ε n)
   pub kind_is : kind < 4
-  pub reached : (n : ℕ) → n < count → Reached (home_of rows) rows (cell work rows hash) kind count (λ m. canonical f (ε m)) n
+  pub reached : (n : ℕ) → n < count → Reached (home_of (key_of work rows) rows) rows (cell work rows hash) kind count (λ m. canonical f (ε m)) n
 
 module _ (f : TermFile) (x : Entry) (ε : ℕ → Entry) (count : ℕ) where
   -- an entry that is equal, with the number that its row has in the column of first numbers
@@ -55,7 +55,7 @@ pub record KnownEntry (work work' : List ℕ) (rows firsts count r : ℕ) (f : T
 -- no entry is equal, and the one that was looked for is stored in a slot with `count` for its number
 pub record NewEntry (work work' : List ℕ) (rows kind count r : ℕ) (f : TermFile) (x : Entry) (ε : ℕ → Entry) : Type 0 where
   pub miss : Miss f x ε count r
-  pub stored : Stored work work' rows (home_of rows (canonical f x)) (code_of count kind)
+  pub stored : Stored work work' rows (home_of (key_of work rows) rows (canonical f x)) (code_of count kind)
 
 -- one or the other
 pub record Enrolled (work work' : List ℕ) (rows firsts kind count r : ℕ) (f : TermFile) (x : Entry) (ε : ℕ → Entry) : Type 0 where

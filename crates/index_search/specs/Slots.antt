@@ -9,16 +9,16 @@ use Rattle.index.specs.Cells.{cell, type_offset, fun_offset, term_offset, hash}
 use Rattle.index.specs.Empties.{empties}
 use Rattle.index.specs.First.{canonical}
 use Rattle.index.specs.Standing.{entry_at}
-use Rattle.index.specs.Names.{scaled, Reached}
+use Rattle.index.specs.Names.{key_of, scaled, Reached}
 use Rattle.index_compare.specs.Printed.{segments_of}
 use Rattle.check_rules.specs.Marks.{mark_of}
 use Rattle.index_search.specs.Hash.{hashed}
 
 -- ---- slots
 
--- the home slot of an entry, by the hash of its mark and segments
-unfoldable pub home_of : ℕ → Entry → ℕ
-home_of rows x = scaled rows (hashed (mark_of x) (segments_of x))
+-- the home slot of an entry, by the hash of its mark and segments under a key
+unfoldable pub home_of : ℕ → ℕ → Entry → ℕ
+home_of k rows x = scaled rows (hashed k (mark_of x) (segments_of x))
 
 -- ---- what they hold
 
@@ -33,7 +33,7 @@ entries file work rows offsets n = entry_or (entry_at file (cell work rows offse
 
 -- every record of a kind is reached, with first equal numbers for its references
 abbrev pub AllReached : Bytes → TermFile → List ℕ → ℕ → ℕ → ℕ → ℕ → Type 0
-AllReached file f work rows offsets kind count = (n : ℕ) → n < count → Reached (home_of rows) rows (cell work rows hash) kind count (λ m. canonical f (entries file work rows offsets m)) n
+AllReached file f work rows offsets kind count = (n : ℕ) → n < count → Reached (home_of (key_of work rows) rows) rows (cell work rows hash) kind count (λ m. canonical f (entries file work rows offsets m)) n
 
 -- the slots for the records f: each is reached, and at most one slot a record is taken
 pub record Slots (file : Bytes) (f : TermFile) (work : List ℕ) (rows : ℕ) : Type 0 where

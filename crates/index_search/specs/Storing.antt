@@ -9,7 +9,7 @@ use Rattle.index.specs.Cells.{cell, store, hash}
 use Rattle.index.specs.First.{canonical, InRange}
 use Rattle.index.specs.Standing.{entry_at}
 use Rattle.index.specs.Meaning.{Rows}
-use Rattle.index.specs.Names.{slot, scaled, name_home}
+use Rattle.index.specs.Names.{slot, key_of, scaled, name_home}
 use Rattle.index_search.specs.Slots.{home_of}
 
 -- b is the home slot of a hash, of `rows` slots
@@ -20,12 +20,12 @@ pub record Scales (rows h b : ℕ) : Type 0 where
 -- b is the home slot of the entry at an offset, of `rows` slots
 pub record Home (file : Bytes) (work : List ℕ) (rows o b : ℕ) : Type 0 where
   pub inside : 0 < rows → b < rows
-  pub is : (f : TermFile) (x : Entry) → Rows file f work rows → entry_at file o ≡ some x → InRange (earlier f) x → 0 < rows → b ≡ home_of rows (canonical f x)
+  pub is : (f : TermFile) (x : Entry) → Rows file f work rows → entry_at file o ≡ some x → InRange (earlier f) x → 0 < rows → b ≡ home_of (key_of work rows) rows (canonical f x)
 
--- b is the home slot of a name, of `rows` slots
-pub record NameHome (rows : ℕ) (name : Bytes) (b : ℕ) : Type 0 where
+-- b is the home slot of a name under a key, of `rows` slots
+pub record NameHome (k rows : ℕ) (name : Bytes) (b : ℕ) : Type 0 where
   pub inside : 0 < rows → b < rows
-  pub is : 0 < rows → b ≡ name_home rows name
+  pub is : 0 < rows → b ≡ name_home k rows name
 
 -- r is how many steps after slot b the first empty slot is, or `rows`
 pub record FirstEmpty (rows : ℕ) (column : ℕ → ℕ) (b r : ℕ) : Type 0 where

@@ -25,7 +25,7 @@ impl Test for Named<'_> {
 pub fn find(records: Records<'_>, name: &[u8]) -> Option<u32>
     ensures { FindsEnum records.entry.file.now records.entry.work.now records.entry.sizes name.now result }
 {
-    let b = slots::name_home(name, records.sizes.rows);
+    let b = slots::name_home(records.key(), name, records.sizes.rows);
     slots::probe(
         records,
         Table::Enums,
@@ -40,7 +40,7 @@ pub fn find(records: Records<'_>, name: &[u8]) -> Option<u32>
 pub fn enrol(records: &mut RecordsMut<'_>, name: &[u8]) -> Option<u32>
     ensures { EnrolsNamed records.old records.new name.now result }
 {
-    let b = slots::name_home(name, records.sizes.rows);
+    let b = slots::name_home(records.view().key(), name, records.sizes.rows);
     let count = records.sizes.enums;
     slots::enrol(records, Table::Enums, count, b, &Named { name })
 }

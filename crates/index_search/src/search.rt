@@ -57,7 +57,8 @@ impl Compared {
     }
 }
 
-// Whether the records at two offsets are equal: the same mark, and bodies that agree by the index.
+// Whether the records at two offsets are equal: the same mark, and bodies that agree by the index. Out of line, since most searches meet no record.
+#[inline(never)]
 fn same_at(records: Records<'_>, offset: u32, other: u32) -> bool
     ensures { SameAt records.entry.file.now records.entry.work.now records.entry.sizes.rows offset other result }
 {

@@ -57,14 +57,12 @@ fn slot(rows: usize, b: usize, d: usize) -> usize
     d - left
 }
 
-// The slot from which a record of a hash is looked for: the hash scaled from 2^32 to the number of rows.
-pub fn scale(rows: usize, h: u32) -> usize
+// The slot from which a record of a hash is looked for: the hash's square, folded and scaled from 2^64 to the number of rows.
+pub fn scale(rows: usize, h: u64) -> usize
     ensures { Scales rows h result }
 {
-    if rows < 4294967296 {
-        return h as usize * rows / 4294967296;
-    }
-    0
+    let (_, high) = crate::hash::folded(h, h).carrying_mul(rows as u64, 0);
+    high as usize
 }
 
 // The slot from which the record at an offset is looked for.
@@ -79,10 +77,10 @@ pub fn home(records: Records<'_>, offset: u32) -> usize
 }
 
 // The slot from which the enum of a name is looked for.
-pub fn name_home(name: &[u8], rows: usize) -> usize
-    ensures { NameHome rows name.now result }
+pub fn name_home(key: u64, name: &[u8], rows: usize) -> usize
+    ensures { NameHome key rows name.now result }
 {
-    scale(rows, crate::hash::mix_bytes(0, name))
+    scale(rows, crate::hash::mix_bytes(key, key, name))
 }
 
 // A test of a record, by its number.
@@ -129,10 +127,10 @@ pub fn enrol<T: Test>(
 ) -> Option<u32>
     ensures { (v : Records) × Viewed records.old v × TakesSlot records.old records.new (slot_kind table) count (T.tells test.now v) b result }
 {
+    let rows = records.sizes.rows;
     match probe(records.view(), table, count, b, test) {
         Ok(n) => Some(n),
         Err(d) => {
-            let rows = records.sizes.rows;
             records.set_row(Column::Hash, slot(rows, b, d), code(count, table));
             None
         }

@@ -83,6 +83,7 @@ impl Iterator for CodePoints<'_> {
     ghost remaining = { λ c. at_most (length c.text.now - c.at) };
 
     // The next code point, bytes that are not UTF-8, or nothing at the end.
+    #[inline(always)]
     fn next(&mut self) -> Option<Result<u32, Malformed>> {
         if self.text.len() <= self.at {
             return None;

@@ -1,4 +1,4 @@
--- A type, a function or a term that is entered gets a name in memory, the next number of its table; and a term that has passed gets a note.
+-- A type, a function or a term that is entered gets a name in memory, the next number of its table; and a term gets a note after a step.
 -- Assumes nothing.
 use Prim.Native.Nat.{ℕ, ◌+◌, ◌<◌, min}
 use mathlib.Core.Path.{◌≡◌, refl, sym, ap, ◌∙◌}
@@ -6,10 +6,12 @@ use mathlib.Core.Bool.{true, false}
 use native.Mathlib.Omega.{arith}
 use borrow.Author.Tests.{eqb-true, not-false}
 use lib.ListN.{length, length-append}
+use Rattle.std.specs.Prelude.{Ok}
 use Rattle.script_spec.specs.Base.{Bytes, any}
 use Rattle.script_spec.specs.Tree.{eq_ty, eq_fun, eq_tm}
 use Rattle.script_spec.specs.File.{TermFile, types, funs, terms, members, type_at, fun_at, term_at}
-use Rattle.script_spec.specs.Walk.{State, went, enter_type, enter_fun, enter_term, encode_new}
+use Rattle.script_spec.specs.Walk.{State, enter_type, enter_fun, enter_term}
+use Rattle.script_spec.specs.Walk as walk
 use Rattle.script_spec.proofs.Laws.{never}
 use Rattle.write_bytes.specs.Writing.{Wrote}
 use Rattle.write_bytes.specs.declared.writer.Writer.{Writer}
@@ -20,14 +22,14 @@ use Rattle.index.specs.declared.Sizes.{Sizes}
 use Rattle.index.specs.declared.RecordsMut.{RecordsMut}
 use Rattle.index.proofs.Held.{stays_becomes}
 use Rattle.index.proofs.Rows.{types_fit, funs_fit, terms_fit}
-use Rattle.walk_names.specs.Naming.{type_names, fun_names, term_names, first_of, names_of, is_name, name_in}
+use Rattle.walk_names.specs.Naming.{type_names, fun_names, term_names, first_of, names_of, is_name, name_in, NoteSays}
 use Rattle.walk_names.specs.declared.naming.Named.{Named}
 use Rattle.walk_names.specs.declared.naming.Named.TheVariants as named
-use Rattle.walk_names.specs.Progress.{memory, rows, Indexed, Went, Remains, count_of, Enters}
+use Rattle.walk_names.specs.Progress.{memory, rows, Indexed, Went, Remains, Advances, count_of, Enters}
 use Rattle.walk_names.specs.declared.walk.Walk.{Walk}
 use Rattle.walk_names.proofs.Names.{kept_store, kept_note, numbers_type, numbers_fun, numbers_term, numbers_note}
 use Rattle.walk_names.proofs.Tables.{table_known}
-use Rattle.walk_names.proofs.Advancing.{continues_refl}
+use Rattle.walk_names.proofs.Advancing.{continues_refl, remains_trans, indexed_remains, went_on}
 
 -- the column of each name is one of names
 names_named : (k : Named) → is_name (names_of k) ≡ true
@@ -124,21 +126,34 @@ module _ {f : TermFile} {limit : ℕ} {o : Bytes} {S : State} {n : ℕ} {v w : W
 abbrev pub held : Walk → RecordsMut → Walk
 held v x = record { records = record { ref_ptr = v.records.ref_ptr; ghost_name = v.records.ghost_name; now = x }; script = v.script; types = v.types; funs = v.funs; terms = v.terms }
 
-module _ (n m : ℕ) {v : Walk} {x : RecordsMut} (B : Becomes v.records.now x (store (memory v) (rows v) note n m)) where
+module _ (n m : ℕ) {w : Walk} {x : RecordsMut} (B : Becomes w.records.now x (store (memory w) (rows w) note n m)) where
   -- a note leaves all else
-  pub remains_notes : Remains v (held v x)
+  remains_notes : Remains w (held w x)
   remains_notes =
-      let K = kept_note (memory v) (rows v) n m in
+      let K = kept_note (memory w) (rows w) n m in
       record { records_lent = refl; records = stays_becomes B K.size; script_lent = refl; script = continues_refl; kept = rw B.memory K }
 
-  -- a term that has passed is noted
-  pub went_notes : {f : TermFile} {limit : ℕ} {o : Bytes} {S : State} → Indexed f v → Went f limit o v S → n < length (terms f) → ((T : State) → encode_new (members f) (term_at f n) T ≡ went T) → Went f limit o (held v x) S
-  went_notes I W l done =
+  -- a note that holds
+  went_notes : {f : TermFile} {limit : ℕ} {o : Bytes} {S : State} → Indexed f w → Went f limit o w S → n < length (terms f) → ((m ≡ 0 → ⊥) → NoteSays (members f) (term_at f n) m) → Went f limit o (held w x) S
+  went_notes I W l holds =
       record {
-        numbers = rw (B.memory, ap (λ (s : Sizes). s.rows) B.sizes_are) (numbers_note I.rows W.numbers n m l done);
+        numbers = rw (B.memory, ap (λ (s : Sizes). s.rows) B.sizes_are) (numbers_note I.rows W.numbers n m l holds);
         types_are = W.types_are;
         funs_are = W.funs_are;
         terms_are = W.terms_are;
         limit_is = W.limit_is;
         wrote = W.wrote;
+      }
+
+  -- a step, and a note after it
+  pub advances_noted : {ready : TermFile → State → Type 0} (step : TermFile → walk.Walk) {v : Walk} → Advances ready step v w (Ok tt)
+      → ((f : TermFile) (S : State) → Indexed f v → Indexed f w → ready f S → (n < length (terms f)) × ((m ≡ 0 → ⊥) → NoteSays (members f) (term_at f n) m))
+      → Advances ready step v (held w x) (Ok tt)
+  advances_noted step A h =
+      record {
+        remains = remains_trans A.remains remains_notes;
+        go = λ f limit o S I r W.
+            let J = indexed_remains A.remains I in
+            let g = h f S I J r in
+            went_on (step f S) (A.go f limit o S I r W) (λ S' e W'. rw e (went_notes J W' g.0 g.1));
       }

@@ -18,20 +18,20 @@ use Rattle.script_spec.specs.Tree.{eq_ty, eq_fun}
 use Rattle.script_spec.specs.File.{TermFile, types, funs, terms, members, type_at, fun_at, term_at}
 use Rattle.script_spec.specs.Text.{decimal}
 use Rattle.script_spec.specs.Command.{Command}
-use Rattle.script_spec.specs.Walk.{State, went, start, enter_type, enter_fun, enter_term, write, numbered, names, encode_new}
+use Rattle.script_spec.specs.Walk.{State, start, enter_type, enter_fun, enter_term, write, numbered, names}
 use Rattle.refusal.specs.Numbers.{option_of}
-use Rattle.index.specs.Cells.{placed, cell, store, type_offset, type_first, fun_offset, fun_first, fun_place, term_offset, term_first, term_type, enum_offset, hash}
-use Rattle.index.specs.Cells.{note, term_place, enum_list, type_place, type_list, enum_place, input_place, list_row, input_offset, input_term}
+use Rattle.index.specs.Cells.{placed, cell, store, type_offset, type_first, fun_offset, fun_first, key, term_offset, term_first, term_type, enum_offset, hash}
+use Rattle.index.specs.Cells.{note, term_place, enum_list, type_list, list_row, input_term}
 use Rattle.index.specs.First.{first_type, first_fun, first_term}
 use Rattle.index.specs.Standing.{body_at}
 use Rattle.index.specs.Meaning.{Rows, Index, Unnamed}
 use Rattle.index.specs.declared.Sizes.{Sizes}
-use Rattle.index.proofs.Names.{names_same}
+use Rattle.index.proofs.Names.{key_same, names_same}
 use Rattle.index.proofs.Cells.{shared, Apart, length_store, cell_store_same, cell_store_apart}
 use Rattle.index.proofs.Growth.{counts_together}
 use Rattle.index.proofs.Rows.{listed_same, types_fit, funs_fit, terms_fit}
 use Rattle.index.proofs.Firsts.{FirstEqual, Equality, any_place, first_below, first_types, first_funs, first_terms, equal_types, equal_funs, equal_terms}
-use Rattle.walk_names.specs.Naming.{type_names, fun_names, term_names, is_name, has_names, name_in, raised, name_stored, name_at, place_of, Table, TermsPassed, Numbers, Kept}
+use Rattle.walk_names.specs.Naming.{type_names, fun_names, term_names, is_name, has_names, name_in, raised, name_stored, name_at, place_of, Table, NoteSays, NotesHold, Numbers, Kept}
 use Rattle.walk_names.proofs.Tables.{table_start, table_same, table_place, table_enter}
 
 -- ---- memories that differ in names and notes alone
@@ -77,8 +77,8 @@ module _ {file : Bytes} {f : TermFile} {work work' : List ℕ} {k : ℕ} (K : Ke
   rows_kept I =
       record {
         fits = rw K.size I.fits;
-        type_row = λ n l. let r = I.type_row n l in record { stands = rw (K.others type_offset n refl) r.stands; first = K.others type_first n refl ∙ r.first; place_is = K.others type_place n refl ∙ r.place_is };
-        fun_row = λ n l. let r = I.fun_row n l in record { stands = rw (K.others fun_offset n refl) r.stands; first = K.others fun_first n refl ∙ r.first; place_is = K.others fun_place n refl ∙ r.place_is };
+        type_row = λ n l. let r = I.type_row n l in record { stands = rw (K.others type_offset n refl) r.stands; first = K.others type_first n refl ∙ r.first };
+        fun_row = λ n l. let r = I.fun_row n l in record { stands = rw (K.others fun_offset n refl) r.stands; first = K.others fun_first n refl ∙ r.first };
         term_row = λ n l. let r = I.term_row n l in
             record {
               stands = rw (K.others term_offset n refl) r.stands;
@@ -88,10 +88,10 @@ module _ {file : Bytes} {f : TermFile} {work work' : List ℕ} {k : ℕ} (K : Ke
               type_first_is = rw (K.others term_type n refl) r.type_first_is;
               place_is = K.others term_place n refl ∙ r.place_is;
             };
-        enum_row = λ n l. let r = I.enum_row n l in record { stands = rw (K.others enum_offset n refl) r.stands; place_is = K.others enum_place n refl ∙ r.place_is };
-        input_row = λ n l. let r = I.input_row n l in record { stands = rw (K.others input_offset n refl, K.others input_term n refl) r.stands; below = rw (K.others input_term n refl) r.below; is = rw (K.others input_term n refl) r.is; place_is = K.others input_place n refl ∙ r.place_is };
+        enum_row = λ n l. let r = I.enum_row n l in record { stands = rw (K.others enum_offset n refl) r.stands };
+        input_row = λ n l. let r = I.input_row n l in record { below = rw (K.others input_term n refl) r.below; is = rw (K.others input_term n refl) r.is };
         fit = I.fit;
-        names = names_same (record { same = λ i h. K.others hash i refl }) I.names refl;
+        names = names_same (record { same = λ i h. K.others hash i refl }) (key_same _ _ _ (K.others key 0 refl) (K.others key 1 refl)) I.names refl;
         listed =
             record {
               of_types = record {
@@ -106,7 +106,12 @@ module _ {file : Bytes} {f : TermFile} {work work' : List ℕ} {k : ℕ} (K : Ke
 -- so does the index
 pub index_kept : {file : Bytes} {f : TermFile} {work work' : List ℕ} {sizes : Sizes} → Kept work work' sizes.rows → Index file f work sizes → Index file f work' sizes
 unfolding is_name has_names
-index_kept K I = record { rows = rows_kept K I.rows; sizes_are = I.sizes_are; small = I.small; enum_noted = λ t name l h. K.others type_list t refl ∙ I.enum_noted t name l h }
+index_kept K I = record {
+  rows = rows_kept K I.rows;
+  sizes_are = I.sizes_are;
+  small = I.small;
+  noted = λ t l. rw (K.others type_list t refl) (I.noted t l);
+}
 
 -- ---- a store
 
@@ -139,9 +144,9 @@ module _ {A : Type 0} {eq : A → A → Bool} {count : ℕ} {name : ℕ → A} {
   table_beside work k column column' i v apart t = table_same F (name_in (name_stored work k column' i v) k column) (λ j l. name_apart work k column' i v column j (apart j l)) t
 
 -- a store of what is no note
-notes_beside : {f : TermFile} (work : List ℕ) (k column i v : ℕ) → ((n : ℕ) → n < length (terms f) → Apart k column i note n) → TermsPassed f work k → TermsPassed f (name_stored work k column i v) k
+notes_beside : {f : TermFile} (work : List ℕ) (k column i v : ℕ) → ((n : ℕ) → n < length (terms f) → Apart k column i note n) → NotesHold f work k → NotesHold f (name_stored work k column i v) k
 unfolding name_stored
-notes_beside work k column i v apart P = record { again = λ n l h. P.again n l (λ z. h (cell_store_apart work k column i (raised v) note n (apart n l) ∙ z)) }
+notes_beside work k column i v apart P = record { says = λ n l. rw (cell_store_apart work k column i (raised v) note n (apart n l)) (P.says n l) }
 
 -- ---- the tables of a state
 
@@ -153,7 +158,7 @@ numbers_start f work k N =
       type_table = table_start (first_types f) _ (λ i l. omega (arith, N.types_free i l));
       fun_table = table_start (first_funs f) _ (λ i l. omega (arith, N.funs_free i l));
       term_table = table_start (first_terms f) _ (λ i l. omega (arith, N.terms_free i l));
-      notes = record { again = λ n l h. absurd (h (N.no_note n l)) };
+      notes = record { says = λ n l h. absurd (h (N.no_note n l)) };
     }
 
 -- commands are in no table
@@ -204,10 +209,10 @@ module _ {file : Bytes} {f : TermFile} {work : List ℕ} {k : ℕ} {S : State} (
         notes = notes_beside work k term_names (first_term f n) v (λ j h. record { other = λ e q. omega arith; facing = λ e q. omega arith }) N.notes;
       }
 
-  -- a note of a term that has passed
-  pub numbers_note : n < length (terms f) → ((T : State) → encode_new (members f) (term_at f n) T ≡ went T) → Numbers f (store work k note n v) k S
+  -- a note that holds
+  pub numbers_note : n < length (terms f) → ((v ≡ 0 → ⊥) → NoteSays (members f) (term_at f n) v) → Numbers f (store work k note n v) k S
   unfolding name_in shared placed
-  numbers_note l done =
+  numbers_note l holds =
       let few = counts_together f in
       let fit = I.fit in
       let beside : (column j : ℕ) → Apart k note n column j → name_in (store work k note n v) k column j ≡ name_in work k column j = λ column j A. ap (λ (m : ℕ). m - 256) (cell_store_apart work k note n v column j A) in
@@ -215,12 +220,15 @@ module _ {file : Bytes} {f : TermFile} {work : List ℕ} {k : ℕ} {S : State} (
         type_table = table_same (first_types f) _ (λ j h. beside type_names j (record { other = λ e q. omega arith; facing = λ e q. omega arith })) N.type_table;
         fun_table = table_same (first_funs f) _ (λ j h. beside fun_names j (record { other = λ e q. omega arith; facing = λ e q. omega arith })) N.fun_table;
         term_table = table_same (first_terms f) _ (λ j h. beside term_names j (record { other = λ e q. omega arith; facing = λ e q. omega arith })) N.term_table;
-        notes = record { again = λ m h c. noted m h c (ℕ_discrete n m) };
+        notes = record { says = λ m h. said m h (ℕ_discrete n m) };
       }
     where
-      noted : (m : ℕ) → m < length (terms f) → (cell (store work k note n v) k note m ≡ 0 → ⊥) → Dec (n ≡ m) → (T : State) → encode_new (members f) (term_at f m) T ≡ went T
-      noted m h c (yes e) T = subst (λ (i : ℕ). encode_new (members f) (term_at f i) T ≡ went T) e (done T)
-      noted m h c (no q) T = N.notes.again m h (λ z. c (cell_store_apart work k note n v note m (record { other = λ a b. q b; facing = λ a b. omega arith }) ∙ z)) T
+      Said : ℕ → ℕ → Type 0
+      Said m c = (c ≡ 0 → ⊥) → NoteSays (members f) (term_at f m) c
+
+      said : (m : ℕ) → m < length (terms f) → Dec (n ≡ m) → Said m (cell (store work k note n v) k note m)
+      said m h (yes e) = subst (λ (i : ℕ). Said i (cell (store work k note n v) k note i)) e (rw (cell_store_same work k note n v (record { fits = I.fits; column_is = omega arith; index_is = omega (arith, l, terms_fit I) })) holds)
+      said m h (no q) = rw (cell_store_apart work k note n v note m (record { other = λ a b. q b; facing = λ a b. omega arith })) (N.notes.says m h)
 
 -- ---- names by numbers of records
 

@@ -11,7 +11,7 @@ use denote.Ref.{Bor}
 use Rattle.std.specs.Prelude.{Result, Ok}
 use Rattle.script_spec.specs.Base.{Bytes}
 use Rattle.script_spec.specs.Tree as tree
-use Rattle.script_spec.specs.Tree.{Tm, Ty, Forest, Mark, TermMark, node, Enums, enum_of, is_variable, negation}
+use Rattle.script_spec.specs.Tree.{Tm, Ty, Forest, Mark, TermMark, node, nil, forest, Enums, enum_of, is_variable, negation}
 use Rattle.script_spec.specs.Fields.{term}
 use Rattle.script_spec.specs.File.{TermFile, terms, members, term_at, named_mark}
 use Rattle.script_spec.specs.Walk.{State, went, define_term, define_entity, define_app, encode_new}
@@ -107,11 +107,11 @@ module _ {v w : Walk} {n o : ℕ} {r : TermEntry} {x : Result (Unit {0}) Stopped
       (record { below = y.below; utf8 = K.sound; rest = _; is = sym K.tree }, refl)) A
 
   pub new_entity : {s : Bor Bytes} {t : ℕ} → r ≡ entry.Entity t s → Advances (EntityAt n t s.now) (entity_walk n t s.now) v w x → Advances (NewAt n) (new_walk n) v w x
-  unfolding term_said named_mark new_walk entity_walk TermSound MarkInRange counted is_compound
+  unfolding term_said named_mark forest new_walk entity_walk TermSound MarkInRange counted
   new_entity e A =
       advances_by (λ f S I y.
       let K = is_term v at T (ap term_said e) f I y.below in
-      (record { at = record { at = y; is = record { plain = ap is_compound (sym K.tree) } }; type_below = K.in_range; utf8 = K.sound }, step_entity (members f) (term_at f n) _ S _ _ (sym K.tree))) A
+      (record { at = record { at = y; is = record { inside = y.below; type_inside = K.in_range; children = nil; tree = K.tree } }; utf8 = K.sound }, step_entity (members f) (term_at f n) _ S _ _ (sym K.tree))) A
 
   pub new_some : {m : ℕ} → r ≡ entry.Some m → Advances (KnownAt n (SomeIs n m)) (define_walk n) v w x → Advances (NewAt n) (new_walk n) v w x
   unfolding term_said named_mark new_walk define_walk

@@ -1,15 +1,16 @@
 -- What the steps that declare or define a new term are ready for, and the steps over it.
 -- Assumes nothing.
-use Rattle.std.specs.Prelude.{ℕ, ◌<◌, ◌≡◌, true, length}
+use Rattle.std.specs.Prelude.{ℕ, ◌≡◌, true}
 use Rattle.script_spec.specs.Base.{Bytes}
 use Rattle.script_spec.specs.Utf8.{is_utf8, code_points}
 use Rattle.script_spec.specs.Tree.{Op, App, enum_of, is_variable, negation}
-use Rattle.script_spec.specs.File.{TermFile, types, members, type_at, term_at, named_op}
+use Rattle.script_spec.specs.File.{TermFile, members, type_at, term_at, named_op}
 use Rattle.script_spec.specs.Walk as walk
 use Rattle.script_spec.specs.Walk.{State, ◌>>◌, define_term, define_entity, operator_step, define_app}
 use Rattle.read_operator.specs.Operators.{op_of}
 use Rattle.index_entry.specs.Terms.{children_in}
 use Rattle.index_entry.specs.declared.terms.Application.{Application}
+use Rattle.write_atoms.specs.Atoms.{EntityIs}
 use Rattle.write_atoms.specs.Records.{TermIs}
 use Rattle.write_terms.specs.Definitions.{PlainIs}
 use Rattle.walk_new.specs.Steps.{NewAt, high_walk}
@@ -31,10 +32,9 @@ pub record StringAt (n : ℕ) (s : Bytes) (f : TermFile) (S : State) : Type 0 wh
   pub at : KnownAt n (PlainIs n) f S
   pub utf8 : is_utf8 s ≡ true
 
--- and t is the number of a type
+-- it is new and an entity of the type with number t, and its id is UTF-8
 pub record EntityAt (n t : ℕ) (id : Bytes) (f : TermFile) (S : State) : Type 0 where
-  pub at : KnownAt n (PlainIs n) f S
-  pub type_below : t < length (types f)
+  pub at : KnownAt n (EntityIs n t id) f S
   pub utf8 : is_utf8 id ≡ true
 
 -- the term with the number of an application is new, and is this application

@@ -3,6 +3,7 @@ ghost use Rattle.walk_names.specs.Progress.{Advances};
 ghost use Rattle.walk_new.specs.News.{StringAt, EntityAt, string_walk, entity_walk};
 
 use crate::steps::{define, refuse_high};
+use index::Column;
 use refusal::Refusal;
 use walk_names::naming::Named;
 use walk_names::walk::{Stopped, Walk};
@@ -17,7 +18,8 @@ fn define_string_entity(walk: &mut Walk, n: u32, id: &[u8]) -> Result<(), Stoppe
     define(walk, n, Body::Plain)
 }
 
-// Defines the entity with number n and the type with number t, or enters it where its type is an enum.
+// Defines the entity with number n and the type with number t, or enters it where its type is an enum. Where it stands there is asked for once:
+// one more is noted of the first equal term, or 0, which is no note, where that does not fit.
 pub fn define_entity(walk: &mut Walk, n: u32, t: u32, id: &[u8]) -> Result<(), Stopped>
     ensures { Advances (EntityAt n t id.now) (entity_walk n t id.now) walk.old walk.new result }
 {
@@ -28,8 +30,11 @@ pub fn define_entity(walk: &mut Walk, n: u32, t: u32, id: &[u8]) -> Result<(), S
             term: n,
             position: 0,
         }),
-        Member::At(_) => {
+        Member::At(i) => {
             walk.enter(Named::Terms, n);
+            let first = walk.records.get(Column::TermFirst, n);
+            let note = i.checked_add(1).unwrap_or(0);
+            walk.records.set(Column::Note, first, note);
             Ok(())
         }
     }

@@ -8,7 +8,8 @@ use index_entry::terms::{Application, TermEntry};
 use walk_names::walk::{Stopped, Walk};
 use write_terms::definitions::Body;
 
-// Enters, declares, defines or refuses the term with number n.
+// Enters, declares, defines or refuses the term with number n. Out of line it takes no stack while the children are encoded.
+#[inline(never)]
 pub fn encode_new(walk: &mut Walk, n: u32) -> Result<(), Stopped>
     ensures { Advances (NewAt n) (new_walk n) walk.old walk.new result }
 {

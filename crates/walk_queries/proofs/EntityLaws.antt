@@ -1,13 +1,13 @@
--- The name of an entity type, by the record that was read again.
+-- The name of an entity type, by the record that was read again; and that it has no attributes.
 -- Assumes nothing.
 use Prim.Native.Nat.{ℕ, ◌<◌}
 use mathlib.Core.Path.{◌≡◌, refl, ap, ◌∙◌}
 use mathlib.Core.List.{List}
-use mathlib.Core.Option.{Option, none, some}
+use mathlib.Core.Option.{Option, none, some, none-ne-some}
 use lib.ListN.{length}
 use denote.Ref.{Bor}
 use Rattle.script_spec.specs.Base.{Bytes, and_then}
-use Rattle.script_spec.specs.Tree.{Datatype, name_of_entity, entity_name}
+use Rattle.script_spec.specs.Tree.{Ty, Datatype, entity, extension, record_of, datatype, name_of_entity, entity_name, attributes_of, attributes}
 use Rattle.script_spec.specs.File.{TermFile, types, type_at}
 use Rattle.index.specs.Cells.{cell, type_offset}
 use Rattle.index.specs.Meaning.{Rows}
@@ -36,3 +36,14 @@ module _ {file : Bytes} {work : List ℕ} {k t : ℕ} {r : TypeEntry} (T : TypeA
   pub entity_named : {name : Bor Bytes} → r ≡ entry.Entity name → (f : TermFile) → Rows file f work k → t < length (types f) → entity_name (type_at f t) ≡ some name.now
   unfolding entity_name and_then datatype_said name_of_entity
   entity_named e f I l = ap (λ (d : Option Datatype). and_then d name_of_entity) (datatype_here T f I l ∙ ap datatype_said e)
+
+-- an entity type has no attributes
+pub no_attributes : {A : Type 0} (ty : Ty) {name : Bytes} {names : List Bytes} → entity_name ty ≡ some name → attributes ty ≡ some names → A
+unfolding entity_name attributes and_then name_of_entity attributes_of
+no_attributes {A} ty {name} {names} = go (datatype ty)
+  where
+    go : (d : Option Datatype) → and_then d name_of_entity ≡ some name → and_then d attributes_of ≡ some names → A
+    go none h g = absurd (none-ne-some _ h)
+    go (some (entity n)) h g = absurd (none-ne-some _ g)
+    go (some (extension x)) h g = absurd (none-ne-some _ h)
+    go (some (record_of ns)) h g = absurd (none-ne-some _ h)

@@ -5,6 +5,7 @@ pub mod RowLaws
 pub mod FillLaws
 pub mod Attributes
 pub mod EntityLaws
+pub mod TypeNotes
 pub mod NoteLaws
 pub mod ListLaws
 pub mod LoopLaws

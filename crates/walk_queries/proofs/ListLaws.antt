@@ -6,20 +6,23 @@ use native.Mathlib.Decide.{dec_lt}
 use mathlib.Core.Path.{◌≡◌, sym, ap, ◌∙◌, subst}
 use mathlib.Core.Bool.{true}
 use mathlib.Core.List.{List, []}
+use mathlib.Core.Option.{none-ne-some}
 use lib.ListN.{length, drop, get_or}
 use Rattle.script_spec.specs.Base.{Bytes, ascending}
 use Rattle.script_spec.specs.File.{TermFile, types, enums}
 use Rattle.index.specs.Cells.{placed, cell, store, shared, Apart, type_offset, enum_offset, hash, enum_list, type_list, list_row}
 use Rattle.index.specs.Standing.{body_at}
 use Rattle.index.specs.Lists.{texts, Listed}
-use Rattle.index.specs.Meaning.{used_entries, HasAttributes, HasMembers}
+use Rattle.index.specs.Meaning.{used_entries, HasAttributes, HasMembers, CheckedIndex, TypeNoted}
+use Rattle.index.specs.declared.Sizes.{Sizes}
 use Rattle.index.proofs.Cells.{length_store, cell_store_same, cell_store_apart}
 use Rattle.index.proofs.Growth.{counts_together}
 use Rattle.index.proofs.Rows.{listed_same, rows_same, unnamed_same}
 use Rattle.index_entry.proofs.Places.{length_texts}
-use Rattle.walk_queries.specs.Made.{RowsOf, RowsStored, RowsFilled, ListAt, left_out, made, Side, Listing, KnownRecords, Relisted}
+use Rattle.walk_queries.specs.Made.{RowsOf, RowsStored, RowsFilled, ListAt, left_out, made, Side, Listing, KnownRecords, IndexWithLists, Sole}
 use Rattle.walk_queries.proofs.FillLaws.{rows_list}
 use Rattle.walk_queries.proofs.Attributes.{attributes_here, attributes_inside, members_here}
+use Rattle.walk_queries.proofs.TypeNotes.{record_noted, sole_unattributed}
 use Rattle.index_entry.specs.Types.{TypeAt}
 use Rattle.index_entry.specs.Places.{texts_in}
 use Rattle.index_entry.specs.Terms.{names_of}
@@ -110,15 +113,24 @@ module _ {file : Bytes} {f : TermFile} {k terms : ℕ} {work₀ : List ℕ} (K :
             side_kept L.of_enums (λ n l. S.same enum_list n (λ j g. record { other = λ e q. omega arith; facing = λ e q. omega arith }))
             (λ n l. S.same enum_offset n (λ j g. record { other = λ e q. omega arith; facing = λ e q. omega arith }))
             (λ i l. S.same list_row i (λ j g. record { other = λ e q. omega arith; facing = λ e q. omega arith })) (omega arith);
+        noted = λ t l. rw (S.same type_list t (λ j g. record { other = λ e q. omega arith; facing = λ e q. omega arith })) (L.noted t l);
       }
 
+  -- what is noted of the next type
+  noted_added : {t : ℕ} (work : List ℕ) → ((u : ℕ) → u < t → TypeNoted f u (cell work k type_list u)) → TypeNoted f t (cell work k type_list t) → (u : ℕ) → u < t + 1 → TypeNoted f u (cell work k type_list u)
+  noted_added {t} work old new u l = by (dec_lt u t)
+    where
+      by : Dec (u < t) → TypeNoted f u (cell work k type_list u)
+      by (yes g) = old u g
+      by (no g) = let last : t ≡ u = omega arith in subst (λ (m : ℕ). TypeNoted f m (cell work k type_list m)) last new
+
   -- the entry of a type in the column of lists
-  type_noted : (v : ℕ) {t next next' : ℕ} {work work' : List ℕ} → t < length (types f) → next ≤ next' → work' ≡ store work k type_list t v → Listing file f k work₀ t 0 next work
+  pub type_noted : (v : ℕ) {t next next' : ℕ} {work work' : List ℕ} → t < length (types f) → next ≤ next' → work' ≡ store work k type_list t v → Listing file f k work₀ t 0 next work
       → ((base : ℕ) → cell work' k type_list t ≡ suc base → (names : List Bytes) → HasAttributes f t names
       → Listed (body_at file (cell work' k type_offset t)) 4 names work' k base × ((j : ℕ) → 2 * j < length names → base + j < next'))
-      → Listing file f k work₀ (t + 1) 0 next' work'
+      → TypeNoted f t v → Listing file f k work₀ (t + 1) 0 next' work'
   unfolding used_entries shared placed
-  type_noted v {t} {next} {next'} {work} {work'} l more e L new =
+  type_noted v {t} {next} {next'} {work} {work'} l more e L new is =
       let few = counts_together f in
       let fit = K.index.fit in
       let kept : (column i : ℕ) → Apart k type_list t column i → cell work' k column i ≡ cell work k column i = λ column i apart. rw e (cell_store_apart work k type_list t v column i apart) in
@@ -139,6 +151,9 @@ module _ {file : Bytes} {f : TermFile} {k terms : ℕ} {work₀ : List ℕ} (K :
             side_kept L.of_enums (λ n g. kept enum_list n (record { other = λ h q. omega arith; facing = λ h q. omega arith }))
             (λ n g. kept enum_offset n (record { other = λ h q. omega arith; facing = λ h q. omega arith }))
             (λ i g. kept list_row i (record { other = λ h q. omega arith; facing = λ h q. omega arith })) more;
+        noted =
+            noted_added work' (λ u g. rw (kept type_list u (record { other = λ h z. omega (arith, g, z); facing = λ h q. omega arith })) (L.noted u g))
+            (rw (noted k type_list t (omega arith) (omega arith) work (omega (arith, L.same_size, K.index.fits)) v e) is);
       }
 
   -- the entry of an enum
@@ -168,6 +183,7 @@ module _ {file : Bytes} {f : TermFile} {k terms : ℕ} {work₀ : List ℕ} (K :
             (λ n g. kept enum_offset n (record { other = λ h q. omega arith; facing = λ h q. omega arith }))
             (λ i g. kept list_row i (record { other = λ h q. omega arith; facing = λ h q. omega arith })) more)
             new;
+        noted = λ u g. rw (kept type_list u (record { other = λ h q. omega arith; facing = λ h q. omega arith })) (L.noted u g);
       }
 
   -- the list of a type's attributes
@@ -183,10 +199,13 @@ module _ {file : Bytes} {f : TermFile} {k terms : ℕ} {work₀ : List ℕ} (K :
       here : cell work k type_offset t ≡ cell work₀ k type_offset t
       here = L.same type_offset t l
 
+      noted_here : (v : ℕ) → TypeNoted f t v
+      noted_here v = record_noted v (attributes_here (subst (λ (o : ℕ). TypeAt file o r) here T) is f K.index l)
+
       go : ListAt c.body.now k terms type_list t c.from c.left 4 next work next' work' → Listing file f k work₀ (t + 1) 0 next' work'
       go (left_out rows filled room S e q) =
           let M = rows_kept (omega arith) (omega arith) room S L in
-          type_noted 0 l (omega arith) e M (λ base d names h. noted_none k type_list t (omega arith) few filled (omega (arith, M.same_size, K.index.fits)) base e d)
+          type_noted 0 l (omega arith) e M (λ base d names h. noted_none k type_list t (omega arith) few filled (omega (arith, M.same_size, K.index.fits)) base e d) (noted_here 0)
       go (made rows filled room S e q R P) =
           let M = rows_kept (omega arith) (omega arith) room S L in
           let fits : 12 * k ≤ length filled = omega (arith, M.same_size, K.index.fits) in
@@ -196,15 +215,18 @@ module _ {file : Bytes} {f : TermFile} {k terms : ℕ} {work₀ : List ℕ} (K :
           type_noted (suc next) l (omega arith) e M
           (λ base d names h. noted_list k type_list t (omega arith) few filled fits base e (λ i. record { other = λ h q. omega arith; facing = λ h q. omega arith }) R (P (omega (arith, L.same_size, K.index.fits)))
           (ap (body_at file) place ∙ sym (attributes_inside T is)) (names_listed names h) (K.ascends.attributes_ascend t names l h) q d)
+          (noted_here (suc next))
         where
           names_listed : (names : List Bytes) → HasAttributes f t names → names ≡ texts 4 c.left (drop c.from c.body.now)
           names_listed names h = let at = attributes_here (subst (λ (o : ℕ). TypeAt file o r) here T) is f K.index l in cc
 
-  -- a type that has none
-  pub type_unlisted : {t next : ℕ} {work work' : List ℕ} → t < length (types f) → Listing file f k work₀ t 0 next work → work' ≡ store work k type_list t 0 → Listing file f k work₀ (t + 1) 0 next work'
-  type_unlisted {t} {next} {work} {work'} l L e =
-      type_noted 0 l (omega arith) e L
-      (λ base c names q. noted_none k type_list t (omega arith) (omega (arith, K.index.fit, counts_together f)) work (omega (arith, L.same_size, K.index.fits)) base e c)
+  -- a type that has none, and is no entity type
+  pub type_unlisted : {t next v : ℕ} {r : TypeEntry} {work work' : List ℕ} → t < length (types f) → Listing file f k work₀ t 0 next work → TypeAt file (cell work k type_offset t) r → Sole r → TypeNoted f t v
+      → work' ≡ store work k type_list t v → Listing file f k work₀ (t + 1) 0 next work'
+  unfolding used_entries
+  type_unlisted {t} {next} {v} {r} {work} {work'} l L T sole note e =
+      type_noted v l (omega arith) e L
+      (λ base c names q. absurd (none-ne-some names (sym (sole_unattributed (subst (λ (o : ℕ). TypeAt file o r) (L.same type_offset t l) T) sole f K.index l) ∙ q))) note
 
   -- the list of an enum's members
   pub enum_listed : {n o : ℕ} {x : Texts} {next next' : ℕ} {work work' : List ℕ} → n < length (enums f) → Listing file f k work₀ (length (types f)) n next work → o ≡ cell work k enum_offset n → EnumAt file o x
@@ -235,11 +257,16 @@ module _ {file : Bytes} {f : TermFile} {k terms : ℕ} {work₀ : List ℕ} (K :
           names_listed : (names : List Bytes) → HasMembers f n names → names ≡ texts 0 x.left (drop x.from x.body.now)
           names_listed names h = sym h ∙ sym said.members_are ∙ ap (λ (y : ℕ). texts y x.left (drop x.from x.body.now)) said.dense
 
-  -- ---- all lists
+-- ---- all lists
 
-  pub listing_end : {next : ℕ} {work : List ℕ} → Listing file f k work₀ (length (types f)) (length (enums f)) next work → Relisted file f k work₀ work
-  listing_end L =
-      record {
-        index = rows_same L.same_size L.same L.slots (record { of_types = L.of_types.lists; of_enums = L.of_enums.lists }) K.index;
-        unnamed = unnamed_same L.same_size L.same;
-      }
+pub listing_end : {file : Bytes} {f : TermFile} {sizes : Sizes} {next : ℕ} {work₀ work : List ℕ} → CheckedIndex file f work₀ sizes → Listing file f sizes.rows work₀ (length (types f)) (length (enums f)) next work → IndexWithLists file f sizes work₀ work
+listing_end I L =
+    record {
+      index = record {
+        rows = rows_same L.same_size L.same L.slots (record { of_types = L.of_types.lists; of_enums = L.of_enums.lists }) I.rows;
+        sizes_are = I.sizes_are;
+        small = I.small;
+        noted = L.noted;
+      };
+      unnamed = unnamed_same L.same_size L.same;
+    }

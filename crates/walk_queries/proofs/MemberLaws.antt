@@ -92,7 +92,7 @@ module _ {file : Bytes} {work : List ℕ} {sizes : Sizes} {t : ℕ} {r : TypeEnt
     unfolding enum_of and_then
     members_noted f I l =
         let named : entity_name (type_at f t) ≡ some name.now = entity_named T is f I.rows l in
-        ap (λ (x : Option Bytes). and_then x (members f)) named ∙ number_members f name.now ∙ ap (members_at f) (sym (noted ∙ I.enum_noted t _ l named))
+        ap (λ (x : Option Bytes). and_then x (members f)) named ∙ number_members f name.now ∙ ap (members_at f) (sym (noted ∙ (I.noted t l).enum_is _ named))
 
     entity_enum : e < sizes.enums → IsEnumType file work sizes t (std.Some e)
     unfolding IsEnum members_at

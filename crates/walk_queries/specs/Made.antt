@@ -1,18 +1,20 @@
--- The lists of the attributes of types and the members of enums, as they are made: each in rows of its own, and nothing else changed. Then
--- the enums of entity types, as they are noted.
+-- The lists of the attributes of types and the members of enums, as they are made: each in rows of its own, and nothing else changed. And
+-- what is noted of other types where record types have their lists.
 -- Assumes nothing.
 use Rattle.std.specs.Prelude.{ℕ, zero, suc, ◌+◌, ◌*◌, ◌<◌, ◌≤◌, ◌≡◌, Bool, true, List, length, drop}
-use Rattle.std.proofs.Math.Option.{some}
+use denote.Ref.{Bor}
 use Rattle.script_spec.specs.Base.{Bytes, ascending}
 use Rattle.script_spec.specs.File as records
-use Rattle.script_spec.specs.Tree.{entity_name}
 use Rattle.script_spec.specs.File.{TermFile, types, enums, type_at}
 use Rattle.index.specs.Cells.{cell, store, Apart, type_offset, enum_offset, hash, enum_list, type_list, list_row}
 use Rattle.index.specs.Lists.{ListsOf}
-use Rattle.index.specs.Names.{enum_number}
-use Rattle.index.specs.Meaning.{used_entries, HasAttributes, HasMembers, Rows, CheckedIndex, Index, Unnamed}
+use Rattle.index.specs.Meaning.{used_entries, HasAttributes, HasMembers, Under, Rows, TypeNoted, SizesOf, CheckedIndex, Index, Unnamed}
 use Rattle.index.specs.declared.Sizes.{Sizes}
 use Rattle.index_entry.specs.Places.{rest_after_text}
+use Rattle.index_entry.specs.Types.{TypeAt}
+use Rattle.index_entry.specs.declared.terms.Children.{Children}
+use Rattle.index_entry.specs.declared.types.TypeEntry.{TypeEntry}
+use Rattle.index_entry.specs.declared.types.TypeEntry.TheVariants as entry
 
 -- every record type's attributes and every enum's members ascend
 pub record Ascends (f : TermFile) : Type 0 where
@@ -65,13 +67,14 @@ pub record Side (file : Bytes) (rows column offsets skip : ℕ) (has : ℕ → L
   pub lists : ListsOf file work rows column offsets skip count has
   pub before : (n base : ℕ) → n < count → cell work rows column n ≡ suc base → (names : List Bytes) → has n names → (j : ℕ) → 2 * j < length names → base + j < next
 
--- the lists of so many types and enums are made in the index of the records f, which was work₀
+-- the lists of so many types and enums are made in the index of the records f, which was work₀, and what is noted of so many types
 pub record Listing (file : Bytes) (f : TermFile) (rows : ℕ) (work₀ : List ℕ) (ty en next : ℕ) (work : List ℕ) : Type 0 where
   pub same_size : length work ≡ length work₀
   pub same : (column i : ℕ) → i < used_entries f column → cell work rows column i ≡ cell work₀ rows column i
   pub slots : (i : ℕ) → cell work rows hash i ≡ cell work₀ rows hash i
   pub of_types : Side file rows type_list type_offset 4 (HasAttributes f) ty next work
   pub of_enums : Side file rows enum_list enum_offset 0 (HasMembers f) en next work
+  pub noted : (t : ℕ) → t < ty → TypeNoted f t (cell work rows type_list t)
 
 -- the records f, whose index a memory is, with so many terms
 pub record KnownRecords (file : Bytes) (f : TermFile) (rows terms : ℕ) (work : List ℕ) : Type 0 where
@@ -79,32 +82,29 @@ pub record KnownRecords (file : Bytes) (f : TermFile) (rows terms : ℕ) (work :
   pub ascends : Ascends f
   pub terms_are : terms ≡ length (records.terms f)
 
--- the memory with all lists has still the rows of the records, and a name of none that had no name before
-pub record Relisted (file : Bytes) (f : TermFile) (rows : ℕ) (work₀ work : List ℕ) : Type 0 where
-  pub index : Rows file f work rows
-  pub unnamed : Unnamed file f work₀ rows → Unnamed file f work rows
+-- r is a type that the type p is, or that is under it, where it is one of those of which something is noted
+pub record UnderAt (file : Bytes) (sizes : Sizes) (p : ℕ) (work : List ℕ) (r : ℕ) : Type 0 where
+  pub go : (f : TermFile) (work₀ : List ℕ) (ty next : ℕ) → KnownRecords file f sizes.rows sizes.terms work₀ → p < length (types f) → p < ty → Listing file f sizes.rows work₀ ty 0 next work
+      → (r < length (types f)) × Under (type_at f p) (type_at f r)
 
-module _ (file : Bytes) (rows terms : ℕ) where
-  -- the list of the type t, after those of the types before it
-  pub record ListsType (t next : ℕ) (work : List ℕ) (next' : ℕ) (work' : List ℕ) : Type 0 where
-    pub go : (f : TermFile) (work₀ : List ℕ) → KnownRecords file f rows terms work₀ → t < length (types f) → Listing file f rows work₀ t 0 next work → Listing file f rows work₀ (t + 1) 0 next' work'
+-- a type has no enum's number and no list
+abbrev pub Sole : TypeEntry → Type 0
+Sole r = ((name : Bor Bytes) → r ≡ entry.Entity name → ⊥) × ((c : Children) → r ≡ entry.Record c → ⊥)
 
-  -- the list of the enum e, after those of the types and the enums before it
-  pub record ListsEnum (e next : ℕ) (work : List ℕ) (next' : ℕ) (work' : List ℕ) : Type 0 where
-    pub go : (f : TermFile) (work₀ : List ℕ) → KnownRecords file f rows terms work₀ → e < length (enums f) → Listing file f rows work₀ (length (types f)) e next work
-        → Listing file f rows work₀ (length (types f)) (e + 1) next' work'
+-- v is what is noted of the next type, which is this and neither an entity type nor a record type
+pub record NotesSole (file : Bytes) (sizes : Sizes) (r : TypeEntry) (work : List ℕ) (v : ℕ) : Type 0 where
+  pub go : (f : TermFile) (work₀ : List ℕ) (t next : ℕ) → KnownRecords file f sizes.rows sizes.terms work₀ → t < length (types f) → Listing file f sizes.rows work₀ t 0 next work
+      → TypeAt file (cell work sizes.rows type_offset t) r → Sole r → TypeNoted f t v
 
--- ---- the enums of entity types
+-- the list of the type t, or what is noted of it, after those of the types before it
+pub record ListsType (file : Bytes) (sizes : Sizes) (t next : ℕ) (work : List ℕ) (next' : ℕ) (work' : List ℕ) : Type 0 where
+  pub go : (f : TermFile) (work₀ : List ℕ) → KnownRecords file f sizes.rows sizes.terms work₀ → SizesOf f sizes → t < length (types f) → Listing file f sizes.rows work₀ t 0 next work
+      → Listing file f sizes.rows work₀ (t + 1) 0 next' work'
 
--- the enums of the first n types are noted in the index of the records f, which was work₀, and no record has a name that had none before
-pub record EnumsNoted (file : Bytes) (f : TermFile) (sizes : Sizes) (work₀ : List ℕ) (n : ℕ) (work : List ℕ) : Type 0 where
-  pub index : CheckedIndex file f work sizes
-  pub unnamed : Unnamed file f work₀ sizes.rows → Unnamed file f work sizes.rows
-  pub noted : (t : ℕ) (name : Bytes) → t < n → entity_name (type_at f t) ≡ some name → cell work sizes.rows type_list t ≡ enum_number f name
-
--- the enum of the type t, after those of the types before it
-pub record NotesEnum (file : Bytes) (sizes : Sizes) (t : ℕ) (work work' : List ℕ) : Type 0 where
-  pub go : (f : TermFile) (work₀ : List ℕ) → t < length (types f) → EnumsNoted file f sizes work₀ t work → EnumsNoted file f sizes work₀ (t + 1) work'
+-- the list of the enum e, after those of the types and the enums before it
+pub record ListsEnum (file : Bytes) (rows terms : ℕ) (e next : ℕ) (work : List ℕ) (next' : ℕ) (work' : List ℕ) : Type 0 where
+  pub go : (f : TermFile) (work₀ : List ℕ) → KnownRecords file f rows terms work₀ → e < length (enums f) → Listing file f rows work₀ (length (types f)) e next work
+      → Listing file f rows work₀ (length (types f)) (e + 1) next' work'
 
 -- ---- the whole
 

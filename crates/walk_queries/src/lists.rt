@@ -1,12 +1,12 @@
 // The lists of the attributes of record types and of the members of enums, made after an accepted file is read. A list is made where
 // it has enough texts, and only while its rows fit before those of the terms, with which they share a column. An entity type, which has no
-// list, gets the number of its enum where another type has its list.
+// list, gets the number of its enum where another type has its list, and an option or a set that of the type under all of them.
 ghost use Rattle.std.specs.Prelude.{◌≡◌, IfSome, ◌+◌, ◌≤◌};
 ghost use Rattle.index.specs.Cells.{number};
 ghost use Rattle.index.specs.Held.{Stays};
-ghost use Rattle.walk_queries.specs.Made.{RowsOf, Fits, RowsMade, ListAt, ListsType, ListsEnum, NotesEnum, MakesLists};
+ghost use Rattle.walk_queries.specs.Made.{RowsOf, Fits, RowsMade, ListAt, UnderAt, NotesSole, ListsType, ListsEnum, MakesLists};
 
-use index::{Column, RecordsMut, Sizes};
+use index::{Column, Records, RecordsMut, Sizes};
 use index_entry::lists::{self, Texts};
 use index_entry::symbols;
 use index_entry::types::{self, TypeEntry};
@@ -64,18 +64,47 @@ fn list_at(records: &mut RecordsMut<'_>, column: Column, n: u32, next: u32, amon
     next
 }
 
-// The list of the attributes of the type with number t, if it is a record type.
+// A type whose notes are made, that the type with number p is, or that is under it where it is an option or a set.
+fn under(records: Records<'_>, p: u32) -> u32
+    ensures { UnderAt records.entry.file.now records.entry.sizes p records.entry.work.now result }
+{
+    match types::type_at(records.file, records.get(Column::TypeOffset, p)) {
+        TypeEntry::Option(_) => records.get(Column::TypeList, p),
+        TypeEntry::Set(_) => records.get(Column::TypeList, p),
+        _ => p,
+    }
+}
+
+// What is noted of a type that is neither an entity type nor a record type: of an option or a set the type that is under its part.
+fn note_of(records: Records<'_>, ty: TypeEntry<'_>) -> u32
+    ensures { NotesSole records.entry.file.now records.entry.sizes ty.entry records.entry.work.now result }
+{
+    match ty {
+        TypeEntry::Option(p) => under(records, p),
+        TypeEntry::Set(p) => under(records, p),
+        _ => 0,
+    }
+}
+
+// The list of the attributes of the type with number t, if it is a record type, or the enum of an entity type: how many enums there are
+// where it is none; or the type under an option or a set.
 fn list_type(records: &mut RecordsMut<'_>, t: u32, next: u32) -> u32
     ensures stays { Stays records.old records.new }
-    ensures made { ListsType records.old.file.now records.old.sizes.rows records.old.sizes.terms t next records.old.work.now result records.new.work.now }
+    ensures made { ListsType records.old.file.now records.old.sizes t next records.old.work.now result records.new.work.now }
 {
     let offset = records.get(Column::TypeOffset, t);
     match types::type_at(records.file, offset) {
         TypeEntry::Record(attributes) => {
             list_at(records, Column::TypeList, t, next, attributes.names())
         }
-        _ => {
-            records.set(Column::TypeList, t, 0);
+        TypeEntry::Entity(name) => {
+            let e = index_search::enums::find(records.view(), name);
+            records.set(Column::TypeList, t, e.unwrap_or(records.sizes.enums));
+            next
+        }
+        ty => {
+            let note = note_of(records.view(), ty);
+            records.set(Column::TypeList, t, note);
             next
         }
     }
@@ -91,18 +120,6 @@ fn list_enum(records: &mut RecordsMut<'_>, e: u32, next: u32) -> u32
     list_at(records, Column::EnumList, e, next, members)
 }
 
-// Notes the enum of the type with number t, if it is an entity type: how many enums there are where it is none.
-fn note_enum(records: &mut RecordsMut<'_>, t: u32)
-    ensures stays { Stays records.old records.new }
-    ensures made { NotesEnum records.old.file.now records.old.sizes t records.old.work.now records.new.work.now }
-{
-    let offset = records.get(Column::TypeOffset, t);
-    if let TypeEntry::Entity(name) = types::type_at(records.file, offset) {
-        let e = index_search::enums::find(records.view(), name);
-        records.set(Column::TypeList, t, e.unwrap_or(records.sizes.enums));
-    }
-}
-
 // The lists of the types and the enums, and the enums of the entity types, so that no entity asks for its enum by a name; in the index of an
 // accepted file.
 pub fn make_lists(records: &mut RecordsMut<'_>)
@@ -116,8 +133,5 @@ pub fn make_lists(records: &mut RecordsMut<'_>)
     }
     for e in 0..sizes.enums {
         next = list_enum(records, e, next);
-    }
-    for t in 0..sizes.types {
-        note_enum(records, t);
     }
 }

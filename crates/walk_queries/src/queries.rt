@@ -78,14 +78,12 @@ fn is_other(file: &[u8], offset: u32) -> bool
     letter_at(file, offset) != b'A' || is_other_code(body_at(file, offset))
 }
 
-// What the term with number n is as a `Bvnego`.
-pub fn negation_of(records: Records<'_>, n: u32) -> Negated
+// What the term with number n is as a `Bvnego`, by all that its record has.
+#[inline(never)]
+fn negation_read(records: Records<'_>, n: u32) -> Negated
     ensures { NegationOf records.entry.file.now records.entry.work.now records.entry.sizes n result }
 {
     let offset = records.get(Column::TermOffset, n);
-    if is_other(records.file, offset) {
-        return Negated::Ordinary;
-    }
     let TermEntry::App(t, op, c) = terms::term_at(records.file, offset) else {
         return Negated::Ordinary;
     };
@@ -93,6 +91,16 @@ pub fn negation_of(records: Records<'_>, n: u32) -> Negated
         return Negated::Ordinary;
     }
     negation_with(records, t, c)
+}
+
+// What the term with number n is as a `Bvnego`. The record of another term is not read in full.
+pub fn negation_of(records: Records<'_>, n: u32) -> Negated
+    ensures { NegationOf records.entry.file.now records.entry.work.now records.entry.sizes n result }
+{
+    if is_other(records.file, records.get(Column::TermOffset, n)) {
+        return Negated::Ordinary;
+    }
+    negation_read(records, n)
 }
 
 // Where an attribute stands in the type with number t.

@@ -27,7 +27,9 @@ fn children_at(file: &[u8], offset: u32) -> Children<'_>
     }
 }
 
-// The children of the term with number n that are encoded before it: none under the `false` of a `Bvnego`.
+// The children of the term with number n that are encoded before it: none under the `false` of a `Bvnego`. Out of line it takes no stack
+// while they are encoded.
+#[inline(never)]
 fn to_encode<'a>(walk: &Walk<'_, 'a, '_, '_>, n: u32) -> Children<'a>
     ensures { ToEncode walk.now n result }
 {
@@ -37,7 +39,9 @@ fn to_encode<'a>(walk: &Walk<'_, 'a, '_, '_>, n: u32) -> Children<'a>
     }
 }
 
-// Encodes the type of the term with number n. The walk over types is called only where something may be left to declare.
+// Encodes the type of the term with number n. The walk over types is called only where something may be left to declare. Out of line it
+// takes no stack while the children are encoded.
+#[inline(never)]
 fn encode_own_type(walk: &mut Walk, n: u32)
     ensures { Passes (term_ready n) (own_type_walk n) walk.old walk.new }
 {

@@ -1,29 +1,29 @@
 -- Types that have nothing left to declare: by their marks, by the part of an option or a set, and by a name. The walk over such a type
 -- changes nothing.
 -- Assumes nothing.
-use Prim.Native.Nat.{ℕ, ◌<◌}
+use Prim.Native.Nat.{ℕ}
 use mathlib.Core.Path.{◌≡◌, refl, sym, ap, ◌∙◌, subst}
 use mathlib.Core.Logic.{◌⊎◌, inl, inr}
 use mathlib.Core.Bool.{Bool, true, false}
 use mathlib.Core.List.{List, [], ◌∷◌, map}
 use mathlib.Core.Option.{none, some}
-use native.Mathlib.Omega.{arith}
 use lib.ListN.{get_or}
 use Rattle.std.specs.Prelude as std
 use Rattle.script_spec.specs.Base.{Bytes, bytes, any}
-use Rattle.script_spec.specs.Tree.{Ty, TypeMark, Forest, Enums, node, forest, eq_ty, datatype, datatype_mark, Bool·, String·, BitVec·}
+use Rattle.script_spec.specs.Tree.{Ty, TypeMark, Forest, Enums, node, nil, cons, forest, eq_ty, datatype, datatype_mark, Bool·, String·, BitVec·}
 use Rattle.script_spec.specs.Fields.{type}
 use Rattle.script_spec.specs.File.{members, type_at}
 use Rattle.script_spec.specs.Walk.{State, went, declare_type, encode_type, encode_types}
 use Rattle.script_spec.proofs.Laws.{never}
 use Rattle.refusal.specs.Numbers.{option_of}
-use Rattle.index.specs.Cells.{cell, type_offset, type_first}
+use Rattle.index.specs.Cells.{cell, type_offset, type_first, type_list}
+use Rattle.index.specs.Meaning.{Under, itself, deeper}
 use Rattle.index.specs.Standing.{mark_at, body_at, entry_at}
 use Rattle.index.specs.declared.Records.{Records}
 use Rattle.walk_names.specs.Naming.{type_names, name_at, place_of}
 use Rattle.walk_names.proofs.Names.{known_type}
 use Rattle.walk_names.proofs.Steps.{then_went}
-use Rattle.index_entry.specs.Types.{type_said, IsType, PartAt}
+use Rattle.index_entry.specs.Types.{type_said, IsType}
 use Rattle.index_entry.proofs.Letters.{type_marked}
 use Rattle.index_entry.proofs.Rows.{type_stands}
 use Rattle.index_entry.proofs.TypeEntries.{under, type_bool, type_string, type_bitvec, type_option, type_set, type_at_lem}
@@ -52,18 +52,10 @@ module _ (file : Bytes) (o : ℕ) {l : ℕ} (i : l ≡ get_or (mark_at file o) 1
   settles_mark (inr (inl h)) = by_mark entry.String String· refl refl (under h type_string)
   settles_mark (inr (inr h)) = by_mark (entry.BitVec _) (BitVec· _) refl refl (under h (type_bitvec refl))
 
-  pub settles_part : {n : ℕ} → (l ≡ 67) ⊎ (l ≡ 79) → PartAt file o n → SettlesBy file o (by.Part n)
+  pub settles_part : (l ≡ 67) ⊎ (l ≡ 79) → SettlesBy file o by.Part
   unfolding type_said datatype_mark settled_said bytes
-  settles_part (inl h) P = record {
-    go = λ m rs g.
-        let e = mark_is (entry.Set _) refl (under h (type_set refl)) g in
-        (P.set rs (rw e.0 at g), ap datatype_mark e.0);
-  }
-  settles_part (inr h) P = record {
-    go = λ m rs g.
-        let e = mark_is (entry.Option _) refl (under h (type_option refl)) g in
-        (P.option rs (rw e.0 at g), ap datatype_mark e.0);
-  }
+  settles_part (inl h) = record { go = λ m rs g. let e = mark_is (entry.Set _) refl (under h (type_set refl)) g in (_, e.1, ap datatype_mark e.0) }
+  settles_part (inr h) = record { go = λ m rs g. let e = mark_is (entry.Option _) refl (under h (type_option refl)) g in (_, e.1, ap datatype_mark e.0) }
 
 pub settles_name : {file : Bytes} {o : ℕ} → SettlesBy file o by.Name
 unfolding settled_said
@@ -85,6 +77,13 @@ part_settled : (e : Enums) (t : Ty) (S : State) → encode_type e t S ≡ went S
 unfolding encode_types forest
 part_settled e t S h = then_went (encode_type e t) went S S h
 
+-- a type that another is under
+under_settled : (e : Enums) (S : State) {x y : Ty} → Under x y → encode_type e y S ≡ went S → encode_type e x S ≡ went S
+unfolding forest
+under_settled e S itself h = h
+under_settled e S (deeper {m} {part} plain U) h =
+    parts_settled e m (cons part nil) (node m (cons part nil)) S refl plain (part_settled e part S (under_settled e S U h))
+
 module _ {records : Records} {t : ℕ} where
   pub settled_mark : {o : ℕ} {x : SettledBy} → o ≡ cell records.work.now records.sizes.rows type_offset t → x ≡ by.Mark → SettlesBy records.file.now o x → Settled records t true
   unfolding settled_said type_walk encode_types forest
@@ -95,15 +94,18 @@ module _ {records : Records} {t : ℕ} where
         parts_settled (members f) m (forest (map (type_at f) rs)) (type_at f t) S tree b.1 (rw b.0));
   }
 
-  pub settled_part : {o n : ℕ} {x : SettledBy} {r : Bool} → o ≡ cell records.work.now records.sizes.rows type_offset t → x ≡ by.Part n → SettlesBy records.file.now o x → n < t → Settled records n r
-      → Settled records t r
-  unfolding settled_said type_walk
-  settled_part {o} {n} place told B less P = record {
+  -- an option or a set, where the type is settled that is noted as under all of them
+  pub settled_part : {o n : ℕ} {x : SettledBy} {r : Bool} → o ≡ cell records.work.now records.sizes.rows type_offset t → x ≡ by.Part → SettlesBy records.file.now o x
+      → n ≡ cell records.work.now records.sizes.rows type_list t → Settled records n r → Settled records t r
+  unfolding settled_said type_walk forest
+  settled_part {o} {n} place told B noted P = record {
     go = λ h f S I N l.
         type_stands (I.rows.type_row t l).stands (λ m rs reads below tree.
         let b = (subst (SettlesBy records.file.now o) told B).go m rs (rw place reads) in
-        parts_settled (members f) m (forest (map (type_at f) rs)) (type_at f t) S tree b.1
-        (rw b.0 (part_settled (members f) (type_at f n) S (P.go h f S I N (omega arith)))));
+        let is : node m (cons (type_at f b.0) nil) ≡ type_at f t = rw b.1 at tree in
+        let under = rw (← noted) at ((I.noted t l).under_is m (type_at f b.0) (sym is) b.2) in
+        parts_settled (members f) m (forest (type_at f b.0 ∷ [])) (type_at f t) S is b.2
+        (part_settled (members f) (type_at f b.0) S (under_settled (members f) S under.1 (P.go h f S I N under.0))));
   }
 
   pub settled_name : (name : std.Option ℕ) {r : Bool} → option_of name ≡ place_of (name_at records.work.now records.sizes.rows type_first type_names t) → r ≡ std.is_some name → Settled records t r
@@ -112,14 +114,3 @@ module _ {records : Records} {t : ℕ} where
 
   pub unsettled : Settled records t false
   unsettled = record { go = λ h f S I N l. never cc }
-
--- whether one type is settled tells it of another
-pub record Follows (records : Records) (t u : ℕ) : Type 0 where
-  pub go : (r : Bool) → Settled records u r → Settled records t r
-
-pub follows_itself : {records : Records} {t : ℕ} → Follows records t t
-follows_itself = record { go = λ r P. P }
-
-pub follows_part : {records : Records} {t u o n : ℕ} {x : SettledBy} → Follows records t u → o ≡ cell records.work.now records.sizes.rows type_offset u → x ≡ by.Part n → SettlesBy records.file.now o x → n < u
-    → Follows records t n
-follows_part F place told B less = record { go = λ r P. F.go r (settled_part place told B less P) }

@@ -1,8 +1,9 @@
 -- The walk over a type and its parts: what has a name is left, what is new comes after its parts; parts are encoded one after the other.
 -- Assumes nothing.
 use Prim.Native.Nat.{ℕ, ◌<◌, ◌≤◌}
-use mathlib.Core.Path.{◌≡◌, refl, ◌∙◌}
-use mathlib.Core.Bool.{true, false}
+use mathlib.Core.Path.{◌≡◌, refl, sym, ◌∙◌}
+use mathlib.Core.Option.{none}
+use mathlib.Core.Bool.{Bool, true, false}
 use mathlib.Core.List.{List, [], ◌∷◌, map}
 use native.Mathlib.Omega.{arith}
 use Rattle.std.specs.Prelude as std
@@ -14,6 +15,7 @@ use Rattle.refusal.specs.Numbers.{option_of}
 use Rattle.index.specs.Cells.{cell, type_offset, type_first}
 use Rattle.index.specs.First.{All, Below}
 use Rattle.index.specs.Meaning.{counted}
+use Rattle.index.specs.declared.Records.{Records}
 use Rattle.index_entry.specs.Terms.{children_in}
 use Rattle.index_entry.specs.declared.terms.Children.{Children}
 use Rattle.index_entry.proofs.Rows.{type_stands}
@@ -23,19 +25,38 @@ use Rattle.walk_names.specs.declared.walk.Walk.{Walk}
 use Rattle.walk_names.proofs.Names.{known_type}
 use Rattle.walk_names.proofs.Advancing.{remains_refl, remains_trans, indexed_remains, went_on, advances_passed, advances_by, advances_then}
 use Rattle.walk_names.proofs.Steps.{then_went}
-use Rattle.walk_types.specs.Types.{type_ready, type_walk, PartsAt, PartsReady, parts_walk, NewType, declare_walk}
+use Rattle.walk_types.specs.Types.{type_ready, type_walk, PartsAt, PartsReady, parts_walk, NewType, declare_walk, Settled, IsLeft}
+use Rattle.script_spec.proofs.Laws.{never}
 use Rattle.walk_types.proofs.Declaring.{type_left, type_new, type_still_new}
 
 -- ---- a type
 
-module _ (t : ℕ) {v : Walk} (r : std.Option ℕ) (e : option_of r ≡ place_of (name_at (memory v) (rows v) type_first type_names t)) where
+none_is : (r : std.Option ℕ) → std.is_some r ≡ false → option_of r ≡ none
+none_is std.None h = refl
+none_is (std.Some n) h = never cc
+
+-- a settled type is left
+pub leaves_settled : {t : ℕ} {v : Walk} {q : Records} {b : Bool} → (q.file.now ≡ v.records.now.file.now) × (q.work.now ≡ v.records.now.work.now) × (q.sizes ≡ v.records.now.sizes) → Settled q t b
+    → b ≡ true → Passes (type_ready t) (type_walk t) v v
+unfolding type_ready
+leaves_settled V P h = advances_passed (λ f limit o S I R W. P.go h f S (rw (V.0, V.1, V.2) I) (rw (V.1, V.2) W.numbers) R)
+
+module _ {t : ℕ} {v : Walk} where
   -- a type that has a name is left
-  pub leaves_type : std.is_some r ≡ true → Passes (type_ready t) (type_walk t) v v
-  unfolding type_ready type_walk
-  leaves_type h = advances_passed (λ f limit o S I R W. type_left (members f) (type_at f t) S (known_type I.rows W.numbers t r R e ∙ h))
+  module _ (r : std.Option ℕ) {b : Bool} (e : option_of r ≡ place_of (name_at (memory v) (rows v) type_first type_names t)) (q : b ≡ std.is_some r) where
+    pub left_named : b ≡ true → IsLeft t v true
+    unfolding type_ready type_walk
+    left_named h = record {
+      left = λ g. advances_passed (λ f limit o S I R W. type_left (members f) (type_at f t) S (known_type I.rows W.numbers t r R e ∙ sym q ∙ h));
+      new = λ g. never cc;
+    }
+
+    -- and so is a settled one
+    pub left_settled : {p : Records} {s : Bool} → b ≡ false → (p.file.now ≡ v.records.now.file.now) × (p.work.now ≡ v.records.now.work.now) × (p.sizes ≡ v.records.now.sizes) → Settled p t s → IsLeft t v s
+    left_settled h V P = record { left = leaves_settled V P; new = λ g. sym e ∙ none_is r (sym q ∙ h) }
 
   -- any other comes after its parts
-  pub encodes_type : {c : Children} {w x : Walk} → std.is_some r ≡ false → PartsAt v.records.now.file.now (cell (memory v) (rows v) type_offset t) c
+  pub encodes_type : {c : Children} {w x : Walk} → place_of (name_at (memory v) (rows v) type_first type_names t) ≡ none → PartsAt v.records.now.file.now (cell (memory v) (rows v) type_offset t) c
       → Passes (PartsReady t (children_in c)) (parts_walk (children_in c)) v w → Passes (NewType t) (declare_walk t) w x → Passes (type_ready t) (type_walk t) v x
   unfolding type_ready type_walk parts_walk declare_walk counted
   encodes_type {c} {w} {x} h P A D = record {
@@ -44,7 +65,7 @@ module _ (t : ℕ) {v : Walk} (r : std.Option ℕ) (e : option_of r ≡ place_of
         type_stands (I.rows.type_row t R).stands (λ m rs reads below tree.
         let ps : children_in c ≡ rs = P.go m rs reads in
         let tree' = rw (← ps) at tree in
-        let new = known_type I.rows W.numbers t r R e ∙ h in
+        let new = known_type I.rows W.numbers t std.None R (sym h) in
         let ts = forest (map (type_at f) (children_in c)) in
         went_on {P = Holds f limit o x (Ok tt) (encode_type (members f) (type_at f t) S)} (encode_types (members f) ts S) (A.go f limit o S I (record { inside = R; below = rw ps below }) W) (λ S₁ q W₁.
         rw (← type_new (members f) m ts (type_at f t) S tree' new, then_went (encode_types (members f) ts) (declare_walk t f) S S₁ q)

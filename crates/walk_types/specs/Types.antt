@@ -11,7 +11,10 @@ use Rattle.script_spec.specs.Walk.{State, went, Walk, writing, declare_type, enc
 use Rattle.index.specs.First.{Below}
 use Rattle.index.specs.Standing.{entry_at}
 use Rattle.index.specs.declared.Records.{Records}
-use Rattle.walk_names.specs.Naming.{IndexOf, NumbersOf}
+use Rattle.index.specs.Cells.{type_first}
+use Rattle.walk_names.specs.Naming.{type_names, name_at, place_of, IndexOf, NumbersOf}
+use Rattle.walk_names.specs.Progress.{memory, rows, Passes}
+use Rattle.walk_names.specs.declared.walk.Walk as names
 use Rattle.index_entry.specs.Terms.{children_in}
 use Rattle.index_entry.specs.declared.terms.Children.{Children}
 use Rattle.write_types.specs.Functions.{id_of}
@@ -63,7 +66,7 @@ pub record IsDatatype (records : Records) (t : ℕ) (r : Bool) : Type 0 where
 -- what a type's record has where this tells whether the type is settled
 unfoldable pub settled_said : TypeMark → List ℕ → SettledBy → Type 0
 settled_said m rs by.Mark = (rs ≡ []) × (datatype_mark m ≡ none)
-settled_said m rs (by.Part n) = (rs ≡ n ∷ []) × (datatype_mark m ≡ none)
+settled_said m rs by.Part = (n : ℕ) × (rs ≡ n ∷ []) × (datatype_mark m ≡ none)
 settled_said m rs by.Name = Unit {0}
 
 -- this tells whether a record that is a type at an offset of a file is settled
@@ -73,6 +76,11 @@ pub record SettlesBy (file : Bytes) (offset : ℕ) (r : SettledBy) : Type 0 wher
 -- the walk over a settled type changes nothing, whatever file was accepted and whatever tables the memory has
 pub record Settled (records : Records) (t : ℕ) (r : Bool) : Type 0 where
   pub go : r ≡ true → (f : TermFile) (S : State) → IndexOf f records → NumbersOf f records S → t < length (types f) → type_walk t f S ≡ went S
+
+-- r is whether the type with number t is left: nothing is done for it, and else it has no name
+pub record IsLeft (t : ℕ) (v : names.Walk) (r : Bool) : Type 0 where
+  pub left : r ≡ true → Passes (type_ready t) (type_walk t) v v
+  pub new : r ≡ false → place_of (name_at (memory v) (rows v) type_first type_names t) ≡ none
 
 -- ---- functions
 

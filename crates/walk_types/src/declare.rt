@@ -25,7 +25,8 @@ fn is_datatype(records: Records<'_>, t: u32) -> bool
     is_declared(index_entry::records::letter_at(records.file, offset))
 }
 
-// Names the type with number t and declares it, if it is a datatype.
+// Names the type with number t and declares it, if it is a datatype. Out of line it takes no stack while the parts are encoded.
+#[inline(never)]
 pub fn declare_type(walk: &mut Walk, t: u32)
     ensures { Passes (NewType t) (declare_walk t) walk.old walk.new }
 {

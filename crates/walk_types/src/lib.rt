@@ -7,19 +7,31 @@ pub mod settled;
 
 ghost use Rattle.index_entry.specs.Terms.{children_in};
 ghost use Rattle.walk_names.specs.Progress.{Passes};
-ghost use Rattle.walk_types.specs.Types.{type_ready, type_walk, PartsReady, parts_walk, fun_ready, fun_walk};
+ghost use Rattle.walk_types.specs.Types.{type_ready, type_walk, IsLeft, PartsReady, parts_walk, fun_ready, fun_walk};
 
 use index::Column;
 use index_entry::terms::Children;
 use walk_names::naming::{self, Named};
 use walk_names::walk::Walk;
 
-// Encodes the type with number t: its parts, then itself. A type that has a name is left.
+// Whether the type with number t is left: it has a name, or nothing is to be declared for it. Out of line it takes no stack while the parts
+// are encoded.
+#[inline(never)]
+fn is_left(walk: &Walk, t: u32) -> bool
+    ensures { IsLeft t walk.now result }
+{
+    if naming::get(walk.records.view(), Named::Types, t).is_some() {
+        return true;
+    }
+    settled::is_settled(walk.records.view(), t)
+}
+
+// Encodes the type with number t: its parts, then itself. A type that has a name is left, and an option or a set of one too.
 #[cycle(encode_type_encode_types)]
 pub fn encode_type(walk: &mut Walk, t: u32)
     ensures { Passes (type_ready t) (type_walk t) walk.old walk.new }
 {
-    if naming::get(walk.records.view(), Named::Types, t).is_some() {
+    if is_left(walk, t) {
         return;
     }
     let offset = walk.records.get(Column::TypeOffset, t);

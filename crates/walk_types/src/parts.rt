@@ -5,7 +5,9 @@ use index_entry::records;
 use index_entry::terms::Children;
 use index_entry::types::{self, TypeEntry};
 
-// The parts of the type at an offset of the file: that of an option or a set, and those of a record type.
+// The parts of the type at an offset of the file: that of an option or a set, and those of a record type. Out of line it takes no
+// stack while they are encoded.
+#[inline(never)]
 pub fn parts_at(file: &[u8], offset: u32) -> Children<'_>
     ensures { PartsAt file.now offset result }
 {

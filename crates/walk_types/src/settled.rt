@@ -8,7 +8,7 @@ use walk_names::naming::{self, Named};
 #[derive(Clone, Copy)]
 enum SettledBy {
     Mark,
-    Part(u32),
+    Part,
     Name,
 }
 
@@ -18,26 +18,28 @@ fn settled_by(file: &[u8], offset: u32) -> SettledBy
 {
     match index_entry::records::letter_at(file, offset) {
         b'B' | b'S' | b'V' => SettledBy::Mark,
-        b'O' | b'C' => SettledBy::Part(index_entry::types::part_at(file, offset)),
+        b'O' | b'C' => SettledBy::Part,
         _ => SettledBy::Name,
     }
 }
 
-// Whether the walk over the type with number t has nothing to do. It goes down to the part of an option or a set, which has a lower number.
+// Whether the walk over the type with number t has nothing to do, where this is no option and no set; of those nothing is said.
+fn is_settled_itself(records: Records<'_>, t: u32) -> bool
+    ensures { Settled records.entry t result }
+{
+    match settled_by(records.file, records.get(Column::TypeOffset, t)) {
+        SettledBy::Mark => true,
+        SettledBy::Part => false,
+        SettledBy::Name => naming::get(records, Named::Types, t).is_some(),
+    }
+}
+
+// Whether the walk over the type with number t has nothing to do. An option or a set asks the type that is noted as under all of them.
 pub fn is_settled(records: Records<'_>, t: u32) -> bool
     ensures { Settled records.entry t result }
 {
-    let mut u = t;
-    loop {
-        match settled_by(records.file, records.get(Column::TypeOffset, u)) {
-            SettledBy::Mark => return true,
-            SettledBy::Name => return naming::get(records, Named::Types, u).is_some(),
-            SettledBy::Part(n) => {
-                if u <= n {
-                    return false;
-                }
-                u = n;
-            }
-        }
+    match settled_by(records.file, records.get(Column::TypeOffset, t)) {
+        SettledBy::Part => is_settled_itself(records, records.get(Column::TypeList, t)),
+        _ => is_settled_itself(records, t),
     }
 }

@@ -3,17 +3,25 @@
 use mathlib.Core.Path.{◌≡◌, refl, sym, ap, ◌∙◌}
 use mathlib.Core.Bool.{false}
 use mathlib.Core.List.{List, []}
-use mathlib.Core.Option.{Option, none, some}
-use Prim.Native.Nat.{ℕ}
-use Rattle.script_spec.specs.Base.{Bytes, bytes, is_some, same, place}
+use mathlib.Core.Option.{Option, none, some, none-ne-some}
+use Rattle.std.specs.Prelude as std
+use Rattle.std.specs.Prelude.{SomeIff}
+use Prim.Native.Nat.{ℕ, suc, ◌-◌, ◌≤◌}
+use native.Mathlib.Omega.{arith}
+use Rattle.script_spec.specs.Base.{Bytes, bytes, is_some, and_then, same, place}
 use Rattle.script_spec.specs.Tree.{Ty, Fun, Tm, Op, Enums, Forest, Mark, node, Entity, App, type_of, types_of, type_from, enum_of, Negation, falsehood, negation, is_falsehood}
-use Rattle.script_spec.specs.File.{type_at, term_at, members}
+use Rattle.script_spec.specs.File.{TermFile, type_at, term_at, members}
 use Rattle.script_spec.specs.Spelling.{Names, sort, member_name, member_by, entity_by, application, negated, body_over, body, inlined, atom}
-use Rattle.script_spec.specs.Walk.{names}
+use Rattle.script_spec.specs.Walk.{State, names}
+use Rattle.script_spec.proofs.Laws.{never}
 use Rattle.walk_queries.proofs.NegationLaws.{falsehood_is}
 use Rattle.write_bytes.specs.declared.writer.Writer.{Writer}
 use Rattle.write_bytes.specs.Writers.{Writes}
+use Rattle.index.specs.Cells.{cell, term_first, note}
+use Rattle.index.specs.First.{first_term}
 use Rattle.index.specs.declared.Records.{Records}
+use Rattle.index.proofs.Firsts.{first_below, first_terms}
+use Rattle.walk_names.specs.Naming.{place_of, IndexOf, NumbersOf}
 use Rattle.write_atoms.specs.Parts.{term_name_of, SpellsNumbered}
 use Rattle.write_atoms.proofs.Numbered.{name_is}
 use Rattle.walk_queries.specs.Negations.{negation_said, NegationOf}
@@ -41,6 +49,43 @@ entity_named : (e : Enums) (T : Ty) (id : Bytes) (ts : Forest Mark) → enum_of 
 unfolding inlined is_some
 entity_named e T id ts h = ap is_some h
 
+-- a place that is noted
+noted_there : (m i : ℕ) (o : std.Option ℕ) → SomeIff o (1 ≤ m) (m - 1) → o ≡ std.Some i → place_of m ≡ some i
+unfolding place_of
+noted_there m i std.None h e = never cc
+noted_there m i (std.Some j) h e = let same_place : j ≡ i = cc in let is : m ≡ suc i = omega (arith, h.0, h.1, same_place) in rw is refl
+
+-- a place in what may be an enum is one in an enum
+in_enum : (e : Enums) (T : Ty) (id : Bytes) {i : ℕ} → and_then (enum_of e T) (place (same id)) ≡ some i → Placed e T id (some i)
+unfolding and_then
+in_enum e T id {i} = by (enum_of e T) refl
+  where
+    by : (o : Option (List Bytes)) → enum_of e T ≡ o → and_then o (place (same id)) ≡ some i → Placed e T id (some i)
+    by none h q = never cc
+    by (some ms) h q = record { members = ms; are = h; is = q }
+
+module _ {records : Records} {n t : ℕ} {id : Bytes} {i : ℕ} {v w : Writer} (P : SpellsNumbered records t (bytes "_m") i v w) where
+  -- a member by its place
+  member_by_place : ((f : TermFile) (S : State) → IndexOf f records → NumbersOf f records S → EntityIs n t id f → Placed (members f) (type_at f t) id (some i)) → SpellsEntity records n t id v w
+  unfolding member_by member_name
+  member_by_place h =
+      spells_as (λ f S I N (k : EntityIs n t id f).
+      let found : Placed (members f) (type_at f t) id (some i) = h f S I N k in
+      member_is (members f) (names S) _ id k.children _ (some i) found.are found.is ∙ ap (atom (members f) (names S)) k.tree) (knowing (λ f I k. k.type_inside) P)
+
+  -- by the place that is noted of the first equal term
+  pub entity_noted : {first m : ℕ} (o : std.Option ℕ) → first ≡ cell records.work.now records.sizes.rows term_first n → m ≡ cell records.work.now records.sizes.rows note first → SomeIff o (1 ≤ m) (m - 1) → o ≡ std.Some i
+      → SpellsEntity records n t id v w
+  unfolding place_of
+  entity_noted {m = m} o at read h e =
+      let there : place_of m ≡ some i = noted_there m i o h e in
+      member_by_place (λ f S I N k.
+      let F = first_terms f in
+      let first_is = at ∙ (I.rows.term_row n k.inside).first in
+      let is = read ∙ ap (cell records.work.now records.sizes.rows note) first_is in
+      let says = N.notes.says (first_term f n) (first_below F n k.inside) (λ z. none-ne-some i (ap place_of (sym (is ∙ z)) ∙ there)) in
+      in_enum (members f) (type_at f t) id (says.entity _ id k.children (F.names n k.inside ∙ sym k.tree) ∙ ap place_of (sym is) ∙ there))
+
 module _ {records : Records} {n t : ℕ} {id : Bytes} {r : Member} (M : FindsMember records.file.now records.work.now records.sizes t id r) where
   pub entity_by_name : {v w : Writer} → r ≡ member.NoEnum → Writes v w (term_name_of records n) → SpellsEntity records n t id v w
   unfolding MemberSaid
@@ -50,11 +95,8 @@ module _ {records : Records} {n t : ℕ} {id : Bytes} {r : Member} (M : FindsMem
       name_is records I N k.inside ∙ named_is (members f) (names S) (term_at f n) (sym (ap (inlined (members f)) k.tree) ∙ entity_named (members f) _ id k.children no_enum)) (written A)
 
   pub entity_member : {i : ℕ} {v w : Writer} → r ≡ member.At i → SpellsNumbered records t (bytes "_m") i v w → SpellsEntity records n t id v w
-  unfolding MemberSaid member_by member_name
-  entity_member {i} e P =
-      spells_as (λ f S I N (k : EntityIs n t id f).
-      let found : Placed (members f) (type_at f t) id (some i) = member_said (member.At i) _ _ id (rw e at (M.go f I k.type_inside)) in
-      member_is (members f) (names S) _ id k.children _ (some i) found.are found.is ∙ ap (atom (members f) (names S)) k.tree) (knowing (λ f I k. k.type_inside) P)
+  unfolding MemberSaid
+  entity_member {i} e P = member_by_place P (λ f S I N k. member_said (member.At i) _ _ id (rw e at (M.go f I k.type_inside)))
 
   pub entity_stranger : {v : Writer} → r ≡ member.NotMember → SpellsEntity records n t id v v
   unfolding MemberSaid member_by

@@ -7,13 +7,18 @@ use index_entry::terms::TermEntry;
 use walk_queries::queries::{Member, Negated};
 use write_bytes::writer::Writer;
 
-// Writes the entity with number n of the type with number t: a member of an enum by its place, or else by its name. Past the limit it is
-// looked up in no enum.
+// Writes the entity with number n of the type with number t: a member of an enum by its place, or else by its name. It is looked up in its enum
+// where no place is noted of the first equal term, and not past the limit.
 fn put_entity(records: Records<'_>, w: &mut Writer<'_>, n: u32, t: u32, id: &[u8])
     ensures { SpellsEntity records.entry n t id.now w.old w.new }
 {
     if w.is_past() {
         return;
+    }
+    let first = records.get(Column::TermFirst, n);
+    let noted = records.get(Column::Note, first).checked_sub(1);
+    if let Some(place) = noted {
+        return put_numbered(records, w, b"_m", PartName { of: t, place });
     }
     match walk_queries::queries::find_member(records, t, id) {
         Member::NoEnum => put_term_name(records, w, n),

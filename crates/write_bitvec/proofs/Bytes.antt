@@ -9,6 +9,7 @@ use native.Mathlib.Omega.{arith}
 use lib.ListN.{length, get_or, take, drop, length-take, length-append, drop_of_length-le}
 use lib.Pow.{pow_pos, pow_mono, pow-add}
 use lib.Seq.{drop-cons, get_or-take, get_or-append_seam}
+use Rattle.std.specs.Int.{w128, from_le_bytes}
 use Rattle.script_spec.specs.Fields.{low, high}
 
 -- ---- sizes
@@ -39,6 +40,27 @@ pub record Low (s left : List ℕ) (v : ℕ) : Type 0 where
 pub low_start : {s left : List ℕ} → left ≡ s → Low s left 0
 unfolding low
 low_start {s} {left} e = record { past = []; whole = append-nil left ∙ e; value = refl; small = pow_pos 0 }
+
+-- 16 bytes are the number as it stands in memory
+pub low_whole : (s : List ℕ) {v : ℕ} → 16 ≤ length s → v ≡ from_le_bytes w128 (take 16 s) → v ≡ low (take 16 s)
+unfolding low
+low_whole ([]) h e = absurd (omega (arith, h))
+low_whole (x0 ∷ []) h e = absurd (omega (arith, h))
+low_whole (x0 ∷ x1 ∷ []) h e = absurd (omega (arith, h))
+low_whole (x0 ∷ x1 ∷ x2 ∷ []) h e = absurd (omega (arith, h))
+low_whole (x0 ∷ x1 ∷ x2 ∷ x3 ∷ []) h e = absurd (omega (arith, h))
+low_whole (x0 ∷ x1 ∷ x2 ∷ x3 ∷ x4 ∷ []) h e = absurd (omega (arith, h))
+low_whole (x0 ∷ x1 ∷ x2 ∷ x3 ∷ x4 ∷ x5 ∷ []) h e = absurd (omega (arith, h))
+low_whole (x0 ∷ x1 ∷ x2 ∷ x3 ∷ x4 ∷ x5 ∷ x6 ∷ []) h e = absurd (omega (arith, h))
+low_whole (x0 ∷ x1 ∷ x2 ∷ x3 ∷ x4 ∷ x5 ∷ x6 ∷ x7 ∷ []) h e = absurd (omega (arith, h))
+low_whole (x0 ∷ x1 ∷ x2 ∷ x3 ∷ x4 ∷ x5 ∷ x6 ∷ x7 ∷ x8 ∷ []) h e = absurd (omega (arith, h))
+low_whole (x0 ∷ x1 ∷ x2 ∷ x3 ∷ x4 ∷ x5 ∷ x6 ∷ x7 ∷ x8 ∷ x9 ∷ []) h e = absurd (omega (arith, h))
+low_whole (x0 ∷ x1 ∷ x2 ∷ x3 ∷ x4 ∷ x5 ∷ x6 ∷ x7 ∷ x8 ∷ x9 ∷ x10 ∷ []) h e = absurd (omega (arith, h))
+low_whole (x0 ∷ x1 ∷ x2 ∷ x3 ∷ x4 ∷ x5 ∷ x6 ∷ x7 ∷ x8 ∷ x9 ∷ x10 ∷ x11 ∷ []) h e = absurd (omega (arith, h))
+low_whole (x0 ∷ x1 ∷ x2 ∷ x3 ∷ x4 ∷ x5 ∷ x6 ∷ x7 ∷ x8 ∷ x9 ∷ x10 ∷ x11 ∷ x12 ∷ []) h e = absurd (omega (arith, h))
+low_whole (x0 ∷ x1 ∷ x2 ∷ x3 ∷ x4 ∷ x5 ∷ x6 ∷ x7 ∷ x8 ∷ x9 ∷ x10 ∷ x11 ∷ x12 ∷ x13 ∷ []) h e = absurd (omega (arith, h))
+low_whole (x0 ∷ x1 ∷ x2 ∷ x3 ∷ x4 ∷ x5 ∷ x6 ∷ x7 ∷ x8 ∷ x9 ∷ x10 ∷ x11 ∷ x12 ∷ x13 ∷ x14 ∷ []) h e = absurd (omega (arith, h))
+low_whole (x0 ∷ x1 ∷ x2 ∷ x3 ∷ x4 ∷ x5 ∷ x6 ∷ x7 ∷ x8 ∷ x9 ∷ x10 ∷ x11 ∷ x12 ∷ x13 ∷ x14 ∷ x15 ∷ s) h e = omega (arith, e)
 
 -- one of the bytes is read
 module _ (s : List ℕ) {left : List ℕ} (next : List ℕ) {v : ℕ} (b : ℕ) (bytes : (i : ℕ) → get_or s i 0 < 256) (l : Low (take 16 s) left v) (e : left ≡ next ++ (b ∷ [])) where

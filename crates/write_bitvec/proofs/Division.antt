@@ -1,11 +1,15 @@
--- A number by its tenth and its last digit. Assumes nothing.
-use mathlib.Core.Path.{◌≡◌}
+-- A number by its last ten digits and what precedes them. Assumes nothing.
+use mathlib.Core.Path.{◌≡◌, sym, ap, ◌∙◌}
 use mathlib.Core.List.{◌++◌}
-use Prim.Native.Nat.{ℕ, ◌/◌, ◌%◌, ◌<◌, ◌≤◌}
+use Prim.Native.Nat.{ℕ, ◌/◌, ◌%◌, ◌≤◌}
 use native.Mathlib.Omega.{arith}
+use Rattle.script_spec.specs.Base.{Bytes}
 use Rattle.script_spec.specs.Text.{decimal}
-use Rattle.script_spec.proofs.LastDigit.{decimal_one, decimal_more}
+use Rattle.write_numeral.specs.Last.{last_digits}
+use Rattle.write_numeral.proofs.Laws.{base_ten, numeral_split, last_digits_mod}
 
--- the last digit follows the numeral of the tenth
-pub decimal_next : (n : ℕ) → 10 ≤ n → decimal (n / 10) ++ decimal (n % 10) ≡ decimal n
-decimal_next n h = let small : n % 10 < 10 = omega arith in rw (decimal_more n h, decimal_one (n % 10) small)
+-- the last ten digits follow the numeral of the rest
+pub decimal_next : (n : ℕ) → 10000000000 ≤ n → decimal (n / 10000000000) ++ last_digits 10 10 (n % 10000000000) ≡ decimal n
+unfolding decimal
+decimal_next n h =
+    ap (λ (s : Bytes). decimal (n / 10000000000) ++ s) (last_digits_mod 10 n 10 (omega arith)) ∙ sym (numeral_split 10 base_ten h)

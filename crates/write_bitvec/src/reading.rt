@@ -6,8 +6,11 @@ ghost use Rattle.script_spec.specs.Fields.{low, high};
 pub fn low_first(s: &[u8]) -> u128
     ensures { result ≡ low (take 16 s.now) }
 {
+    if let Some(first) = s.first_chunk() {
+        return u128::from_le_bytes(*first);
+    }
     let mut v = 0;
-    for byte in s[..s.len().min(16)].iter().rev() {
+    for byte in s.iter().rev() {
         v = v * 256 + u128::from(*byte);
     }
     v

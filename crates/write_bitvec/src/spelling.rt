@@ -6,15 +6,18 @@ ghost use Rattle.write_bytes.specs.Writers.{Writes};
 
 use write_bytes::writer::Writer;
 
-// Writes a number without leading zeros; of one above 64 bits the last digit after the others.
+// Ten decimal digits.
+const TEN_DIGITS: u128 = 10_000_000_000;
+
+// Writes a number without leading zeros; of one above 64 bits the last ten digits after the others.
 fn put_decimal128(w: &mut Writer<'_>, n: u128)
     ensures { Writes w.old w.new (decimal n) }
 {
     if let Ok(small) = u64::try_from(n) {
         return write_numeral::put_decimal(w, small);
     }
-    put_decimal128(w, n / 10);
-    write_numeral::put_decimal(w, (n % 10) as u64)
+    put_decimal128(w, n / TEN_DIGITS);
+    write_numeral::put_last_ten(w, (n % TEN_DIGITS) as u64)
 }
 
 // Writes a bit vector by its width and value.

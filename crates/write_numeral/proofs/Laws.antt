@@ -1,21 +1,27 @@
--- Laws of the loop that lays a numeral's digits from the end, and of the decimal numerals of up to five digits.
+-- Laws of numerals by their last digits: what precedes the last one and the last k, and that the last k are those of a remainder.
 -- Assumes nothing.
 use mathlib.Core.Path.{◌≡◌, refl, sym, ap, ◌∙◌}
-use mathlib.Core.List.{[], ◌∷◌, ◌++◌}
-use Prim.Native.Nat.{ℕ, zero, suc, ◌-◌, ◌*◌, ◌/◌, ◌%◌, ◌^◌, ◌≤◌, ◌<◌}
-use native.Mathlib.Nat.{div-lt_iff_lt-mul, div-lt_self, mul-le-mul_left, pow-suc, mod-eq_of_lt, lt_of_lt_of_le, not-suc-le-zero, mod-lt, div-div-eq-div-mul}
-use native.Mathlib.Numerals.{sub-one}
+use mathlib.Core.List.{[], ◌∷◌, ◌++◌, append-nil, append_assoc}
+use Prim.Native.Nat.{ℕ, zero, suc, ◌+◌, ◌*◌, ◌/◌, ◌%◌, ◌^◌, ◌≤◌, ◌<◌}
+use native.Mathlib.Nat.{pow-zero, pow-suc, pow-succ', one-le-pow, one-mul, mod-eq_of_lt, mod-lt, div-one, div-div-eq-div-mul, le-div_iff_mul-le}
 use native.Mathlib.Omega.{arith}
-use lib.ListN.{length, drop, set, take, length-set, length-drop, drop_of_length-le}
-use lib.Seq.{take_all}
+use lib.Dec.{lit≤}
+use lib.Arith.{mod-mul, digits_div, digits_mod}
 use Rattle.script_spec.specs.Base.{Bytes}
-use Rattle.script_spec.specs.Text.{digit, digits, decimal}
-use Rattle.script_spec.proofs.LastDigit.{digits_one, digits_more, decimal_one, decimal_more}
+use Rattle.script_spec.specs.Text.{digit, digits}
+use Rattle.script_spec.proofs.LastDigit.{digits_one, digits_more, digits_rest}
 use Rattle.write_numeral.specs.Base.{IsBase}
+use Rattle.write_numeral.specs.Last.{last_digits}
 
--- a turn of the loop makes the rest smaller
-pub div_smaller : (n base : ℕ) → IsBase base → base ≤ n → n / base < n
-div_smaller n base b h = div-lt_self (omega (arith, b.least)) (omega (arith, b.least))
+-- a numeral in a base
+abbrev pub numeral : ℕ → ℕ → Bytes
+numeral base n = digits n base n []
+
+pub base_ten : IsBase 10
+base_ten = record { least = lit≤ tt; most = lit≤ tt }
+
+pub base_sixteen : IsBase 16
+base_sixteen = record { least = lit≤ tt; most = lit≤ tt }
 
 -- a digit is below sixteen
 pub mod_small : (n base : ℕ) → IsBase base → n % base < 16
@@ -23,92 +29,55 @@ mod_small n base b =
     let pos : 0 < base = omega (arith, b.least) in
     omega (arith, mod-lt n pos, b.most)
 
--- ---- the loop that lays the digits
+-- a numeral of one digit
+pub numeral_one : {n base a : ℕ} → n < base → a ≡ digit (n % base) → a ∷ [] ≡ numeral base n
+numeral_one {n} {base} h e = rw (e, mod-eq_of_lt h) (sym (digits_one base n n [] h))
 
-drop_set : (l : Bytes) (i v : ℕ) → i < length l → drop i (set l i v) ≡ v ∷ drop (suc i) l
-drop_set [] i v h = absurd (not-suc-le-zero h)
-drop_set (x ∷ l) zero v h = refl
-drop_set (x ∷ l) (suc i) v h = drop_set l i v (omega arith)
+-- a last digit after the numeral of the quotient
+pub numeral_more : {n base a : ℕ} {s : Bytes} → IsBase base → base ≤ n → s ≡ numeral base (n / base) → a ≡ digit (n % base) → s ++ (a ∷ []) ≡ numeral base n
+numeral_more {n} {base} b h e f =
+    let two : 2 ≤ base = omega (arith, b.least) in
+    rw (digits_more base two n [] h, digits_rest base two (n / base) (n / base) (digit (n % base) ∷ []), e, f)
 
--- the digits of n from the place i on: `left` is what they leave, and its last digit is the first of them
-pub record Laid (n base left i : ℕ) (text : Bytes) : Type 0 where
-  pub rest : Bytes
-  pub holds : drop i text ≡ digit (left % base) ∷ rest
-  pub same : digits left base left rest ≡ digits n base n []
-  pub size : length text ≡ 20
-  pub room : left < 10 ^ suc i
-  pub inside : i < 20
+-- a number of more than one digit is not below the base
+many : (n base m : ℕ) → 0 < base → 0 < m → m ≤ n / base → base ≤ n
+many n base m b p h =
+    let one : 1 ≤ n / base = omega arith in
+    let more : 1 * base ≤ n = (le-div_iff_mul-le b).0 one in
+    rw (one-mul base) at more
 
-pub laid_start : (n base d : ℕ) (text : Bytes) → n < 18446744073709551616 → length text ≡ 20 → d ≡ digit (n % base) → Laid n base n 19 (set text 19 d)
-laid_start n base d text h l e = record {
-  rest = [];
-  holds = let k : length text ≤ 20 = omega arith in drop_set text 19 d (omega arith) ∙ (rw (e, drop_of_length-le text k));
-  same = refl;
-  size = length-set text 19 d ∙ l;
-  room = omega arith;
-  inside = omega arith;
-}
+-- a numeral of five digits
+pub five_digits : (n : ℕ) {base : ℕ} → IsBase base → base ≤ n / base / base / base → n / base / base / base / base < base → last_digits 5 base n ≡ numeral base n
+unfolding last_digits
+five_digits n {base} b h k =
+    let pos : 0 < base = omega (arith, b.least) in
+    let t : base ≤ n / base / base = many (n / base / base) base base pos pos h in
+    let s : base ≤ n / base = many (n / base) base base pos pos t in
+    let r : base ≤ n = many n base base pos pos s in
+    numeral_more b r (numeral_more b s (numeral_more b t (numeral_more b h (numeral_one k refl) refl) refl) refl) refl
 
--- a place is left for the next digit
-pub laid_inside : (n base left i : ℕ) (text : Bytes) → IsBase base → base ≤ left → Laid n base left i text → 1 ≤ i
-laid_inside n base left zero text b h l = absurd (omega (arith, b.least, l.room))
-laid_inside n base left (suc i) text b h l = omega arith
+-- what precedes the last k digits
+pub numeral_split : (k : ℕ) {n base : ℕ} → IsBase base → base ^ k ≤ n → numeral base n ≡ numeral base (n / base ^ k) ++ last_digits k base n
+unfolding last_digits
+numeral_split zero {n} {base} b h = rw (pow-zero base, div-one n) (sym (append-nil (numeral base n)))
+numeral_split (suc k) {n} {base} b h =
+    let pos : 0 < base = omega (arith, b.least) in
+    let q : base ^ k ≤ n / base = (le-div_iff_mul-le pos).1 (rw (pow-suc base k) at h) in
+    let d = digit (n % base) ∷ [] in
+    rw (pow-succ' base k, ← div-div-eq-div-mul n base (base ^ k))
+    (sym (numeral_more b (many n base (base ^ k) pos (one-le-pow k base pos) q) refl refl) ∙ ap (λ (s : Bytes). s ++ d) (numeral_split k b q)
+    ∙ append_assoc (numeral base (n / base / base ^ k)) (last_digits k base (n / base)) d)
 
--- a quotient has one digit less
-room_less : (base left i : ℕ) → 10 ≤ base → left < 10 ^ suc i → left / base < 10 ^ i
-room_less base left i b h =
-    let pos : 0 < base = omega arith in
-    (div-lt_iff_lt-mul pos).1 (lt_of_lt_of_le h (rw pow-suc (mul-le-mul_left (10 ^ i) b)))
+-- the last k digits of a remainder by k digits
+pub last_digits_mod : (k : ℕ) (n base : ℕ) → 0 < base → last_digits k base (n % base ^ k) ≡ last_digits k base n
+unfolding last_digits
+last_digits_mod zero n base h = refl
+last_digits_mod (suc k) n base h =
+    let r : n % base < base = mod-lt n h in
+    let e : n % base ^ suc k ≡ (n / base % base ^ k) * base + n % base = rw (pow-suc base k) (mod-mul n (one-le-pow k base h) h) in
+    rw (e, digits_div (n / base % base ^ k) r, digits_mod (n / base % base ^ k) r, last_digits_mod k (n / base) base h) refl
 
-pub laid_next : (n base left i d : ℕ) (text : Bytes) → IsBase base → base ≤ left → d ≡ digit (left / base % base) → Laid n base left i text
-    → Laid n base (left / base) (i - 1) (set text (i - 1) d)
-laid_next n base left zero d text b h e l = absurd (omega (arith, b.least, l.room))
-laid_next n base left (suc i) d text b h e l = rw sub-one (record {
-  rest = digit (left % base) ∷ l.rest;
-  holds = drop_set text i d (omega (arith, l.size, l.inside)) ∙ (rw (e, l.holds));
-  same = sym (digits_more base (omega (arith, b.least)) left l.rest h) ∙ l.same;
-  size = length-set text i d ∙ l.size;
-  room = room_less base left (suc i) b.least l.room;
-  inside = omega (arith, l.inside);
-})
-
-pub laid_end : (n base left i : ℕ) (text : Bytes) → left < base → Laid n base left i text → take (20 - i) (drop i text) ≡ digits n base n []
-laid_end n base left i text h l =
-    let k : length (drop i text) ≤ 20 - i = rw length-drop (omega (arith, l.size)) in
-    take_all (20 - i) (drop i text) k ∙ l.holds ∙ (rw (mod-eq_of_lt h) (sym (digits_one base left left l.rest h))) ∙ l.same
-
--- ---- decimal numerals of up to five digits
-
--- a last digit after the numeral of a tenth
-decimal_next : (n d : ℕ) (s : Bytes) → 10 ≤ n → s ≡ decimal (n / 10) → d ≡ digit (n % 10) → s ++ (d ∷ []) ≡ decimal n
-decimal_next n d s h e f = rw (decimal_more n h, e, f)
-
--- a digit of a tenth is the next digit
-digit_tenth : (n m k d : ℕ) → m ≡ 10 * k → d ≡ digit (n / m % 10) → d ≡ digit (n / 10 / k % 10)
-digit_tenth n m k d h e = rw (div-div-eq-div-mul n 10 k, ← h) e
-
--- a tenth of a hundredth is a thousandth
-pub tenth_of_hundredth : (n : ℕ) → digit (n / 100 / 10 % 10) ≡ digit (n / 1000 % 10)
-tenth_of_hundredth n = ap (λ (m : ℕ). digit (m % 10)) (div-div-eq-div-mul n 100 10)
-
-pub one_digit : {n a : ℕ} → n < 10 → a ≡ digit (n % 10) → a ∷ [] ≡ decimal n
-one_digit {n} h e = rw (e, mod-eq_of_lt h) (sym (decimal_one n h))
-
-pub two_digits : {n a b : ℕ} → 10 ≤ n → n < 100 → a ≡ digit (n / 10 % 10) → b ≡ digit (n % 10) → a ∷ b ∷ [] ≡ decimal n
-two_digits {n} {a} {b} h k e f = decimal_next n b (a ∷ []) h (one_digit (omega arith) e) f
-
-pub three_digits : {n a b c : ℕ} → 100 ≤ n → n < 1000 → a ≡ digit (n / 100 % 10) → b ≡ digit (n / 10 % 10) → c ≡ digit (n % 10) → a ∷ b ∷ c ∷ [] ≡ decimal n
-three_digits {n} {a} {b} {c} h k e f g =
-    decimal_next n c (a ∷ b ∷ []) (omega arith) (two_digits (omega arith) (omega arith) (digit_tenth n 100 10 a refl e) f) g
-
-pub four_digits : {n a b c d : ℕ} → 1000 ≤ n → n < 10000 → a ≡ digit (n / 1000 % 10) → b ≡ digit (n / 100 % 10) → c ≡ digit (n / 10 % 10)
-    → d ≡ digit (n % 10) → a ∷ b ∷ c ∷ d ∷ [] ≡ decimal n
-four_digits {n} {a} {b} {c} {d} h k e f g i =
-    decimal_next n d (a ∷ b ∷ c ∷ []) (omega arith)
-    (three_digits (omega arith) (omega arith) (digit_tenth n 1000 100 a refl e) (digit_tenth n 100 10 b refl f) g) i
-
-pub five_digits : {n a b c d e : ℕ} → 10000 ≤ n → n < 100000 → a ≡ digit (n / 10000 % 10) → b ≡ digit (n / 1000 % 10) → c ≡ digit (n / 100 % 10)
-    → d ≡ digit (n / 10 % 10) → e ≡ digit (n % 10) → a ∷ b ∷ c ∷ d ∷ e ∷ [] ≡ decimal n
-five_digits {n} {a} {b} {c} {d} {e} h k f g i j l =
-    decimal_next n e (a ∷ b ∷ c ∷ d ∷ []) (omega arith)
-    (four_digits (omega arith) (omega arith) (digit_tenth n 10000 1000 a refl f) (digit_tenth n 1000 100 b refl g) (digit_tenth n 100 10 c refl i) j) l
+-- ten decimal digits are five, and five more
+pub last_ten : (n : ℕ) → last_digits 10 10 n ≡ last_digits 5 10 (n / 100000) ++ last_digits 5 10 n
+unfolding last_digits
+last_ten n = simp div-div-eq-div-mul

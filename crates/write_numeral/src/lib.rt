@@ -1,10 +1,11 @@
 // Numbers written in decimal and hexadecimal, without leading zeros.
 #![tactic(auto)]
 
-ghost use Rattle.std.specs.Prelude.{◌≡◌, [], ◌∷◌, ◌/◌, ◌%◌};
-ghost use Rattle.script_spec.specs.Text.{digit, digits, decimal, hex};
+ghost use Rattle.std.specs.Prelude.{◌≡◌, ◌%◌, ◌≤◌};
+ghost use Rattle.script_spec.specs.Text.{digit, decimal, hex};
 ghost use Rattle.write_bytes.specs.Writers.{Writes};
 ghost use Rattle.write_numeral.specs.Base.{IsBase};
+ghost use Rattle.write_numeral.specs.Last.{last_digits};
 
 use write_bytes::writer::Writer;
 
@@ -20,68 +21,90 @@ fn last_digit(n: u64, base: u64) -> u8
     87 + d
 }
 
-// Writes n in a base from ten to sixteen: its digits are laid into twenty bytes from the end.
-fn put_numeral(w: &mut Writer<'_>, n: u64, base: u64)
-    requires { IsBase base }
-    ensures { Writes w.old w.new (digits n base n []) }
+// The character of n's last hexadecimal digit.
+pub fn hex_digit(n: u32) -> u8
+    ensures { result ≡ digit (n % 16) }
 {
-    let mut text = [0u8; 20];
-    let mut left = n;
-    let mut i: usize = 19;
-    text[i] = last_digit(left, base);
-    while base <= left {
-        left /= base;
-        i -= 1;
-        text[i] = last_digit(left, base);
-    }
-    w.put(&text[i..])
+    last_digit(u64::from(n), 16)
 }
 
-// Writes the digit of n's ones.
-fn put_one(w: &mut Writer<'_>, n: u64)
-    ensures { Writes w.old w.new (digit (n % 10) ∷ []) }
+// The character of n's ones.
+fn ones(n: u64) -> u8
+    ensures { result ≡ digit (n % 10) }
 {
-    w.put_byte(last_digit(n, 10))
+    last_digit(n, 10)
 }
 
-// Writes the digits of n's tens and ones.
-fn put_two(w: &mut Writer<'_>, n: u64)
-    ensures { Writes w.old w.new (digit (n / 10 % 10) ∷ digit (n % 10) ∷ []) }
+// Writes the last five digits of n in decimal.
+#[inline(always)]
+fn put_five(w: &mut Writer<'_>, n: u64)
+    ensures { Writes w.old w.new (last_digits 5 10 n) }
 {
-    put_one(w, n / 10);
-    put_one(w, n)
+    w.put(&[
+        ones(n / 10 / 10 / 10 / 10),
+        ones(n / 10 / 10 / 10),
+        ones(n / 10 / 10),
+        ones(n / 10),
+        ones(n),
+    ])
 }
 
-// Writes n in decimal. Numbers of up to five digits, which most are, are divided by constants alone, and their digits are stored where
-// they stand.
+// Writes n in decimal. Numbers of up to five digits, which most are, are divided by constants alone, and their digits are stored
+// together.
+#[cycle(put_decimal_put_long)]
 pub fn put_decimal(w: &mut Writer<'_>, n: u64)
     ensures { Writes w.old w.new (decimal n) }
 {
     if n < 10 {
-        return put_one(w, n);
+        return w.put_byte(ones(n));
     }
     if n < 100 {
-        return put_two(w, n);
+        return w.put(&[ones(n / 10), ones(n)]);
     }
     if n < 1000 {
-        put_one(w, n / 100);
-        return put_two(w, n);
+        return w.put(&[ones(n / 10 / 10), ones(n / 10), ones(n)]);
     }
     if n < 10000 {
-        put_two(w, n / 100);
-        return put_two(w, n);
+        return w.put(&[
+            ones(n / 10 / 10 / 10),
+            ones(n / 10 / 10),
+            ones(n / 10),
+            ones(n),
+        ]);
     }
     if n < 100000 {
-        put_one(w, n / 10000);
-        put_two(w, n / 100);
-        return put_two(w, n);
+        return put_five(w, n);
     }
-    put_numeral(w, n, 10)
+    put_long(w, n)
+}
+
+// Writes a number of more than five digits in decimal, the last five after the others. It is rare, and out of line it keeps
+// `put_decimal` short.
+#[cycle(put_decimal_put_long)]
+#[inline(never)]
+fn put_long(w: &mut Writer<'_>, n: u64)
+    requires { 100000 ≤ n }
+    ensures { Writes w.old w.new (decimal n) }
+{
+    put_decimal(w, n / 100000);
+    put_five(w, n)
+}
+
+// Writes the last ten digits of n in decimal.
+pub fn put_last_ten(w: &mut Writer<'_>, n: u64)
+    ensures { Writes w.old w.new (last_digits 10 10 n) }
+{
+    put_five(w, n / 100000);
+    put_five(w, n)
 }
 
 // Writes n in lower-case hexadecimal.
 pub fn put_hex(w: &mut Writer<'_>, n: u64)
     ensures { Writes w.old w.new (hex n) }
 {
-    put_numeral(w, n, 16)
+    if n < 16 {
+        return w.put_byte(last_digit(n, 16));
+    }
+    put_hex(w, n / 16);
+    w.put_byte(last_digit(n, 16))
 }

@@ -2,14 +2,14 @@
 -- Assumes nothing.
 use mathlib.Core.Path.{◌≡◌, refl}
 use mathlib.Core.Bool.{Bool, true, false, ◌&&◌}
-use mathlib.Core.List.{[], ◌∷◌}
+use mathlib.Core.List.{[], ◌∷◌, ◌++◌}
 use mathlib.Core.Option.{none}
 use Prim.Native.Nat.{ℕ, ◌≤◌}
 use native.Mathlib.Omega.{arith}
 use borrow.Author.Tests.{leb-true, eq-eqb, ne_eqb}
 use lib.Dec.{eqb, leb}
 use Rattle.script_spec.specs.Base.{Bytes, bytes, between, place, place_from}
-use Rattle.script_spec.specs.Text.{brace, escape, escape_by, debug_char}
+use Rattle.script_spec.specs.Text.{hex, brace, escape, escape_by, debug_char}
 use Rattle.script_spec.proofs.Laws.{and_false, and_true, never}
 use Rattle.write_text.specs.Written.{shown}
 
@@ -34,6 +34,11 @@ printable_large c h = leb-true 32 c (and_first (leb 32 c) (leb c 126) h)
 pub shown_plain : (c : ℕ) → between 32 126 c ≡ true → ◌≡◌ {A = Bytes} (c ∷ []) (shown c)
 unfolding shown
 shown_plain c h = rw (h, shown)
+
+-- a hexadecimal numeral in its braces
+pub braced : (c : ℕ) {s : Bytes} → s ≡ hex c → 92 ∷ 117 ∷ 123 ∷ (s ++ (125 ∷ [])) ≡ brace c
+unfolding brace bytes
+braced c e = rw e refl
 
 pub shown_brace : (c : ℕ) → between 32 126 c ≡ false → brace c ≡ shown c
 unfolding shown

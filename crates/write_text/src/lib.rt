@@ -14,6 +14,7 @@ ghost use Rattle.write_text.specs.Written.{shown, spelling, quoted, stops, Passe
 
 use read_utf8::CodePoints;
 use write_bytes::writer::Writer;
+use write_numeral::hex_digit;
 
 // What a text in double quotes is: a string literal, or an id as `{:?}` prints it.
 #[derive(Clone, Copy)]
@@ -37,13 +38,62 @@ fn is_printable(c: u32) -> bool
     32 <= c && c <= 126
 }
 
-// Writes a code point as `\u{h}`.
-fn put_brace(w: &mut Writer<'_>, c: u32)
+// Writes a number as `\u{h}`, piece by piece.
+fn put_braced(w: &mut Writer<'_>, c: u32)
     ensures { Writes w.old w.new (brace c) }
 {
     w.put(b"\\u{");
     write_numeral::put_hex(w, u64::from(c));
     w.put_byte(b'}')
+}
+
+// Writes a code point as `\u{h}`. One of two to five digits, as most are, is stored at once.
+fn put_brace(w: &mut Writer<'_>, c: u32)
+    ensures { Writes w.old w.new (brace c) }
+{
+    if c < 0x10 || 0x100000 <= c {
+        return put_braced(w, c);
+    }
+    let tens = c / 16;
+    if tens < 16 {
+        return w.put(&[b'\\', b'u', b'{', hex_digit(tens), hex_digit(c), b'}']);
+    }
+    let hundreds = tens / 16;
+    if hundreds < 16 {
+        return w.put(&[
+            b'\\',
+            b'u',
+            b'{',
+            hex_digit(hundreds),
+            hex_digit(tens),
+            hex_digit(c),
+            b'}',
+        ]);
+    }
+    let thousands = hundreds / 16;
+    if thousands < 16 {
+        return w.put(&[
+            b'\\',
+            b'u',
+            b'{',
+            hex_digit(thousands),
+            hex_digit(hundreds),
+            hex_digit(tens),
+            hex_digit(c),
+            b'}',
+        ]);
+    }
+    w.put(&[
+        b'\\',
+        b'u',
+        b'{',
+        hex_digit(thousands / 16),
+        hex_digit(thousands),
+        hex_digit(hundreds),
+        hex_digit(tens),
+        hex_digit(c),
+        b'}',
+    ])
 }
 
 // Writes a code point as it is where it is printable, and else as `\u{h}`.
@@ -125,7 +175,9 @@ fn put_run(w: &mut Writer<'_>, place: Place, s: &[u8]) -> usize
     ensures written { Writes w.old w.new (take result s.now) }
 {
     let n = run(place, &s[..s.len().min(w.room())]);
-    w.put(&s[..n]);
+    if 0 < n {
+        w.put(&s[..n]);
+    }
     n
 }
 

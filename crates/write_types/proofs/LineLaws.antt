@@ -1,22 +1,19 @@
 -- The lines of a type from its entry: of a record type, of an enum, of an entity type, and of a datatype by its mark.
 -- Assumes nothing.
 use mathlib.Core.Path.{◌≡◌, refl, sym, ap, ◌∙◌}
-use mathlib.Core.List.{List, [], ◌∷◌}
+use mathlib.Core.List.{List, []}
 use mathlib.Core.Option.{Option, none, some}
-use Prim.Native.Nat.{ℕ, suc, ◌<◌}
+use Prim.Native.Nat.{ℕ, ◌≤◌, ◌<◌}
 use native.Mathlib.Omega.{arith}
 use lib.ListN.{length, drop}
 use borrow.Author.Tests.{lt-ltb, le-ltb}
-use mathlib.Core.Bool.{Bool, true, false}
-use Rattle.script_spec.specs.Base.{Bytes, bytes, joined, same, place, place_from, firsts}
+use Rattle.script_spec.specs.Base.{Bytes, bytes, joined}
 use Rattle.script_spec.specs.File.{TermFile, enums}
 use Rattle.script_spec.specs.Command.{◌⊹◌, line, comment, declare_datatype}
 use Rattle.script_spec.specs.Spelling.{entity_comment, entity_constructors}
 use Rattle.write_bytes.specs.Writers.{Writes}
 use Rattle.write_bytes.specs.declared.writer.Writer.{Writer}
 use Rattle.write_bytes.proofs.Laws.{◌then◌, says}
-use Rattle.std.specs.Prelude as std
-use Rattle.std.specs.Prelude.{None, Some}
 use Rattle.index.specs.declared.Records.{Records}
 use Rattle.walk_names.proofs.Advancing.{◌further◌, continues}
 use Rattle.walk_names.specs.Naming.{IndexOf}
@@ -27,9 +24,8 @@ use Rattle.index_entry.specs.Symbols.{EnumAt}
 use Rattle.index_entry.specs.Places.{texts_in}
 use Rattle.index_entry.specs.Terms.{names_in}
 use Rattle.index_entry.specs.declared.lists.Texts.{Texts}
-use Rattle.index_search.specs.Enums.{enum_at, members_at, FindsEnum}
-use Rattle.index_search.proofs.EnumLaws.{finds_members}
-use Rattle.script_spec.proofs.Laws.{never}
+use Rattle.index_search.specs.Enums.{enum_at, members_at}
+use Rattle.index_search.proofs.EnumLaws.{number_members}
 use Rattle.write_types.specs.Records.{SpellsRecordType}
 use Rattle.write_types.specs.Members.{entity_symbol, SpellsEnum}
 use Rattle.write_types.specs.Lines.{entity_lines, record_lines, SpellsRecordLines, SpellsEnumLines, SpellsEntityLines}
@@ -61,40 +57,20 @@ module _ {records : Records} where
 
 -- ---- an entity type
 
--- a place is one of the list's
-place_inside : {A : Type 0} (p : A → Bool) (xs : List A) (n : ℕ) → place p xs ≡ some n → n < length xs
-unfolding place place_from
-place_inside p [] n h = never (cc)
-place_inside p (x ∷ xs) n h = go (p x) (place p xs) h (λ m e. place_inside p xs m e)
-  where
-    go : (b : Bool) (o : Option ℕ) → place_from b o ≡ some n → ((m : ℕ) → o ≡ some m → m < length xs) → n < suc (length xs)
-    go true o h k = let z : 0 ≡ n = cc in omega arith
-    go false none h k = never (cc)
-    go false (some m) h k = let z : suc m ≡ n = cc in omega (arith, k m refl)
-
-length_firsts : (xs : List (Bytes × List Bytes)) → length (firsts xs) ≡ length xs
-unfolding firsts
-length_firsts [] = refl
-length_firsts (x ∷ xs) = ap suc (length_firsts xs)
-
-module _ {records : Records} (name : Option ℕ) {r : std.Option ℕ} {v w : Writer} {text : Bytes} (F : FindsEnum records.file.now records.work.now records.sizes text r) where
+module _ {records : Records} (name : Option ℕ) {i : ℕ} {v w : Writer} (text : Bytes) where
   -- one that is an enum
-  pub entity_found : {i : ℕ} → r ≡ Some i → SpellsEnumLines records text name i v w → SpellsEntityLines records text name v w
+  pub entity_enum : i < records.sizes.enums → SpellsEnumLines records text name i v w → SpellsEntityLines records text name i v w
   unfolding members_at
-  entity_found {i} e L =
-      spells_as (λ f S I N k.
-      let is : members_at f i ≡ some (enum_at f i).1 = rw (members_at, lt-ltb i (length (enums f)) (inside f I)) in
-      ap (entity_lines text name) (sym ((rw e at (finds_members F f I.rows I.sizes_are)) ∙ is)))
+  entity_enum l L =
+      spells_as (λ f S I N k. ap (entity_lines text name) (sym (number_members f text ∙ ap (members_at f) (sym k) ∙ rw (members_at, lt-ltb i (length (enums f)) (inside f I)) refl)))
       (knowing (λ f I k. inside f I) L)
     where
       inside : (f : TermFile) → IndexOf f records → i < length (enums f)
-      inside f I = rw (← length_firsts (enums f)) (place_inside (same text) (firsts (enums f)) i (sym ((rw e at (F.go f I.rows I.sizes_are)))))
+      inside f I = omega (arith, l, I.sizes_are.enums_are)
 
   -- one that is not
-  pub entity_plain : r ≡ None → Writes v w (entity_lines text name none) → SpellsEntityLines records text name v w
+  pub entity_plain : records.sizes.enums ≤ i → Writes v w (entity_lines text name none) → SpellsEntityLines records text name i v w
   unfolding members_at
-  entity_plain e W =
-      spells_as (λ f S I N k.
-      let is : members_at f (length (enums f)) ≡ none = rw (members_at, le-ltb (length (enums f)) (length (enums f)) (omega arith)) in
-      ap (entity_lines text name) (sym ((rw (e, I.sizes_are.enums_are) at (finds_members F f I.rows I.sizes_are)) ∙ is)))
+  entity_plain l W =
+      spells_as (λ f S I N k. ap (entity_lines text name) (sym (number_members f text ∙ ap (members_at f) (sym k) ∙ rw (members_at, le-ltb i (length (enums f)) (omega (arith, l, I.sizes_are.enums_are))) refl)))
       (written W)

@@ -8,8 +8,8 @@ use native.Mathlib.Omega.{arith}
 use lib.ListN.{length}
 use denote.Ref.{Bor}
 use Rattle.std.specs.Prelude as std
-use Rattle.script_spec.specs.Base.{Bytes, place}
-use Rattle.script_spec.specs.Tree.{TypeMark, Ty, Datatype, entity, extension, record_of, Declared, node, nil, forest, eq_ty, datatype, datatype_mark}
+use Rattle.script_spec.specs.Base.{Bytes, and_then, place}
+use Rattle.script_spec.specs.Tree.{TypeMark, Ty, Datatype, entity, extension, record_of, Declared, node, nil, forest, eq_ty, datatype, datatype_mark, entity_name, name_of_entity}
 use Rattle.script_spec.specs.Fields as fields
 use Rattle.script_spec.specs.Fields.{Entry}
 use Rattle.script_spec.specs.File.{TermFile, types, members, type_at}
@@ -19,7 +19,7 @@ use Rattle.script_spec.specs.Walk.{State}
 use Rattle.refusal.specs.Numbers.{option_of}
 use Rattle.write_bytes.specs.Writers.{Writes}
 use Rattle.write_bytes.specs.declared.writer.Writer.{Writer}
-use Rattle.index.specs.Cells.{cell, type_offset, type_first}
+use Rattle.index.specs.Cells.{cell, type_offset, type_first, type_list}
 use Rattle.index.specs.First.{Below}
 use Rattle.index.specs.Meaning.{counted}
 use Rattle.index.specs.declared.Records.{Records}
@@ -56,15 +56,15 @@ module _ (records : Records) {t : ℕ} {r : TypeEntry} (T : TypeAt records.file.
 
   module _ {v w : Writer} where
     -- an entity type
-    pub spells_entity : {text : Bor Bytes} {name : Option ℕ} → r ≡ entry.Entity text → name ≡ place_of (name_at records.work.now records.sizes.rows type_first type_names t)
-        → SpellsEntityLines records text.now name v w → SpellsType records t v w
-    unfolding type_said forest datatype datatype_mark
-    spells_entity {text} {name} e n L =
+    pub spells_entity : {text : Bor Bytes} {name : Option ℕ} {i : ℕ} → r ≡ entry.Entity text → name ≡ place_of (name_at records.work.now records.sizes.rows type_first type_names t)
+        → i ≡ cell records.work.now records.sizes.rows type_list t → SpellsEntityLines records text.now name i v w → SpellsType records t v w
+    unfolding type_said forest datatype datatype_mark entity_name and_then name_of_entity
+    spells_entity {text} {name} e n noted L =
         spells_as (λ f S I N l.
         type_here f I l (Declared (entity text.now)) [] (rw e) (λ below tree.
         let known : name ≡ place (eq_ty (node (Declared (entity text.now)) nil)) S.types = rw (n, tree) (sym (place_type I.rows t N l)) in
         entity_script (members f) S name text.now known ∙ lines_of f S t (entity text.now) _ tree refl))
-        (knowing (λ f I l. tt) L)
+        (knowing (λ f I l. type_here f I l (Declared (entity text.now)) [] (rw e) (λ below tree. noted ∙ (I.noted t l).enum_is text.now (ap entity_name (sym tree)))) L)
 
     -- a record type
     pub spells_record_type : {c : Children} (name : std.Option ℕ) → r ≡ entry.Record c → option_of name ≡ place_of (name_at records.work.now records.sizes.rows type_first type_names t)

@@ -1,6 +1,6 @@
 -- The lines that declare a type, and what writing them promises.
 -- Assumes nothing.
-use Rattle.std.specs.Prelude.{ℕ, List, [], ◌∷◌, ◌++◌}
+use Rattle.std.specs.Prelude.{ℕ, ◌≡◌, List, [], ◌∷◌, ◌++◌}
 use Rattle.std.proofs.Math.Option.{Option, none, some}
 use Rattle.script_spec.specs.Base.{Bytes, bytes, joined}
 use Rattle.script_spec.specs.Tree.{datatype}
@@ -9,6 +9,7 @@ use Rattle.script_spec.specs.Command.{◌⊹◌, line, script, comment, declare_
 use Rattle.script_spec.specs.Spelling.{Names, entity_comment, entity_constructors, record_constructor, type_comment, type_declaration}
 use Rattle.script_spec.specs.Walk.{State, names}
 use Rattle.write_bytes.specs.declared.writer.Writer.{Writer}
+use Rattle.index.specs.Names.{enum_number}
 use Rattle.index.specs.declared.Records.{Records}
 use Rattle.walk_names.specs.Spells.{Spells, HasType, HasEnum}
 use Rattle.index_entry.specs.Terms.{names_in}
@@ -42,9 +43,9 @@ SpellsRecordLines records ty = Spells records (PartsIn ty) (λ f S. record_lines
 abbrev pub SpellsEnumLines : Records → Bytes → Option ℕ → ℕ → Writer → Writer → Type 0
 SpellsEnumLines records text name i = Spells records (HasEnum i) (λ f S. entity_lines text name (some (enum_at f i).1))
 
--- so are those of an entity type
-abbrev pub SpellsEntityLines : Records → Bytes → Option ℕ → Writer → Writer → Type 0
-SpellsEntityLines records text name = Spells records (λ f. Unit {0}) (λ f S. entity_lines text name (members f text))
+-- so are those of an entity type whose enum has the number i, how many there are where it is none
+abbrev pub SpellsEntityLines : Records → Bytes → Option ℕ → ℕ → Writer → Writer → Type 0
+SpellsEntityLines records text name i = Spells records (λ f. i ≡ enum_number f text) (λ f S. entity_lines text name (members f text))
 
 -- so are those of the type with number t
 abbrev pub SpellsType : Records → ℕ → Writer → Writer → Type 0

@@ -45,13 +45,20 @@ fn declare_plain_type(w: &mut Writer<'_>, text: &[u8], name: Option<u32>)
     w.lend(EntityDeclaration { name })
 }
 
-// Declares the entity type `text`, which is an enum if one of the file's enums has its name.
-fn declare_entity_type(records: Records<'_>, w: &mut Writer<'_>, text: &[u8], name: Option<u32>)
-    ensures { SpellsEntityLines records.entry text.now (option_of name) w.old w.new }
+// Declares the entity type `text`, whose enum has the number i; where there are no more than i enums it is none.
+fn declare_entity_type(
+    records: Records<'_>,
+    w: &mut Writer<'_>,
+    text: &[u8],
+    name: Option<u32>,
+    i: u32,
+)
+    ensures { SpellsEntityLines records.entry text.now (option_of name) i w.old w.new }
 {
-    match index_search::enums::find(records, text) {
-        Some(i) => declare_enum_type(records, w, text, name, i),
-        None => declare_plain_type(w, text, name),
+    if i < records.sizes.enums {
+        declare_enum_type(records, w, text, name, i)
+    } else {
+        declare_plain_type(w, text, name)
     }
 }
 
@@ -68,7 +75,10 @@ impl Line for TypeLines<'_> {
     fn write(self, w: &mut Writer<'_>) {
         let name = naming::get(self.records, Named::Types, self.number);
         match index_entry::numbered::type_at(self.records, self.number) {
-            TypeEntry::Entity(text) => declare_entity_type(self.records, w, text, name),
+            TypeEntry::Entity(text) => {
+                let i = self.records.get(Column::TypeList, self.number);
+                declare_entity_type(self.records, w, text, name, i)
+            }
             TypeEntry::Ext(x) => crate::datatypes::declare_ext_type(w, x),
             TypeEntry::Record(attributes) => declare_record_type(
                 self.records,

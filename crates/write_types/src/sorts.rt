@@ -82,26 +82,40 @@ fn put_opened(w: &mut Writer<'_>, whole: Whole)
     }
 }
 
-// Writes the sort of the type with number t, and nothing past the limit. A part has a lower number.
-pub fn put_sort(records: Records<'_>, w: &mut Writer<'_>, t: u32)
-    ensures { SpellsSort records.entry t w.old w.new }
+// Writes the sort of the type with number t, which stands over no part. Out of line it takes no stack where a type stands over others.
+#[inline(never)]
+fn put_sole_sort(records: &Records<'_>, w: &mut Writer<'_>, t: u32)
+    ensures { OverAt records.now.file.now (cell records.now.work.now records.now.sizes.rows type_offset t) Over.Nothing → SpellsSort records.now t w.old w.new }
+{
+    let name = naming::get(*records, Named::Types, t);
+    put_plain_sort(w, index_entry::numbered::type_at(*records, t), name)
+}
+
+// Writes the sort of the type with number t, and nothing past the limit. A part has a lower number. The records are lent, so that no
+// call of those in one another has a copy of them.
+fn put_sort_by(records: &Records<'_>, w: &mut Writer<'_>, t: u32)
+    ensures { SpellsSort records.now t w.old w.new }
 {
     if w.is_past() {
         return;
     }
-    match stands_over(records, t) {
+    match stands_over(*records, t) {
         Over::Truth => w.put(b"Bool"),
-        Over::Nothing => {
-            let name = naming::get(records, Named::Types, t);
-            put_plain_sort(w, index_entry::numbered::type_at(records, t), name)
-        }
+        Over::Nothing => put_sole_sort(records, w, t),
         Over::Part(whole, part) => {
             if t <= part {
                 return;
             }
             put_opened(w, whole);
-            put_sort(records, w, part);
+            put_sort_by(records, w, part);
             w.put_byte(b')')
         }
     }
+}
+
+// Writes the sort of the type with number t, and nothing past the limit.
+pub fn put_sort(records: Records<'_>, w: &mut Writer<'_>, t: u32)
+    ensures { SpellsSort records.entry t w.old w.new }
+{
+    put_sort_by(&records, w, t)
 }

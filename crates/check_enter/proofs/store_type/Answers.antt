@@ -7,6 +7,6 @@ use Rattle.check_enter.proofs.store_type.Goals as goal
 pub returns : goal.returns
 returns c =
     let E = c.enrol-first.ensures in
-    type_row_stored _ _ _ _ E
-    (rewritten_then _ _ _ (rewritten_then _ _ _ (rewritten_then _ _ _ (rewritten_then _ _ _ (rewritten_then _ _ _ (rewritten_from E.stays) c.set.ensures) c.set-2.ensures) c.set-3.ensures) c.set-4.ensures) c.set-5.ensures)
+    type_row_stored _ _ _ E
+    (rewritten_then _ _ _ (rewritten_then _ _ _ (rewritten_then _ _ _ (rewritten_then _ _ _ (rewritten_from E.stays) c.set.ensures) c.set-2.ensures) c.set-3.ensures) c.set-4.ensures)
     c.saturating_add-records.ensures

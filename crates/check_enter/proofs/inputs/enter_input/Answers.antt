@@ -6,6 +6,6 @@ use Rattle.check_enter.proofs.inputs.enter_input.Goals as goal
 
 pub returns : goal.returns
 returns c =
-    input_entered _ _ _ c.body_at.ensures c.number_at-term.ensures
-    (rewritten_then _ _ _ (rewritten_then _ _ _ (rewritten_then _ _ _ (rewritten_none c.args.records.now) c.set.ensures) c.set-2.ensures) c.set-3.ensures)
+    input_entered _ _ c.body_at.ensures c.number_at-term.ensures
+    (rewritten_then _ _ _ (rewritten_none c.args.records.now) c.set.ensures)
     c.saturating_add-records.ensures

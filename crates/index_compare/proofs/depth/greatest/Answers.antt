@@ -1,7 +1,7 @@
 -- `index_compare::depth::greatest` meets its contract: by the shape of the record, or by the walk from the start of its body.
 -- Assumes nothing.
 use Rattle.index_compare.specs.Step.{kind_number}
-use Rattle.index_compare.proofs.Opened.{greatest_sole, greatest_applied, greatest_listing, greatest_named}
+use Rattle.index_compare.proofs.Opened.{greatest_sole, greatest_applied, greatest_listing, greatest_named, greatest_bare}
 use Rattle.index_compare.proofs.depth.greatest.Goals as goal
 
 pub returns-in-Some-Sole : goal.returns-in-Some-Sole
@@ -27,6 +27,12 @@ returns-in-Some-Named c =
     let r = c.args.records in
     let shape = c.in-Some-Named in
     greatest_named r.work.now r.sizes.rows (kind_number c.args.kind) _ c.type_depth.ensures (rw shape.field-0-is at shape.ensures)
+
+pub returns-in-Some-Bare : goal.returns-in-Some-Bare
+returns-in-Some-Bare c =
+    let r = c.args.records in
+    let shape = c.in-Some-Bare in
+    greatest_bare r.work.now r.sizes.rows (kind_number c.args.kind) (rw shape.field-0-is at shape.ensures)
 
 pub returns-in-None : goal.returns-in-None
 returns-in-None c = rw c.segments_at.ensures at c.greatest_ahead.ensures

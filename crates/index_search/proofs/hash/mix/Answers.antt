@@ -1,7 +1,8 @@
--- The sum and the product are taken below 2 ^ 32.
+-- The product, folded.
 -- Assumes nothing.
-use Rattle.index_search.proofs.Mixed.{mixed_by_steps}
+use Rattle.index.specs.Names.{mixed}
 use Rattle.index_search.proofs.hash.mix.Goals as goal
 
 pub returns : goal.returns
-returns c = mixed_by_steps c.args.h c.args.n
+unfolding mixed
+returns c = c.folded.ensures

@@ -8,5 +8,5 @@ use Rattle.index_search.proofs.hash.mix_ahead.Given as goal
 abbrev pub invariant-loop-segment : goal.invariant-loop-segment
 invariant-loop-segment l =
     (goal.iterator-loop-segment).can_next l.segment-iterator × (goal.iterator-loop-segment).is_finite l.segment-iterator
-    × (mixed_segments l.x (viewed_ahead l.segment-iterator)
-    ≡ mixed_segments l.h (viewed_ahead l.fn.segments))
+    × (mixed_segments l.key l.x (viewed_ahead l.segment-iterator)
+    ≡ mixed_segments l.key l.h (viewed_ahead l.fn.segments))

@@ -7,7 +7,7 @@ use Rattle.index.specs.Names.{mixed_bytes}
 use Rattle.index_search.proofs.hash.mix_bytes.Given as goal
 
 abbrev pub invariant-loop-word : goal.invariant-loop-word
-invariant-loop-word l = mixed_bytes l.x (drop (4 * l.word-index) l.s) ≡ mixed_bytes l.h l.s
+invariant-loop-word l = mixed_bytes l.key l.x (drop (4 * l.word-index) l.s) ≡ mixed_bytes l.key l.h l.s
 
 abbrev pub invariant-loop-byte : goal.invariant-loop-byte
-invariant-loop-byte l = (mixed_bytes l.x (drop l.byte-index l.last) ≡ mixed_bytes l.h l.s) × (length l.last < 4)
+invariant-loop-byte l = (mixed_bytes l.key l.x (drop l.byte-index l.last) ≡ mixed_bytes l.key l.h l.s) × (length l.last < 4)

@@ -11,5 +11,5 @@ use Rattle.index_search.proofs.hash.mix_terms.Given as goal
 abbrev pub invariant-loop-n : goal.invariant-loop-n
 invariant-loop-n l =
     (goal.iterator-loop-n).can_next l.n-iterator × (goal.iterator-loop-n).is_finite l.n-iterator
-    × (mixed_segments l.x (map (viewed l.records.work.now l.records.sizes.rows First) (terms_ahead l.n-iterator))
-    ≡ mixed_segments l.h (map (viewed l.records.work.now l.records.sizes.rows First) (terms_ahead l.fn.terms)))
+    × (mixed_segments l.key l.x (map (viewed l.records.work.now l.records.sizes.rows First) (terms_ahead l.n-iterator))
+    ≡ mixed_segments l.key l.h (map (viewed l.records.work.now l.records.sizes.rows First) (terms_ahead l.fn.terms)))

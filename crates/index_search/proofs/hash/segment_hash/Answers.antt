@@ -4,4 +4,4 @@ use Rattle.index_search.proofs.Shapes.{type_hashed}
 use Rattle.index_search.proofs.hash.segment_hash.Goals as goal
 
 pub returns : goal.returns
-returns c = type_hashed _ _ c.mark_hash.ensures c.mix_segment.ensures
+returns c = type_hashed _ _ _ c.mark_hash.ensures c.mix_segment.ensures

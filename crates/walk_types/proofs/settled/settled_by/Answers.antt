@@ -7,7 +7,7 @@ pub returns-in-66 : goal.returns-in-66
 returns-in-66 c = settles_mark _ _ c.letter_at.ensures c.in-66.is
 
 pub returns-in-79 : goal.returns-in-79
-returns-in-79 c = settles_part _ _ c.letter_at.ensures c.in-79.is c.part_at.ensures
+returns-in-79 c = settles_part _ _ c.letter_at.ensures c.in-79.is
 
 pub returns-in_default : goal.returns-in_default
 returns-in_default c = settles_name

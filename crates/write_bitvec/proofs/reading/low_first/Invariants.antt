@@ -1,4 +1,4 @@
--- `write_bitvec::reading::low_first` meets its contract: the loop keeps `Low`.
+-- `write_bitvec::reading::low_first` meets its contract: 16 bytes are the number at once, and of fewer the loop keeps `Low`.
 -- Assumes nothing.
 use lib.ListN.{take}
 use Rattle.write_bitvec.proofs.Bytes.{Low}

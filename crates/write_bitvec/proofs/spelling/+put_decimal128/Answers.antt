@@ -1,4 +1,4 @@
--- `write_bitvec::spelling::put_decimal128` meets its contract: the last digit stands after the numeral of the tenth.
+-- `write_bitvec::spelling::put_decimal128` meets its contract: the last ten digits stand after the numeral of the rest.
 -- Assumes nothing.
 use native.Mathlib.Omega.{arith}
 use Rattle.write_bytes.proofs.Laws.{◌then◌, says}
@@ -6,4 +6,4 @@ use Rattle.write_bitvec.proofs.Division.{decimal_next}
 use Rattle.write_bitvec.proofs.spelling.+put_decimal128.Goals as goal
 
 pub returns : goal.returns
-returns t c = says (decimal_next _ (omega arith)) (c.put_decimal128.ensures then c.put_decimal-2.ensures)
+returns t c = says (decimal_next _ (omega arith)) (c.put_decimal128.ensures then c.put_last_ten.ensures)

@@ -1,4 +1,4 @@
--- `write_bitvec::spelling::put_decimal128` ends: the tenth of a number is smaller.
+-- `write_bitvec::spelling::put_decimal128` ends: what precedes the last ten digits is smaller.
 -- Assumes nothing.
 use Rattle.write_bitvec.proofs.spelling.+put_decimal128.Given as goal
 

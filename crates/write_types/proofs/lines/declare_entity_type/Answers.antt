@@ -1,10 +1,10 @@
 -- `write_types::lines::declare_entity_type` meets its contract.
 -- Assumes nothing.
-use Rattle.write_types.proofs.LineLaws.{entity_found, entity_plain}
+use Rattle.write_types.proofs.LineLaws.{entity_enum, entity_plain}
 use Rattle.write_types.proofs.lines.declare_entity_type.Goals as goal
 
-pub returns-in-Some : goal.returns-in-Some
-returns-in-Some c = entity_found _ c.find.ensures c.in-Some.is c.declare_enum_type.ensures
+pub returns-then-i-records : goal.returns-then-i-records
+returns-then-i-records c = entity_enum _ _ c.if-i-records.true c.declare_enum_type.ensures
 
-pub returns-in-None : goal.returns-in-None
-returns-in-None c = entity_plain _ c.find.ensures c.in-None.is c.declare_plain_type.ensures
+pub returns-else-i-records : goal.returns-else-i-records
+returns-else-i-records c = entity_plain _ _ c.if-i-records.false c.declare_plain_type.ensures

@@ -4,7 +4,7 @@ use Rattle.write_types.proofs.TypeLaws.{spells_entity, spells_ext, spells_record
 use Rattle.write_types.proofs.lines.TypeLinesLine.write.Goals as goal
 
 pub returns-in-Entity : goal.returns-in-Entity
-returns-in-Entity c = spells_entity _ c.type_at.ensures c.in-Entity.is c.get-name.ensures c.declare_entity_type.ensures
+returns-in-Entity c = spells_entity _ c.type_at.ensures c.in-Entity.is c.get-name.ensures c.get-i.ensures c.declare_entity_type.ensures
 
 pub returns-in-Ext : goal.returns-in-Ext
 returns-in-Ext c = spells_ext _ c.type_at.ensures c.in-Ext.is c.declare_ext_type.ensures
