@@ -30,6 +30,9 @@ typedef struct sakyelbo_where {
 /* The longest file, in bytes; a longer one is refusal 1. Working memory has two entries for each byte; with less, it is refusal 2. */
 #define SAKYELBO_LONGEST_FILE 1048576
 
+/* The stack that check and encode need at most, in bytes, with what the system keeps there for a thread. A command needs less. */
+#define SAKYELBO_STACK 98304
+
 /* A text of a list of texts. */
 typedef struct sakyelbo_text {
     const uint8_t *bytes;

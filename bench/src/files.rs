@@ -1,4 +1,5 @@
 //! The term files that are timed.
+use crate::made::{and, record, text, word};
 use std::path::Path;
 
 /// A term file and how many terms it has.
@@ -24,43 +25,45 @@ impl TermFile {
     }
 }
 
-fn word(n: usize) -> [u8; 4] {
-    (n as u32).to_le_bytes()
-}
-
-fn record(mark: &str, fields: &[&[u8]]) -> Vec<u8> {
-    let body = fields.concat();
-    [mark.as_bytes(), &word(body.len()), &body].concat()
-}
-
 /// A variable of type 0.
-fn variable(name: &str) -> Vec<u8> {
-    record("XV", &[&word(name.len()), name.as_bytes(), &word(0)])
+pub fn variable(name: &str) -> Vec<u8> {
+    record("XV", &[&text(name), &word(0)])
 }
 
 /// `And` of a term with itself, again and again: each step is reached by twice as many ways as the one before.
 pub fn ladder(steps: usize) -> TermFile {
     let mut bytes = [record("TB", &[]), variable("x")].concat();
     for n in 0..steps {
-        bytes.extend(record("XA", &[&word(0), &[0], &word(2), &word(n), &word(n)]));
+        bytes.extend(and(n, n));
     }
     bytes.extend(record("IN", &[&word(steps)]));
     TermFile::new(&format!("ladder-{steps}"), bytes)
 }
 
-/// 60,000 distinct terms: 30,000 variables, `some` of each but the last, and the set of these.
-pub fn made() -> TermFile {
-    const DIGITS: &[u8] = b"0123456789abcdefghijklmnopqrstuvwxyzABCDEFGHIJKLMNOPQRSTUVWXYZ";
+const DIGITS: &[u8] = b"0123456789abcdefghijklmnopqrstuvwxyzABCDEFGHIJKLMNOPQRSTUVWXYZ";
+
+/// Distinct terms: variables whose names have so many digits, `some` of each but the last, and the set of these.
+fn variables(count: usize, digits: u32) -> Vec<u8> {
     let mut bytes = [record("TB", &[]), record("TO", &[&word(0)]), record("TC", &[&word(1)])].concat();
-    for n in 0..30_000 {
-        let name: String = [n / 3844, n / 62 % 62, n % 62].map(|d| DIGITS[d] as char).iter().collect();
+    for n in 0..count {
+        let name: String = (0..digits).rev().map(|d| DIGITS[n / 62_usize.pow(d) % 62] as char).collect();
         bytes.extend(variable(&name));
     }
-    for n in 0..29_999 {
+    for n in 0..count - 1 {
         bytes.extend(record("X1", &[&word(n)]));
     }
-    let elements: Vec<u8> = (30_000..59_999).flat_map(word).collect();
-    bytes.extend(record("XC", &[&word(1), &word(29_999), &elements]));
-    bytes.extend(record("IN", &[&word(59_999)]));
-    TermFile::new("made-60000", bytes)
+    let elements: Vec<u8> = (count..2 * count - 1).flat_map(word).collect();
+    bytes.extend(record("XC", &[&word(1), &word(count - 1), &elements]));
+    bytes.extend(record("IN", &[&word(2 * count - 1)]));
+    bytes
+}
+
+/// 60,000 distinct terms, of 30,000 variables.
+pub fn made() -> TermFile {
+    TermFile::new("made-60000", variables(30_000, 3))
+}
+
+/// The same pattern in so many bytes.
+pub fn ordinary(size: usize) -> Vec<u8> {
+    variables((size - 100) / 37, 9)
 }

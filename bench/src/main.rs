@@ -1,34 +1,23 @@
-//! Times check and encode on term files, beside clearing and copying the same bytes in the same run.
+//! Times check and encode on term files, beside clearing and copying the same bytes in the same run; and measures their stack.
+mod collide;
+#[path = "../../bindings/rust/tests/cases/deep.rs"]
+mod deep;
 mod files;
+mod hash;
+mod kinds;
+#[path = "../../bindings/rust/tests/cases/made.rs"]
+mod made;
+mod slow;
+mod stack;
+mod times;
 
 use files::TermFile;
 use std::hint::black_box;
-use std::time::{Duration, Instant};
+use std::time::Duration;
+use times::{copying, shortest};
 
-/// The shortest of some runs, in nanoseconds: at most 1,000, and none begun after a second.
-fn shortest(mut run: impl FnMut()) -> f64 {
-    let began = Instant::now();
-    let mut best = f64::INFINITY;
-    for _ in 0..1000 {
-        let start = Instant::now();
-        run();
-        best = best.min(start.elapsed().as_nanos() as f64);
-        if began.elapsed() > Duration::from_secs(1) {
-            break;
-        }
-    }
-    best
-}
-
-/// Clears working memory and copies bytes, in nanoseconds.
-fn copying(work: &mut [u32], bytes: &[u8]) -> f64 {
-    let mut copy = vec![0; bytes.len()];
-    shortest(|| {
-        work.fill(0);
-        copy.copy_from_slice(bytes);
-        black_box((&mut *work, &mut copy));
-    })
-}
+/// The runs of a file of the first table are begun within this time.
+const LONG: Duration = Duration::from_secs(1);
 
 /// A line of the table: what was timed, and the same bytes cleared and copied.
 fn report(file: &TermFile, what: &str, taken: f64, copied: f64) {
@@ -48,11 +37,11 @@ fn report(file: &TermFile, what: &str, taken: f64, copied: f64) {
 fn time_check(file: &TermFile) {
     let mut work = vec![0; sakyelbo::work_entries(&file.bytes)];
     let mut answer = Ok(());
-    let taken = shortest(|| answer = sakyelbo::check_with(black_box(&file.bytes), &mut work));
+    let taken = shortest(LONG, || answer = sakyelbo::check_with(black_box(&file.bytes), &mut work));
     if let Err(refusal) = answer {
         println!("{}: {refusal}", file.name);
     }
-    report(file, "check", taken, copying(&mut work, &file.bytes));
+    report(file, "check", taken, copying(&mut work, &file.bytes, LONG));
 }
 
 fn time_encode(file: &TermFile) {
@@ -61,15 +50,15 @@ fn time_encode(file: &TermFile) {
         Ok(script) => script,
         Err(refusal) => return println!("{}: {refusal}", file.name),
     };
-    let taken = shortest(|| {
+    let taken = shortest(LONG, || {
         black_box(sakyelbo::encode_with(black_box(&file.bytes), &mut work, &mut script)).unwrap();
     });
     let both = [&file.bytes[..], &script].concat();
-    report(file, "encode", taken, copying(&mut work, &both));
+    report(file, "encode", taken, copying(&mut work, &both, LONG));
 }
 
-/// The files of the benchmark, and those that are named.
-fn files() -> std::io::Result<Vec<TermFile>> {
+/// The table of the files of the benchmark and those that are named.
+fn times(named: &[String]) -> std::io::Result<()> {
     let data = concat!(env!("CARGO_MANIFEST_DIR"), "/../crates/check_cases/data/large/");
     let mut files = vec![
         files::ladder(200),
@@ -77,17 +66,27 @@ fn files() -> std::io::Result<Vec<TermFile>> {
         TermFile::read(&format!("{data}plant-11000.term"))?,
         files::made(),
     ];
-    for path in std::env::args().skip(1) {
-        files.push(TermFile::read(&path)?);
+    for path in named {
+        files.push(TermFile::read(path)?);
     }
-    Ok(files)
+    println!("file          terms    bytes  call             ms    ns/term   copy ms  to copy");
+    for file in files {
+        time_check(&file);
+        time_encode(&file);
+    }
+    Ok(())
 }
 
 fn main() -> std::io::Result<()> {
-    println!("file          terms    bytes  call             ms    ns/term   copy ms  to copy");
-    for file in files()? {
-        time_check(&file);
-        time_encode(&file);
+    let args: Vec<String> = std::env::args().skip(1).collect();
+    if args == ["--stack"] {
+        stack::table();
+        return Ok(());
+    }
+    times(&args)?;
+    if args.is_empty() {
+        println!();
+        slow::table();
     }
     Ok(())
 }

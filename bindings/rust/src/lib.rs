@@ -18,6 +18,10 @@ pub use refusal::Refusal;
 /// The bytes of the longest file; a longer one is refusal 1.
 pub const LONGEST_FILE: usize = 1_048_576;
 
+/// The stack that check and encode need at most, in bytes, with what the system keeps there for a thread: a thread of this stack size can
+/// call them with any file. Writing a command needs less. `bench/run --stack` measures it.
+pub const STACK: usize = 98_304;
+
 /// The entries of working memory that a file needs; with fewer it is refusal 2. A file that is too long needs none.
 pub fn work_entries(file: &[u8]) -> usize {
     if file.len() > LONGEST_FILE {

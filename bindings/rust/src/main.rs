@@ -3,6 +3,7 @@ use std::ffi::{OsStr, OsString};
 use std::fs::File;
 use std::io::{stdin, stdout, Read, Result, Write};
 use std::process::ExitCode;
+use std::thread::Builder;
 
 const HELP: &str = "\
 Turns term files of Cedar's terms into SMT-LIB scripts.
@@ -17,6 +18,9 @@ pattern has code points above 196607, it is `refused N record P at Q: WORDS`, th
 
 The exit status is 0, or 1 for a refusal, or 2 for bad usage and files that cannot be read or written.
 ";
+
+/// The stack that the command needs itself, in bytes, beside the library's.
+const OWN_STACK: usize = 65_536;
 
 /// What the arguments ask for.
 enum Request<'a> {
@@ -95,9 +99,9 @@ fn encode(name: &OsStr, out: Option<&OsStr>) -> ExitCode {
     }
 }
 
-fn main() -> ExitCode {
-    let args: Vec<OsString> = std::env::args_os().skip(1).collect();
-    match request(&args) {
+/// Does what the arguments ask for.
+fn answer(args: &[OsString]) -> ExitCode {
+    match request(args) {
         Some(Request::Help) => {
             print!("{HELP}");
             ExitCode::SUCCESS
@@ -108,5 +112,15 @@ fn main() -> ExitCode {
             eprint!("{HELP}");
             ExitCode::from(2)
         }
+    }
+}
+
+/// Answers in a thread that has the stack that the library needs, however short that of the command is.
+fn main() -> ExitCode {
+    let args: Vec<OsString> = std::env::args_os().skip(1).collect();
+    let thread = Builder::new().stack_size(sakyelbo::STACK + OWN_STACK).spawn(move || answer(&args));
+    match thread {
+        Ok(thread) => thread.join().unwrap_or(ExitCode::from(2)),
+        Err(why) => failed(OsStr::new("thread"), &why),
     }
 }

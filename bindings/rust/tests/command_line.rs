@@ -2,11 +2,12 @@
 mod cases;
 mod commands;
 
-use cases::{answer, cases, path};
+use cases::{answer, cases, deep, path};
 use commands::{file, folder, sakyelbo, Ran};
 use std::ffi::OsStr;
 use std::fs;
 use std::os::unix::ffi::OsStrExt;
+use std::process::Command;
 
 /// Runs the command with these arguments.
 fn run(args: &[&str], input: &[u8]) -> Ran {
@@ -49,6 +50,16 @@ fn names_need_not_be_utf8() {
     let args = [OsStr::new("encode"), term.as_os_str(), OsStr::new("-o"), out.as_os_str()];
     assert_eq!(commands::run(&mut sakyelbo(&args), b""), (0, String::new(), String::new()));
     assert_eq!(fs::read(out).unwrap(), fs::read(path("crates/vectors/data/rust/address.smt2")).unwrap());
+}
+
+#[test]
+fn a_short_stack_is_no_hindrance() {
+    for (name, bytes) in deep::files() {
+        let script = String::from_utf8(sakyelbo::encode(&bytes).unwrap()).unwrap();
+        let mut limited = Command::new("bash");
+        limited.args(["-c", "ulimit -s 64 && exec \"$0\" encode -", env!("CARGO_BIN_EXE_sakyelbo")]);
+        assert_eq!(commands::run(&mut limited, &bytes), (0, script, String::new()), "{name}");
+    }
 }
 
 #[test]

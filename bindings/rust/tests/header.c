@@ -1,4 +1,4 @@
-/* Calls the functions of the library from C, by its header; run by header.rs. */
+/* Calls the functions of the library from C, by its header; compiled by header.rs, which gives the constants of the Rust crate, and run. */
 #include "sakyelbo.h"
 
 #include <stdio.h>
@@ -49,6 +49,8 @@ int main(void)
     uint32_t work[2 * sizeof high];
     size_t i;
 
+    expect(SAKYELBO_LONGEST_FILE == LONGEST_FILE, "the longest file is that of the Rust crate");
+    expect(SAKYELBO_STACK == STACK, "the stack is that of the Rust crate");
     memset(work, 0xa5, sizeof work);
     at.place = at.position = 77;
     expect_answer(sakyelbo_check(file, 6, work, 12, &at), 0, 0, 0, "a Bool type is accepted");

@@ -1,5 +1,9 @@
-//! The cases of the program check_cases, whose answers were written down from document 01, and term files made here.
-#![allow(dead_code)]
+//! The cases of the program check_cases, whose answers were written down from document 01, and term files made by code.
+#![allow(dead_code, unused_imports)]
+pub mod deep;
+pub mod made;
+
+pub use made::{and, record, text, word};
 use sakyelbo::Refusal;
 use std::fs;
 use std::path::PathBuf;
@@ -88,22 +92,4 @@ pub fn borders(file: &[u8]) -> Vec<usize> {
         places.push(at + 6 + u32::from_le_bytes(file[at + 2..at + 6].try_into().unwrap()) as usize);
     }
     places
-}
-
-pub fn word(n: usize) -> Vec<u8> {
-    (n as u32).to_le_bytes().to_vec()
-}
-
-pub fn text(s: &str) -> Vec<u8> {
-    [&word(s.len()), s.as_bytes()].concat()
-}
-
-pub fn record(mark: &str, fields: &[&[u8]]) -> Vec<u8> {
-    let body = fields.concat();
-    [mark.as_bytes(), &word(body.len()), &body].concat()
-}
-
-/// `And` of two terms, of type 0.
-pub fn and(a: usize, b: usize) -> Vec<u8> {
-    record("XA", &[&word(0), &[0], &word(2), &word(a), &word(b)])
 }

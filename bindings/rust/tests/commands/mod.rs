@@ -8,7 +8,7 @@ use std::os::unix::fs::{symlink, PermissionsExt};
 use std::path::PathBuf;
 use std::process::{Command, Stdio};
 
-/// A run's exit status, standard output and standard error.
+/// A run's exit status, -1 where a signal ended it, standard output and standard error.
 pub type Ran = (i32, String, String);
 
 /// Runs a command with these bytes as its standard input.
@@ -17,7 +17,7 @@ pub fn run(command: &mut Command, input: &[u8]) -> Ran {
     // A command that is not to read its input may have ended before this.
     let _ = child.stdin.take().unwrap().write_all(input);
     let done = child.wait_with_output().unwrap();
-    (done.status.code().unwrap(), String::from_utf8(done.stdout).unwrap(), String::from_utf8(done.stderr).unwrap())
+    (done.status.code().unwrap_or(-1), String::from_utf8(done.stdout).unwrap(), String::from_utf8(done.stderr).unwrap())
 }
 
 /// The command `sakyelbo` with these arguments.
@@ -25,6 +25,18 @@ pub fn sakyelbo<S: AsRef<OsStr>>(args: &[S]) -> Command {
     let mut command = Command::new(env!("CARGO_BIN_EXE_sakyelbo"));
     command.args(args);
     command
+}
+
+/// A C program of this folder's, compiled and linked with the library; it has the constants of the crate.
+pub fn compiled(name: &str) -> PathBuf {
+    let here = PathBuf::from(env!("CARGO_MANIFEST_DIR"));
+    let mut compiler = Command::new("cc");
+    compiler.args(["-std=c99", "-Wall", "-Wextra", "-Wpedantic", "-Werror", "-g"]);
+    compiler.arg(format!("-DLONGEST_FILE={}", sakyelbo::LONGEST_FILE)).arg(format!("-DSTACK={}", sakyelbo::STACK));
+    compiler.arg("-I").arg(here.join("../../include")).arg(here.join(format!("tests/{name}.c")));
+    compiler.arg(here.join("../../target/staticlib/libsakyelbo.a")).arg("-o").arg(made(name));
+    assert!(compiler.status().unwrap().success());
+    made(name)
 }
 
 /// A path under the folder for what tests write.
