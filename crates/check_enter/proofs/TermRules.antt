@@ -28,7 +28,7 @@ use Rattle.refusal.specs.declared.Refusal.{Refusal}
 use Rattle.refusal.specs.declared.Refusal.TheVariants.{TypeNotListed, TooMany}
 use Rattle.index.specs.Rules.{greatest, limits, list_rules_by, rules_by, type_by, type_named}
 use Rattle.index.proofs.Renamed.{map_agree}
-use Rattle.index.proofs.Rules.{type_numbers}
+use Rattle.index.proofs.Rules.{type_numbers, kept_differ}
 use Rattle.index_compare.proofs.Prints.{Octets}
 use Rattle.index_compare.specs.View.{viewed, reference_numbers, segments_at}
 use Rattle.index_compare.specs.declared.compare.View.TheVariants.{Depth}
@@ -52,11 +52,11 @@ pub term_row_stored : (v : RecordsMut) (o ty deep : ℕ) {place first m : ℕ} {
 term_row_stored v o ty deep E placed R more =
     record {
       kept = keeps_counted R _ refl;
-      go = λ f C room t s below type_is type_first_is d few.
+      go = λ f C room t s differ below type_is type_first_is d few.
           let c = C.sizes_are in
           let all = together_are c in
           record {
-            indexed = indexed_as R (rw (c.terms_are, placed (omega (arith, all, room, C.indexed.searchable.small)) ∙ all) (indexed_term C.indexed room (rw c.terms_are at E.enrols) s below type_is type_first_is d few));
+            indexed = indexed_as R (rw (c.terms_are, placed (omega (arith, all, room, C.indexed.searchable.small)) ∙ all) (indexed_term C.indexed room (rw c.terms_are at E.enrols) s differ below type_is type_first_is d few));
             sizes_are = sizes_term (sizes_as R c) t (one_more more (ap (λ (s : Sizes). s.terms) R.becomes.sizes_are) (omega (arith, c.terms_are, (counts_fewer f).terms_fewer, room, C.indexed.searchable.small)));
           };
     }
@@ -223,9 +223,10 @@ module _ (v : RecordsMut) {o n : ℕ} {r : Result (Unit {0}) Refusal} (octets : 
                   let P = term_parts s in
                   let q : n ≡ deepest v.work.now v.sizes.rows term_depth P = is ∙ deepest_is C.indexed P octets in
                   let F = type_found C.indexed P ty (sym (sought_is f C.indexed C.sizes_are P) ∙ ap option_of g) in
+                  let kept : broken (rules f (term t)) ≡ none = listed g C.indexed C.sizes_are P ∙ broken_later 13 _ (rw (← C.sizes_are.terms_are, lt-ltb v.sizes.terms 60000 d, ← q, le-leb (suc n) 256 (omega arith))) ∙ none_broken in
                   record {
-                    rule = listed g C.indexed C.sizes_are P ∙ broken_later 13 _ (rw (← C.sizes_are.terms_are, lt-ltb v.sizes.terms 60000 d, ← q, le-leb (suc n) 256 (omega arith))) ∙ none_broken;
-                    memory = S.go f (counted_left U C) (rw U.sizes_are room) t (rw U.file_is s) F.below F.type_is F.type_first_is (add-one n ∙ ap suc q ∙ term_depth_is C.indexed P) (omega arith);
+                    rule = kept;
+                    memory = S.go f (counted_left U C) (rw U.sizes_are room) t (rw U.file_is s) (kept_differ f t kept) F.below F.type_is F.type_first_is (add-one n ∙ ap suc q ∙ term_depth_is C.indexed P) (omega arith);
                   };
             }
 

@@ -1,9 +1,10 @@
 -- What entering a term asks for: its type among the types that are listed, and its row.
 -- Assumes nothing.
-use Rattle.std.specs.Prelude.{◌≡◌, ℕ, suc, ◌≤◌, ◌<◌, [], ◌∷◌, ◌++◌, length, Result, Option, Some}
+use Rattle.std.specs.Prelude.{◌≡◌, ℕ, suc, ◌≤◌, ◌<◌, [], ◌∷◌, ◌++◌, length, true, Result, Option, Some}
 use Rattle.script_spec.specs.Tree.{Tm, type_of, depth}
 use Rattle.script_spec.specs.File.{TermFile, term, types, type_at, earlier}
 use Rattle.index.specs.First.{first_type}
+use Rattle.index.specs.Rules.{elements_differ}
 use Rattle.index.specs.Meaning.{Stands}
 use Rattle.index.specs.Standing.{mark_at}
 use Rattle.index.specs.declared.RecordsMut.{RecordsMut}
@@ -17,7 +18,7 @@ use Rattle.check_enter.specs.Entering.{Keeps, Counted, Enters}
 pub record StoresTerm (v w : RecordsMut) (o ty deep : ℕ) : Type 0 where
   pub kept : Keeps v w
   pub go : (f : TermFile) → Counted f v → suc (length f) ≤ v.sizes.rows → (t : Tm) → Stands v.file.now f (earlier f) o (term t)
-      → ty < length (types f) → type_at f ty ≡ type_of t → first_type f ty ≡ ty → deep ≡ depth t → deep ≤ 256 → Counted (f ++ (term t ∷ [])) w
+      → elements_differ t ≡ true → ty < length (types f) → type_at f ty ≡ type_of t → first_type f ty ≡ ty → deep ≡ depth t → deep ≤ 256 → Counted (f ++ (term t ∷ [])) w
 
 -- a term of this kind is entered where `found` says its type
 pub record EntersTyped (v w : RecordsMut) (o : ℕ) (kind : Kind) (found : Option ℕ) (r : Result (Unit {0}) Refusal) : Type 0 where

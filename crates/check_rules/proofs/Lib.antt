@@ -1,6 +1,7 @@
 pub mod Held
 pub mod References
 pub mod Noting
+pub mod AllNoted
 pub mod Texts
 pub mod Lists
 pub mod Decided
@@ -14,3 +15,4 @@ pub mod RecordLaws
 pub mod EnumLaws
 pub mod Operators
 pub mod TermLaws
+pub mod Sets

@@ -3,7 +3,7 @@
 use mathlib.Core.Path.{◌≡◌, refl, sym, ap, ◌∙◌}
 use Prim.Native.Nat.{ℕ, zero, suc, ◌+◌, ◌*◌, ◌-◌, ◌/◌, ◌≤◌, ◌<◌}
 use native.Mathlib.Nat.{div-add-mod', mod-lt}
-use native.Mathlib.Decide.{ℕ_discrete}
+use native.Mathlib.Decide.{ℕ_discrete, dec_lt}
 use native.Mathlib.Numerals.{add-one}
 use native.Mathlib.Omega.{arith}
 use mathlib.Core.Bool.{Bool, true, false}
@@ -12,9 +12,9 @@ use borrow.Author.Count.{below_more}
 use lib.ListN.{length, get_or, set, length-set}
 use Rattle.script_spec.specs.Base.{Bytes}
 use Rattle.script_spec.proofs.Laws.{never}
-use Rattle.index.specs.Cells.{placed, offset, cell, store, term_first, note}
+use Rattle.index.specs.Cells.{placed, offset, cell, store, term_first, note, Apart}
 use Rattle.index.proofs.Cells.{shared, length_store, cell_store_same, cell_store_apart}
-use Rattle.check_rules.specs.Repeats.{ref_at, first_at, noted, Noted, Notes, Clears, Repeated, Different, SameEarlier, Tells}
+use Rattle.check_rules.specs.Repeats.{ref_at, first_at, noted, Noted, Stops, narrow, past, there, Notes, Clears, Repeated, Different, SameEarlier, Tells}
 use Rattle.std.specs.Prelude.{Some, None}
 use Rattle.index.specs.Held.{Becomes}
 use Rattle.index.specs.declared.Records.{Records}
@@ -42,21 +42,48 @@ lower i n l h = go (ℕ_discrete i n)
     go (yes e) = absurd (h e)
     go (no e) = omega arith
 
+-- m is one of the first n of some numbers
+pub record Among (φ : ℕ → ℕ) (n m : ℕ) : Type 0 where
+  pub index : ℕ
+  pub below : index < n
+  pub is : φ index ≡ m
+
 module _ (work : List ℕ) (k : ℕ) (φ : ℕ → ℕ) where
-  noted_length : (n : ℕ) → length (noted work k φ n) ≡ length work
+  pub noted_length : (n : ℕ) → length (noted work k φ n) ≡ length work
   unfolding noted
   noted_length zero = refl
   noted_length (suc n) = length_store (noted work k φ n) k note (φ n) (suc n) ∙ noted_length n
 
-  -- other columns are as they were
-  noted_other : (n column j : ℕ) → (note ≡ column → ⊥) → (shared note ≡ column → ⊥) → cell (noted work k φ n) k column j ≡ cell work k column j
+  -- entries apart from the notes are as they were
+  pub noted_apart : (n column j : ℕ) → ((i : ℕ) → i < n → Apart k note (φ i) column j) → cell (noted work k φ n) k column j ≡ cell work k column j
   unfolding noted
-  noted_other zero column j h g = refl
-  noted_other (suc n) column j h g = cell_store_apart (noted work k φ n) k note (φ n) (suc n) column j (record { other = λ e q. h e; facing = λ e q. g e }) ∙ noted_other n column j h g
+  noted_apart zero column j h = refl
+  noted_apart (suc n) column j h = cell_store_apart (noted work k φ n) k note (φ n) (suc n) column j (h n (omega arith)) ∙ noted_apart n column j (λ i l. h i (omega arith))
+
+  -- so are other columns
+  pub noted_other : (n column j : ℕ) → (note ≡ column → ⊥) → (shared note ≡ column → ⊥) → cell (noted work k φ n) k column j ≡ cell work k column j
+  noted_other n column j h g = noted_apart n column j (λ i l. record { other = λ e q. h e; facing = λ e q. g e })
+
+  -- and the note of a number that is none of them
+  pub noted_not : (n m : ℕ) → ((i : ℕ) → i < n → φ i ≡ m → ⊥) → cell (noted work k φ n) k note m ≡ cell work k note m
+  unfolding shared placed
+  noted_not n m h = noted_apart n note m (λ i l. record { other = λ a b. h i l b; facing = λ a b. omega arith })
+
+  -- a number that has a note and had none is one of them
+  pub noted_from : (n m : ℕ) → cell work k note m ≡ 0 → (cell (noted work k φ n) k note m ≡ 0 → ⊥) → Among φ n m
+  unfolding noted shared placed
+  noted_from zero m z h = absurd (h z)
+  noted_from (suc n) m z h = go (ℕ_discrete (φ n) m) (noted_from n m z)
+    where
+      go : Dec (φ n ≡ m) → ((cell (noted work k φ n) k note m ≡ 0 → ⊥) → Among φ n m) → Among φ (suc n) m
+      go (yes e) earlier = record { index = n; below = omega arith; is = e }
+      go (no e) earlier =
+          let A = earlier (λ q. h (cell_store_apart (noted work k φ n) k note (φ n) (suc n) note m (record { other = λ a b. e b; facing = λ a b. omega arith }) ∙ q)) in
+          record { index = A.index; below = omega (arith, A.below); is = A.is }
 
   -- a number that was noted has a note
   module _ (fits : 12 * k ≤ length work) where
-    has_note : (i n : ℕ) → i < n → ((j : ℕ) → j < n → φ j < k) → cell (noted work k φ n) k note (φ i) ≡ 0 → ⊥
+    pub has_note : (i n : ℕ) → i < n → ((j : ℕ) → j < n → φ j < k) → cell (noted work k φ n) k note (φ i) ≡ 0 → ⊥
     unfolding noted shared placed
     has_note i zero l below e = absurd (omega arith)
     has_note i (suc n) l below e = go (ℕ_discrete (φ n) (φ i)) (λ m. has_note i n m (λ j p. below j (omega arith)))
@@ -80,7 +107,7 @@ noted_different {work} {k = k} {φ} {n} N =
     }
 
 -- what is read of the references is as it was
-first_noted : (body : Bytes) (work : List ℕ) (k from : ℕ) (φ : ℕ → ℕ) (n i : ℕ) → first_at body (noted work k φ n) k from i ≡ first_at body work k from i
+pub first_noted : (body : Bytes) (work : List ℕ) (k from : ℕ) (φ : ℕ → ℕ) (n i : ℕ) → first_at body (noted work k φ n) k from i ≡ first_at body work k from i
 unfolding first_at shared placed
 first_noted body work k from φ n i = noted_other work k φ n term_first (ref_at body from i) (λ e. omega arith) (λ e. omega arith)
 
@@ -103,9 +130,15 @@ module _ (body : Bytes) (v : RecordsMut) (from count : ℕ) where
     pub notes : Noted v.work.now w.work.now v.sizes.rows (first_at body v.work.now v.sizes.rows from) i
 
 module _ {body : Bytes} {v : RecordsMut} {from count : ℕ} where
-  pub none_noted : Notes body v v from count 0
+  pub none_noted : length v.work.now / 12 < v.sizes.rows → Notes body v v from count 0
   unfolding noted
-  none_noted = record { most = omega arith; becomes = becomes_same; notes = record { is = refl; fits = λ h. absurd (omega arith); below = λ i l. absurd (omega arith); free = λ i l. absurd (omega arith) } }
+  none_noted h =
+      record {
+        most = omega arith;
+        becomes = becomes_same;
+        notes = record { is = refl; fits = λ h. absurd (omega arith); below = λ i l. absurd (omega arith); free = λ i l. absurd (omega arith) };
+        stops = λ l. narrow (let p : 0 < 12 = omega arith in omega (arith, h, div-add-mod' (length v.work.now) 12, mod-lt (length v.work.now) p));
+      }
 
   pub noting_start : v.sizes.rows ≤ length v.work.now / 12 → Noting body v from count v 0
   unfolding noted
@@ -118,8 +151,27 @@ module _ {body : Bytes} {v : RecordsMut} {from count : ℕ} where
       }
 
   module _ {w : RecordsMut} {i : ℕ} (N : Noting body v from count w i) where
-    pub noting_stop : {n : ℕ} → i ≡ n → Notes body v w from count n
-    noting_stop e = rw (← e) (record { most = N.most; becomes = N.becomes; notes = N.notes })
+    rows : w.sizes.rows ≡ v.sizes.rows
+    rows = ap (λ (z : Sizes). z.rows) N.becomes.sizes_are
+
+    -- the first equal number that is read in front of the reference i
+    noting_reads : (x : Records) {f : ℕ} → Views x w → f ≡ first_at body x.work.now x.sizes.rows from i → f ≡ first_at body v.work.now v.sizes.rows from i
+    noting_reads x V e =
+        let φ = first_at body v.work.now v.sizes.rows from in
+        e ∙ viewed body x w V from i ∙ ap (λ (m : ℕ). first_at body w.work.now m from i) rows ∙ ap (λ (w : List ℕ). first_at body w v.sizes.rows from i) N.notes.is ∙ first_noted body v.work.now v.sizes.rows from φ i i
+
+    noting_stop : (i < count → Stops w.work.now v.sizes.rows (first_at body v.work.now v.sizes.rows from i)) → Notes body v w from count i
+    noting_stop h = record { most = N.most; becomes = N.becomes; notes = N.notes; stops = h }
+
+    pub noting_all : {n : ℕ} → i ≡ n → n ≡ count → Notes body v w from count n
+    noting_all e q = rw (← e) (noting_stop (λ l. absurd (omega arith)))
+
+    module _ (x : Records) {f : ℕ} (V : Views x w) (e : f ≡ first_at body x.work.now x.sizes.rows from i) where
+      pub noting_past : v.sizes.rows ≤ f → Notes body v w from count i
+      noting_past g = noting_stop (λ l. past (rw (noting_reads x V e) at g))
+
+      pub noting_there : {n : ℕ} → n ≡ cell w.work.now w.sizes.rows note f → (n ≡ 0 → ⊥) → Notes body v w from count i
+      noting_there q z = noting_stop (λ l. there (λ t. z (q ∙ ap (λ (m : ℕ). cell w.work.now m note f) rows ∙ ap (cell w.work.now v.sizes.rows note) (noting_reads x V e) ∙ t)))
 
     pub noting_more : (x : Records) {f n : ℕ} {u : RecordsMut} → i < count → Views x w → f ≡ first_at body x.work.now x.sizes.rows from i → f < v.sizes.rows → n ≡ cell w.work.now w.sizes.rows note f → n ≡ 0 → Becomes w u (store w.work.now w.sizes.rows note f (i + 1))
         → Noting body v from count u (i + 1)
@@ -127,10 +179,8 @@ module _ {body : Bytes} {v : RecordsMut} {from count : ℕ} where
     noting_more x {f} {n} {u} l V e g q z s =
         let work = v.work.now in
         let k = v.sizes.rows in
-        let rows : w.sizes.rows ≡ k = ap (λ (z : Sizes). z.rows) N.becomes.sizes_are in
         let φ = first_at body work k from in
-        let read : f ≡ first_at body w.work.now k from i = e ∙ viewed body x w V from i ∙ ap (λ (m : ℕ). first_at body w.work.now m from i) rows in
-        let same : f ≡ φ i = read ∙ ap (λ (w : List ℕ). first_at body w k from i) N.notes.is ∙ first_noted body work k from φ i i in
+        let same : f ≡ φ i = noting_reads x V e in
         let empty : n ≡ cell w.work.now k note f = q ∙ ap (λ (m : ℕ). cell w.work.now m note f) rows in
         let is : u.work.now ≡ store w.work.now k note f (i + 1) = s.memory ∙ ap (λ (m : ℕ). store w.work.now m note f (i + 1)) rows in
         record {
@@ -146,6 +196,26 @@ module _ {body : Bytes} {v : RecordsMut} {from count : ℕ} where
                 free = λ j m. below_more (λ j. cell (noted work k φ j) k note (φ j) ≡ 0) i N.notes.free (rw (← N.notes.is, ← same) (sym empty ∙ z)) j (omega arith);
               });
         }
+
+  -- where the memory has the column, each number has a row and no note, and no two are equal, all are noted
+  pub all_noted : {w : RecordsMut} {n : ℕ} → Notes body v w from count n → 12 * v.sizes.rows ≤ length v.work.now → ((i : ℕ) → i < count → first_at body v.work.now v.sizes.rows from i < v.sizes.rows) → Different (first_at body v.work.now v.sizes.rows from) count
+      → ((i : ℕ) → i < count → cell v.work.now v.sizes.rows note (first_at body v.work.now v.sizes.rows from i) ≡ 0) → n ≡ count
+  all_noted {w} {n} N fits below D free = go (dec_lt n count)
+    where
+      φ : ℕ → ℕ
+      φ = first_at body v.work.now v.sizes.rows from
+
+      never_stops : n < count → Stops w.work.now v.sizes.rows (φ n) → n ≡ count
+      never_stops l (narrow h) = absurd (omega (arith, ap length N.notes.is, noted_length v.work.now v.sizes.rows φ n))
+      never_stops l (past h) = absurd (omega (arith, below n l))
+      never_stops l (there h) =
+          absurd (h (ap (λ (w : List ℕ). cell w v.sizes.rows note (φ n)) N.notes.is
+          ∙ noted_not v.work.now v.sizes.rows φ n (φ n) (λ i m e. D.go (record { first = i; second = n; ordered = m; below = l; equal = e }))
+          ∙ free n l))
+
+      go : Dec (n < count) → n ≡ count
+      go (yes l) = never_stops l (N.stops l)
+      go (no l) = omega (arith, N.most)
 
 -- ---- clearing
 
@@ -191,20 +261,21 @@ module _ {body : Bytes} {work : List ℕ} {k from : ℕ} where
   maybe_earlier {v} {n} z l e q h = record { go = λ t. record { first = v - 1; second = n; ordered = omega (arith, z); below = omega arith; equal = sym e ∙ h t ∙ q } }
 
 module _ {body : Bytes} {v w u : RecordsMut} {from count n : ℕ} (N : Notes body v w from count n) (C : Clears body w u from n) where
-  back : Becomes v u v.work.now
-  back =
+  -- the memory is as it was before the notes
+  pub memory_back : Becomes v u v.work.now
+  memory_back =
       let b = becomes_then N.becomes C.becomes in
       let noted : Noted v.work.now w.work.now w.sizes.rows (first_at body v.work.now w.sizes.rows from) n = rw (N.becomes.sizes_are) N.notes in
       record { file_is = b.file_is; sizes_are = b.sizes_are; lent = b.lent; memory = C.go v.work.now noted }
 
   pub repeats_never : n ≡ count → Tells body v u from count (Some false)
-  repeats_never e = record { unchanged = back; answer = rw (← e) (noted_different N.notes) }
+  repeats_never e = record { unchanged = memory_back; answer = rw (← e) (noted_different N.notes) }
 
   pub repeats_unknown : Tells body v u from count None
-  repeats_unknown = record { unchanged = back; answer = tt }
+  repeats_unknown = record { unchanged = memory_back; answer = tt }
 
   pub repeats_once : (x : Records) {r : Bool} → Views x u → (n ≡ count → ⊥) → SameEarlier body x.work.now x.sizes.rows from n r → r ≡ true → Tells body v u from count (Some true)
   repeats_once x V h E t =
       let R₀ = E.go t in
-      let R : Repeated (first_at body v.work.now v.sizes.rows from) (suc n) = rw (V.1, V.2, back.memory, back.sizes_are) at R₀ in
-      record { unchanged = back; answer = record { first = R.first; second = R.second; ordered = R.ordered; below = omega (arith, R.below, N.most, h); equal = R.equal } }
+      let R : Repeated (first_at body v.work.now v.sizes.rows from) (suc n) = rw (V.1, V.2, memory_back.memory, memory_back.sizes_are) at R₀ in
+      record { unchanged = memory_back; answer = record { first = R.first; second = R.second; ordered = R.ordered; below = omega (arith, R.below, N.most, h); equal = R.equal } }

@@ -96,12 +96,12 @@ none_lacking true = refl
 none_lacking false = refl
 
 -- what a kind says of a term's mark
-record Shown (m : TermMark ℕ ℕ) (k : Kind) : Type 0 where
-  set : k ≡ kind.XC → ((n : ℕ) × (m ≡ Set n))
-  attributes : k ≡ kind.XR → ((names : List Bytes) × (m ≡ Record names))
-  application : k ≡ kind.XA → ((n : ℕ) × (op : Op ℕ) × (m ≡ App n op))
+pub record Shown (m : TermMark ℕ ℕ) (k : Kind) : Type 0 where
+  pub set : k ≡ kind.XC → ((n : ℕ) × (m ≡ Set n))
+  pub attributes : k ≡ kind.XR → ((names : List Bytes) × (m ≡ Record names))
+  pub application : k ≡ kind.XA → ((n : ℕ) × (op : Op ℕ) × (m ≡ App n op))
 
-shown : (m : TermMark ℕ ℕ) → Shown m (term_kind m)
+pub shown : (m : TermMark ℕ ℕ) → Shown m (term_kind m)
 unfolding term_kind
 shown (Var id n) = record { set = λ q. never (cc); attributes = λ q. never (cc); application = λ q. never (cc) }
 shown (BoolLit b) = record { set = λ q. never (cc); attributes = λ q. never (cc); application = λ q. never (cc) }

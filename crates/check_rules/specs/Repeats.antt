@@ -1,6 +1,6 @@
 -- References of a list that repeat, by the numbers of first equal terms, and the notes that are made to find them.
 -- Assumes nothing.
-use Rattle.std.specs.Prelude.{◌≡◌, ℕ, zero, suc, ◌+◌, ◌*◌, ◌≤◌, ◌<◌, Bool, true, false, List, Option, None, Some, length}
+use Rattle.std.specs.Prelude.{◌≡◌, ℕ, zero, suc, ◌+◌, ◌*◌, ◌≤◌, ◌<◌, Bool, true, false, List, Option, None, Some, length, get_or}
 use Rattle.script_spec.specs.Base.{Bytes}
 use Rattle.index.specs.Cells.{cell, store, term_first, note}
 use Rattle.index.specs.Lists.{number_at}
@@ -11,7 +11,12 @@ use Rattle.index.specs.declared.RecordsMut.{RecordsMut}
 unfoldable pub ref_at : Bytes → ℕ → ℕ → ℕ
 ref_at body from i = number_at body (from + 4 * i)
 
--- its first equal number
+-- these are the references from a place of the body on
+pub record References (body : Bytes) (from : ℕ) (xs : List ℕ) (count : ℕ) : Type 0 where
+  pub size : length xs ≡ count
+  pub are : (i : ℕ) → i < count → get_or xs i 0 ≡ ref_at body from i
+
+-- the first equal number of the reference with number i
 unfoldable pub first_at : Bytes → List ℕ → ℕ → ℕ → ℕ → ℕ
 first_at body work rows from i = cell work rows term_first (ref_at body from i)
 
@@ -29,16 +34,27 @@ pub record Noted (work work' : List ℕ) (rows : ℕ) (φ : ℕ → ℕ) (n : �
   pub below : (i : ℕ) → i < n → φ i < rows
   pub free : (i : ℕ) → i < n → cell (noted work rows φ i) rows note (φ i) ≡ 0
 
--- the first equal numbers of the first n of so many references are noted
+-- why a number is not noted: the memory has no columns, the number has no row, or it has a note
+pub data Stops (work : List ℕ) (rows m : ℕ) : Type 0 where
+  narrow : length work < 12 * rows → Stops work rows m
+  past : rows ≤ m → Stops work rows m
+  there : (cell work rows note m ≡ 0 → ⊥) → Stops work rows m
+
+-- the first equal numbers of the first n of so many references are noted, and where these are not all, the next one cannot be
 pub record Notes (body : Bytes) (v w : RecordsMut) (from count n : ℕ) : Type 0 where
   pub most : n ≤ count
   pub becomes : Becomes v w w.work.now
   pub notes : Noted v.work.now w.work.now v.sizes.rows (first_at body v.work.now v.sizes.rows from) n
+  pub stops : n < count → Stops w.work.now v.sizes.rows (first_at body v.work.now v.sizes.rows from n)
 
 -- the notes of the first n references are cleared
 pub record Clears (body : Bytes) (v w : RecordsMut) (from n : ℕ) : Type 0 where
   pub becomes : Becomes v w w.work.now
   pub go : (work₀ : List ℕ) → Noted work₀ v.work.now v.sizes.rows (first_at body work₀ v.sizes.rows from) n → w.work.now ≡ work₀
+
+-- the first equal numbers of so many references all have a note
+pub record AllNoted (body : Bytes) (work : List ℕ) (rows from count : ℕ) : Type 0 where
+  pub go : (i : ℕ) → i < count → cell work rows note (first_at body work rows from i) ≡ 0 → ⊥
 
 -- ---- answers
 

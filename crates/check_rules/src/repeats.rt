@@ -1,7 +1,8 @@
 // Whether two of the references of a list are to equal terms: each first equal number is noted in a column that check does not need, and
-// the notes are cleared again.
+// the notes are cleared again. While they stand, they say of another list whether its elements are among the noted ones.
 ghost use Rattle.std.specs.Prelude.{◌≡◌};
-ghost use Rattle.check_rules.specs.Repeats.{ref_at, first_at, Notes, Clears, SameEarlier, Tells};
+ghost use Rattle.index_compare.specs.View.{Decides};
+ghost use Rattle.check_rules.specs.Repeats.{ref_at, first_at, Notes, Clears, AllNoted, SameEarlier, Tells};
 
 use index::{Column, Records, RecordsMut};
 use read_field::Cursor;
@@ -19,15 +20,15 @@ fn ref_at(list: Cursor<'_>, i: u32) -> u32
     }
 }
 
-// Its first equal number.
-fn first_at(list: Cursor<'_>, records: Records<'_>, i: u32) -> u32
+// The first equal number of the reference with number i.
+pub fn first_at(list: Cursor<'_>, records: Records<'_>, i: u32) -> u32
     ensures { result ≡ first_at list.entry.body.now records.entry.work.now records.entry.sizes.rows list.entry.at i }
 {
     records.get(Column::TermFirst, ref_at(list, i))
 }
 
 // Notes the first equal numbers of so many references, up to one that has a note; answers how many.
-fn note(list: Cursor<'_>, records: &mut RecordsMut<'_>, count: u32) -> u32
+pub fn note(list: Cursor<'_>, records: &mut RecordsMut<'_>, count: u32) -> u32
     ensures { Notes list.entry.body.now records.old records.new list.entry.at count result }
 {
     let rows = records.sizes.rows;
@@ -48,13 +49,26 @@ fn note(list: Cursor<'_>, records: &mut RecordsMut<'_>, count: u32) -> u32
 }
 
 // Clears the notes of the first n references, the last one first.
-fn clear(list: Cursor<'_>, records: &mut RecordsMut<'_>, n: u32)
+pub fn clear(list: Cursor<'_>, records: &mut RecordsMut<'_>, n: u32)
     ensures { Clears list.entry.body.now records.old records.new list.entry.at n }
 {
     for i in (0..n).rev() {
         let f = first_at(list, records.view(), i);
         records.set(Column::Note, f, 0);
     }
+}
+
+// Whether the first equal numbers of so many references all have a note.
+pub fn noted(list: Cursor<'_>, records: Records<'_>, count: u32) -> bool
+    ensures { Decides result (AllNoted list.entry.body.now records.entry.work.now records.entry.sizes.rows list.entry.at count) }
+{
+    for i in 0..count {
+        let f = first_at(list, records, i);
+        if records.get(Column::Note, f) == 0 {
+            return false;
+        }
+    }
+    true
 }
 
 // Whether the reference before number v, which is one of the first n, is equal to the reference n.

@@ -15,7 +15,7 @@ use Rattle.script_spec.specs.Tree.{TypeMark, Bool·, String·, Option·, Set·, 
 use Rattle.script_spec.specs.Fields.{term}
 use Rattle.script_spec.proofs.Computes
 use Rattle.index.specs.Cells.{cell, type_first, term_type}
-use Rattle.index.specs.First.{renumbered, canonical}
+use Rattle.index.specs.First.{renumbered, settled, canonical}
 use Rattle.index.specs.Standing.{entry_at}
 use Rattle.index.proofs.Renamed.{map_agree}
 use Rattle.index_compare.specs.Segment.{Segment, plain, type_ref}
@@ -27,7 +27,7 @@ use Rattle.index_compare.proofs.Listed.{segments_at_shown, named_listed}
 use Rattle.check_rules.specs.Marks.{datatype_bytes, type_bytes, mark_of}
 use Rattle.index_search.specs.Hash.{hashed, type_hash}
 use Rattle.index.specs.Names.{key_of, scaled}
-use Rattle.index_search.specs.Slots.{home_of}
+use Rattle.index_search.specs.Slots.{plain_hash, entry_hash, home_of}
 use Rattle.index_search.specs.Storing.{Scales}
 use Rattle.read_record.specs.Marks.{mark}
 use Rattle.check_types.specs.declared.Sought.{Sought}
@@ -138,7 +138,7 @@ module _ {file : Bytes} {work : List ℕ} {k o : ℕ} {s : Sought} (octets : Oct
 -- ---- its home
 
 pub home_found : {file : Bytes} {work : List ℕ} {k o h b : ℕ} → TypeHash file work k o h → Scales k h b → TypeHome file work k o b
-unfolding home_of canonical renumbered mark_of segments_of
+unfolding home_of entry_hash plain_hash canonical settled renumbered mark_of segments_of
 home_found {work = work} {k} H Z =
     record {
       go = λ f t ps S p.

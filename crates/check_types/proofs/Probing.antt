@@ -19,6 +19,7 @@ use Rattle.index.specs.Cells.{cell, type_offset, type_first}
 use Rattle.index.specs.First.{canonical, first_type, Below, InRange}
 use Rattle.index.specs.Rules.{listed, type_named}
 use Rattle.index.specs.Meaning.{counted, Rows}
+use Rattle.index.proofs.Rules.{OnlyTypes}
 use Rattle.index.proofs.Canonical.{canonical_equal, canonical_injective}
 use Rattle.index.proofs.Search.{Searched, types_searched}
 use Rattle.index_entry.proofs.Rows.{type_stands}
@@ -38,10 +39,10 @@ use Rattle.check_types.proofs.Same.{type_value, seeks_below, decides_same}
 -- types are equal exactly where their canonical entries are
 same_canonical : (f : TermFile) (t u : TypeMark) (rs ss : List ℕ) → Below (length (types f)) rs → Below (length (types f)) ss
     → Same (canonical f (type t rs) ≡ canonical f (type u ss)) (type_named f (listed t rs) ≡ type_named f (listed u ss))
-unfolding type_named named InRange earlier
+unfolding type_named named InRange earlier OnlyTypes
 same_canonical f t u rs ss b b' =
     record {
-      to = λ e. type_value (canonical_injective f (type t rs) (type u ss) b b' e);
+      to = λ e. type_value (canonical_injective f (type t rs) (type u ss) b b' tt tt e);
       from = λ e. canonical_equal f (type t rs) (type u ss) (ap record-file.type e);
     }
 

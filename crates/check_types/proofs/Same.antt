@@ -18,13 +18,13 @@ use Rattle.script_spec.specs.File as record-file
 use Rattle.script_spec.specs.File.{TermFile, types, named, earlier}
 use Rattle.script_spec.proofs.Computes
 use Rattle.index.specs.Cells.{cell, type_first, term_type}
-use Rattle.index.specs.First.{first_type, renumbered, canonical, Below, InRange}
+use Rattle.index.specs.First.{first_type, renumbered, settled, canonical, Below, InRange}
 use Rattle.index.specs.Rules.{TypeBy, listed, type_by, type_named, parts}
 use Rattle.index.specs.Standing.{mark_at, entry_at}
 use Rattle.index.specs.Meaning.{Rows}
 use Rattle.index.proofs.Renamed.{map_agree}
 use Rattle.index.proofs.Canonical.{canonical_equal, canonical_injective}
-use Rattle.index.proofs.Rules.{parts_below}
+use Rattle.index.proofs.Rules.{OnlyTypes, parts_below}
 use Rattle.index_compare.proofs.Prints.{Octets}
 use Rattle.index_compare.specs.View.{Decides, SameSegments, viewed}
 use Rattle.index_compare.specs.declared.compare.View.TheVariants.{First, Listed}
@@ -54,7 +54,7 @@ module _ {file : Bytes} {f : TermFile} {work : List ℕ} {k : ℕ} (I : Rows fil
   -- types are equal exactly where their marks are and the first equal numbers of their parts
   pub equal_types : (t u : TypeMark) (rs ss : List ℕ) → Below (length (types f)) rs → Below (length (types f)) ss
       → Same (type_named f (listed t rs) ≡ type_named f (listed u ss)) ((t ≡ u) × (map (cell work k type_first) rs ≡ map (cell work k type_first) ss))
-  unfolding type_named named canonical renumbered InRange earlier
+  unfolding type_named named canonical settled renumbered InRange earlier OnlyTypes
   equal_types t u rs ss b b' =
       let first : map (cell work k type_first) rs ≡ map (first_type f) rs = map_agree (λ n h. (I.type_row n h).first) rs b in
       let first' : map (cell work k type_first) ss ≡ map (first_type f) ss = map_agree (λ n h. (I.type_row n h).first) ss b' in
@@ -62,7 +62,7 @@ module _ {file : Bytes} {f : TermFile} {work : List ℕ} {k : ℕ} (I : Rows fil
         to = λ e.
             let same : type t (map (first_type f) rs) ≡ type u (map (first_type f) ss) = canonical_equal f (type t rs) (type u ss) (ap record-file.type e) in
             (mark_of same, first ∙ parts_of_lem same ∙ sym first');
-        from = λ s. type_value (canonical_injective f (type t rs) (type u ss) b b' (λ i. type (s.0 i) ((sym first ∙ s.1 ∙ first') i)));
+        from = λ s. type_value (canonical_injective f (type t rs) (type u ss) b b' tt tt (λ i. type (s.0 i) ((sym first ∙ s.1 ∙ first') i)));
       }
 
 -- ---- what is sought

@@ -9,6 +9,7 @@ use Rattle.script_spec.specs.Base.{Bytes}
 use Rattle.script_spec.specs.File.{TermFile, members, inputs, terms, term_at}
 use Rattle.script_spec.specs.Command.{script}
 use Rattle.script_spec.specs.Walk.{Step, went, stopped, start, names, encode_inputs, assertions, first_equal, encoded}
+use Rattle.script_spec.proofs.Classes.{eq_tm_first_equal}
 use Rattle.refusal.specs.Numbers.{number, answered}
 use Rattle.refusal.specs.declared.Refused.{Refused}
 use Rattle.write_bytes.specs.Writing.{longest, Wrote}
@@ -48,7 +49,8 @@ refused_at {c} {e} {r} {first} h k q p = record { refusal_is = k; position_is = 
         let is : first ≡ first_term f e.term = h ∙ (I.rows.term_row e.term below).first in
         let first-below : first < length (terms f) = rw is (first_below F e.term below) in
         let own : first_term f first ≡ first = ap (first_term f) is ∙ first_first F e.term below ∙ sym is in
-        p ∙ (I.rows.term_row first first-below).place_is ∙ place_first_equal f first first-below own ∙ ap (first_equal f) (ap (term_at f) is ∙ F.names e.term below)
+        p ∙ (I.rows.term_row first first-below).place_is ∙ place_first_equal f first first-below own
+        ∙ rw is (eq_tm_first_equal f (term_at f (first_term f e.term)) (term_at f e.term) (F.names e.term below))
 
 module _ {v w : Walk} where
   -- a refusal of the walk

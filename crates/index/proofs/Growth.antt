@@ -80,7 +80,7 @@ module _ {A : Type 0} {eq : A → A → Bool} (E : Equality eq) (d : A) (xs : Li
       rw e
       record {
         name_kept = λ n h. get_or-append xs ys d n h;
-        first_kept = λ n h. rw (get_or-append xs ys d n h, place_append (eq (get_or xs n d)) xs ys _ (place_first E d xs n h (get_or xs n d) refl));
+        first_kept = λ n h. rw (get_or-append xs ys d n h, place_append (eq (get_or xs n d)) xs ys _ (place_first E d xs n h (get_or xs n d) (E.reflexive (get_or xs n d))));
       }
 
 module _ (f : TermFile) (r : Named) where

@@ -11,7 +11,7 @@ use Rattle.script_spec.specs.Tree.{TermMark, Var, BoolLit, BitVecLit, StringLit,
 use Rattle.script_spec.specs.Fields.{Entry, Earlier, type, enum, func, term, input}
 use Rattle.script_spec.specs.File as file
 use Rattle.script_spec.specs.File.{TermFile, Named, types, funs, terms, named, earlier}
-use Rattle.index.specs.First.{canonical, All, Below, OpInRange, MarkInRange, InRange}
+use Rattle.index.specs.First.{settled, canonical, All, Below, OpInRange, MarkInRange, InRange}
 use Rattle.index.proofs.Growth.{lists_append, types_kept, funs_kept, terms_kept}
 use Rattle.index.proofs.Renamed.{map_agree, renamed_agree, renumbered_agree, named_mark_renamed}
 
@@ -98,4 +98,4 @@ module _ (f : TermFile) (r : Named) where
 
   pub canonical_kept : (x : Entry) → InRange (earlier f) x → canonical (f ++ (r ∷ [])) x ≡ canonical f x
   unfolding earlier canonical
-  canonical_kept x h = renumbered_agree (earlier f) (types_kept f r).first_kept (funs_kept f r).first_kept (terms_kept f r).first_kept x h
+  canonical_kept x h = ap settled (renumbered_agree (earlier f) (types_kept f r).first_kept (funs_kept f r).first_kept (terms_kept f r).first_kept x h)

@@ -6,9 +6,11 @@ pub mod Names
 pub mod Rows
 pub mod Entered
 pub mod Firsts
+pub mod Ascended
 pub mod Growth
 pub mod Renamed
 pub mod Canonical
+pub mod Plain
 pub mod Later
 pub mod Search
 pub mod Readers

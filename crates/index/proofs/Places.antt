@@ -64,5 +64,5 @@ first_record t (term u ∷ f) n e = go (eq_tm t u) (place (eq_tm t) (terms f)) n
 pub place_first_equal : (f : TermFile) (n : ℕ) → n < length (terms f) → first_term f n ≡ n → record_place f n ≡ first_equal f (term_at f n)
 unfolding first_term first_equal term_at first
 place_first_equal f n l e =
-    let p : place (eq_tm (term_at f n)) (terms f) ≡ some n = place_first equal_terms _ (terms f) n l (term_at f n) refl ∙ ap some e in
+    let p : place (eq_tm (term_at f n)) (terms f) ≡ some n = place_first equal_terms _ (terms f) n l (term_at f n) (equal_terms.reflexive (term_at f n)) ∙ ap some e in
     sym (ap (λ (o : Option ℕ). get_or o 0) (first_record (term_at f n) f n p))

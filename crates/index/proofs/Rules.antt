@@ -1,46 +1,43 @@
 -- What rules 9, 12 and 13 ask of the terms and types that a record names, said of its numbers: by recursion on the references.
 -- Assumes nothing.
 use Prim.Native.Nat.{ℕ, suc, ◌<◌}
-use mathlib.Core.Path.{◌≡◌, refl, ap, subst}
+use mathlib.Core.Path.{◌≡◌, refl, ap}
 use mathlib.Core.Bool.{Bool, true, false}
 use mathlib.Core.List.{List, [], ◌∷◌, map}
-use mathlib.Core.Option.{some}
-use lib.Dec.{T, eqb, eqb→eq}
+use mathlib.Core.Option.{Option, none, some}
+use lib.Dec.{eqb, eqb→eq}
 use borrow.Author.Tests.{eq-eqb}
 use lib.ListN.{length}
 use Rattle.script_spec.specs.Base.{any, empty, place, is_some}
-use Rattle.script_spec.specs.Tree.{Tree, node, nil, forest, trees, depth, depths, Bool·, Option·, Declared, record_of, eq_ty, eq_tm, type_of, types_of, type_from, datatype, attributes}
+use Rattle.script_spec.specs.Tree.{Tree, Tm, is_set, node, nil, forest, trees, depth, depths, Bool·, Option·, Declared, record_of, eq_ty, eq_tm, type_of, types_of, type_from, datatype, attributes}
 use Rattle.script_spec.specs.Tree.{TermMark, Var, BoolLit, BitVecLit, StringLit, Entity, ExtLit, None, Some, Set, Record, App}
 use Rattle.script_spec.specs.Fields.{Entry}
 use Rattle.script_spec.specs.Fields as fields
-use Rattle.script_spec.specs.File.{TermFile, types, terms, type_at, term_at, named_mark, named, earlier, distinct, list_rules, rules}
-use Rattle.script_spec.proofs.Laws.{eq_tm_eq, eq_tm_refl}
+use Rattle.script_spec.specs.File.{TermFile, Named, type, enum, func, input, types, terms, type_at, term_at, named_mark, term, named, earlier, distinct, list_rules, broken, rules}
+use Rattle.script_spec.proofs.Lists.{trees_forest}
+use Rattle.script_spec.proofs.Laws.{same_truth, eq_ty_refl, never}
 use Rattle.index.specs.First.{first_type, first_term, All, Below, MarkInRange, InRange}
-use Rattle.index.specs.Rules.{different, greatest, reference, type_by, type_named, parts, list_rules_by, limits, rules_by}
-use Rattle.index.proofs.Firsts.{first_injective, first_terms, equal_types, place_first, any_place}
-use Rattle.index.proofs.Renamed.{Agree, map_agree}
+use Rattle.index.specs.Rules.{different, elements_differ, differs, greatest, reference, type_by, type_named, parts, list_rules_by, limits, rules_by}
+use Rattle.index.proofs.Firsts.{first_injective, first_terms, equal_types, equal_terms, place_first, any_place}
+use Rattle.index.proofs.Renamed.{Agree, map_agree, set_named}
 
 -- ---- rule 9
 
--- tests that pass together
-same_truth : (x y : Bool) → (T x → T y) → (T y → T x) → x ≡ y
-same_truth true true h k = refl
-same_truth true false h k = absurd (h tt)
-same_truth false true h k = absurd (k tt)
-same_truth false false h k = refl
-
-pub trees_forest : {A : Type 0} (ts : List (Tree A)) → trees (forest ts) ≡ ts
-unfolding trees forest
-trees_forest [] = refl
-trees_forest (t ∷ ts) = rw (trees_forest ts)
+-- what refers to types only
+unfoldable pub OnlyTypes : Named → Type 0
+OnlyTypes (type t) = Unit {0}
+OnlyTypes (enum n ms) = Unit {0}
+OnlyTypes (func g) = Unit {0}
+OnlyTypes (term t) = ⊥
+OnlyTypes (input t) = ⊥
 
 module _ (f : TermFile) where
   -- terms are equal exactly where their first equal numbers are
   pub equal_terms_numbers : (m n : ℕ) → m < length (terms f) → n < length (terms f) → eq_tm (term_at f m) (term_at f n) ≡ eqb (first_term f m) (first_term f n)
   equal_terms_numbers m n h k =
       same_truth _ _
-      (λ t. rw (eq-eqb _ _ ((first_terms f).equal m n (eq_tm_eq _ _ t))) tt)
-      (λ t. subst (λ x. T (eq_tm (term_at f m) x)) (first_injective (first_terms f) m n h k (eqb→eq _ _ t)) (eq_tm_refl (term_at f m)))
+      (λ t. rw (eq-eqb _ _ ((first_terms f).equal m n t)) tt)
+      (λ t. first_injective (first_terms f) equal_terms m n h k (eqb→eq _ _ t))
 
   any_numbers : (m : ℕ) → m < length (terms f) → (rs : List ℕ) → Below (length (terms f)) rs → any (eq_tm (term_at f m)) (map (term_at f) rs) ≡ any (eqb (first_term f m)) (map (first_term f) rs)
   unfolding any All Below
@@ -51,6 +48,46 @@ module _ (f : TermFile) where
   unfolding distinct different All Below
   distinct_numbers [] h = refl
   distinct_numbers (n ∷ rs) h = rw (any_numbers n h.0 rs h.1, distinct_numbers rs h.1)
+
+  -- the elements of a set differ where their numbers do
+  pub differs_named : (e : Entry) (t : Tm) → InRange (earlier f) e → named f e ≡ term t → differs f e ≡ elements_differ t
+  unfolding named differs elements_differ InRange earlier
+  differs_named (fields.type m rs) t h p = never cc
+  differs_named (fields.enum n ms) t h p = never cc
+  differs_named (fields.func id a r) t h p = never cc
+  differs_named (fields.term m rs) t h p =
+      let q : node (named_mark f m) (forest (map (term_at f) rs)) ≡ t = cc in
+      rw (← q, set_named f m, trees_forest (map (term_at f) rs), distinct_numbers rs h.1)
+  differs_named (fields.input n) t h p = never cc
+
+  -- what refers to types only is no set
+  pub types_differ : (e : Entry) → OnlyTypes (named f e) → differs f e ≡ true
+  unfolding OnlyTypes named differs
+  types_differ (fields.type m rs) o = refl
+  types_differ (fields.enum n ms) o = refl
+  types_differ (fields.func id a r) o = refl
+  types_differ (fields.term m rs) o = absurd o
+  types_differ (fields.input n) o = absurd o
+
+-- a rule in front of others that is kept
+front_kept : (b : Bool) (later : Option ℕ) (n : ℕ) → ◌≡◌ {A = Option ℕ} (elim b as (λ x. Option ℕ) [ true ↦ later | false ↦ some n ]) none → b ≡ true
+front_kept true later n h = refl
+front_kept false later n h = never cc
+
+-- the elements of a set that keeps its rules differ
+pub kept_differ : (f : TermFile) (t : Tm) → broken (rules f (term t)) ≡ none → elements_differ t ≡ true
+unfolding broken rules list_rules elements_differ is_set
+kept_differ f (node (Var id ty) ts) h = refl
+kept_differ f (node (BoolLit b) ts) h = refl
+kept_differ f (node (BitVecLit n v) ts) h = refl
+kept_differ f (node (StringLit s) ts) h = refl
+kept_differ f (node (Entity ty id) ts) h = refl
+kept_differ f (node (ExtLit v) ts) h = refl
+kept_differ f (node (None ty) ts) h = refl
+kept_differ f (node Some ts) h = refl
+kept_differ f (node (Set ty) ts) h = front_kept (distinct (trees ts)) _ 9 h
+kept_differ f (node (Record names) ts) h = refl
+kept_differ f (node (App ty op) ts) h = refl
 
 -- ---- rule 13
 
@@ -118,7 +155,7 @@ module _ (f : TermFile) where
   -- a type that is referred to is listed
   pub reference_listed : (n : ℕ) → n < length (types f) → place (eq_ty (type_named f (reference n))) (types f) ≡ some (first_type f n)
   unfolding type_named first_type type_at
-  reference_listed n h = place_first equal_types (node Bool· nil) (types f) n h (type_at f n) refl
+  reference_listed n h = place_first equal_types (node Bool· nil) (types f) n h (type_at f n) (eq_ty_refl (type_at f n))
 
 -- ---- the rules of a record
 

@@ -1,10 +1,10 @@
 -- Numbers of first equal records, and entries whose references are such numbers. Two records are equal exactly where their numbers
 -- are, so that numbers are compared and never trees.
 -- Assumes nothing.
-use Rattle.std.specs.Prelude.{ℕ, zero, ◌<◌, ◌≡◌, Bool, List, [], ◌∷◌, map}
+use Rattle.std.specs.Prelude.{ℕ, zero, ◌<◌, ◌≡◌, Bool, true, false, eqb, ltb, List, [], ◌∷◌, map}
 use Rattle.std.proofs.Math.Option.{Option, none, some}
 use Rattle.script_spec.specs.Base.{Bytes, place, lookup}
-use Rattle.script_spec.specs.Tree.{eq_ty, eq_fun, eq_tm}
+use Rattle.script_spec.specs.Tree.{eq_ty, eq_fun, eq_tm, is_set}
 use Rattle.script_spec.specs.Tree.{TermMark, Var, BoolLit, BitVecLit, StringLit, Entity, ExtLit, None, Some, Set, Record, App, Op, Plain, Ext, RecordGet, StringLike, Uuf, ZeroExtend}
 use Rattle.script_spec.specs.Fields.{Entry, type, enum, func, term, input, Earlier, Reader, got, marks, whole}
 use Rattle.script_spec.specs.File.{TermFile, Named, types, funs, terms, type_at, fun_at, term_at, named, earlier}
@@ -64,9 +64,38 @@ renumbered types funs terms (func id a r) = func id (types a) (types r)
 renumbered types funs terms (term m rs) = term (renamed types funs m) (map terms rs)
 renumbered types funs terms (input n) = input (terms n)
 
--- an entry with each reference replaced by the number of the first equal record
+-- ---- canonical entries
+
+-- a number put in its place among ascending ones, unless it is there
+unfoldable pub inserted : ℕ → List ℕ → List ℕ
+inserted n [] = n ∷ []
+inserted n (m ∷ ms) = elim (ltb n m) [ true ↦ n ∷ m ∷ ms | false ↦ elim (eqb n m) [ true ↦ m ∷ ms | false ↦ m ∷ inserted n ms ] ]
+
+-- numbers in ascending order, each once
+unfoldable pub ascended : List ℕ → List ℕ
+ascended [] = []
+ascended (n ∷ ns) = inserted n (ascended ns)
+
+-- the numbers of a record's terms: those of a set in ascending order
+unfoldable pub in_order : Bool → List ℕ → List ℕ
+in_order true ns = ascended ns
+in_order false ns = ns
+
+-- an entry with the elements of a set in ascending order
+unfoldable pub settled : Entry → Entry
+settled (type m rs) = type m rs
+settled (enum n ms) = enum n ms
+settled (func id a r) = func id a r
+settled (term m rs) = term m (in_order (is_set m) rs)
+settled (input n) = input n
+
+-- an entry with each reference replaced by the number of the first equal record, and these of a set in ascending order
 unfoldable pub canonical : TermFile → Entry → Entry
-canonical f x = renumbered (first_type f) (first_fun f) (first_term f) x
+canonical f x = settled (renumbered (first_type f) (first_fun f) (first_term f) x)
+
+-- the entry is no set
+pub record NoSet (x : Entry) : Type 0 where
+  pub no : (t : ℕ) (rs : List ℕ) → x ≡ term (Set t) rs → ⊥
 
 -- ---- references in range
 

@@ -101,7 +101,8 @@ fn same_segments(records: Records<'_>, offset: u32, s: View, other: u32, t: View
     viewed_segments(records, s, offset).eq(viewed_segments(records, t, other))
 }
 
-// Whether the records at two offsets, of one mark, are equal, references by the numbers of first equal records.
+// Whether the records at two offsets, of one mark, agree, references by the numbers of first equal records: where they are no sets, whether they
+// are equal.
 pub fn same_record(records: Records<'_>, offset: u32, other: u32) -> bool
     ensures { Decides result (SameSegments records.entry.file.now (viewed records.entry.work.now records.entry.sizes.rows View.First) offset (viewed records.entry.work.now records.entry.sizes.rows View.First) other) }
 {

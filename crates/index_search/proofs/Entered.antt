@@ -4,7 +4,7 @@ use mathlib.Core.Path.{◌≡◌, refl, sym, ap, ◌∙◌, subst}
 use Prim.Native.Nat.{ℕ, suc, ◌*◌, ◌≤◌, ◌<◌}
 use native.Mathlib.Nat.{not-suc-le-zero}
 use native.Mathlib.Omega.{arith}
-use mathlib.Core.Bool.{true≢false, false}
+use mathlib.Core.Bool.{true≢false, true, false}
 use mathlib.Core.List.{List, [], ◌∷◌, ◌++◌}
 use lib.Dec.{eqb}
 use lib.ListN.{length, length-append}
@@ -14,6 +14,7 @@ use Rattle.script_spec.specs.Tree.{Ty, Fun, Tm, type_of, depth}
 use Rattle.script_spec.specs.File.{TermFile, Named, type, enum, func, term, input, types, funs, terms, inputs, enums, type_at, term_at, earlier}
 use Rattle.index.specs.Cells.{placed, cell, store, type_offset, type_first, type_depth, fun_offset, fun_first, term_offset, term_first, term_type, term_depth, enum_offset, hash, term_place, input_term, enum_list, type_list, note, fun_name}
 use Rattle.index.specs.First.{canonical, first_type}
+use Rattle.index.specs.Rules.{elements_differ}
 use Rattle.index.specs.Standing.{entry_at}
 use Rattle.index.specs.Meaning.{Stands, IndexedWithDepths}
 use Rattle.index.proofs.Cells.{shared, cell_store_apart}
@@ -86,7 +87,7 @@ module _ {file : Bytes} {f : TermFile} {work : List ℕ} {k : ℕ} (I : Indexed 
   indexed_type {work₀} {o} {m} {d} {t} E s deep shallow =
       let n = length (types f) in
       let work' = store (store (store (store work₀ k type_offset n o) k type_first n m) k type_depth n d) k type_list n 0 in
-      let A = E.go f s.entry (entries file work k type_offset) (type_looks I.index I.searchable.type_slots s) (omega (arith, few, (counts_fewer f).types_fewer)) empty_left in
+      let A = E.go f s.entry (entries file work k type_offset) (type_looks I.index I.depths.unnamed.no_note I.searchable.type_slots s) (omega (arith, few, (counts_fewer f).types_fewer)) empty_left in
       let C = enrolled_untouched A f in
       let fits = I.index.fits in
       let S = type_stored f k work₀ (rw C.same_size fits) room o m d in
@@ -114,7 +115,7 @@ module _ {file : Bytes} {f : TermFile} {work : List ℕ} {k : ℕ} (I : Indexed 
   indexed_func {work₀} {o} {m} {g} E s =
       let n = length (funs f) in
       let work' = store (store (store work₀ k fun_offset n o) k fun_first n m) k fun_name n 0 in
-      let A = E.go f s.entry (entries file work k fun_offset) (fun_looks I.index I.searchable.fun_slots s) (omega (arith, few, (counts_fewer f).funs_fewer)) empty_left in
+      let A = E.go f s.entry (entries file work k fun_offset) (fun_looks I.index I.depths.unnamed.no_note I.searchable.fun_slots s) (omega (arith, few, (counts_fewer f).funs_fewer)) empty_left in
       let C = enrolled_untouched A f in
       let fits = I.index.fits in
       let S = fun_stored f k work₀ (rw C.same_size fits) room o m in
@@ -135,14 +136,14 @@ module _ {file : Bytes} {f : TermFile} {work : List ℕ} {k : ℕ} (I : Indexed 
       }
 
   pub indexed_term : {work₀ : List ℕ} {o m τ d : ℕ} {t : Tm} → Enrols file work work₀ k term_offset term_first 2 (length (terms f)) o m → Stands file f (earlier f) o (term t)
-      → τ < length (types f) → type_at f τ ≡ type_of t → first_type f τ ≡ τ → d ≡ depth t → d ≤ 256
+      → elements_differ t ≡ true → τ < length (types f) → type_at f τ ≡ type_of t → first_type f τ ≡ τ → d ≡ depth t → d ≤ 256
       → Indexed file (f ++ (term t ∷ []))
       (store (store (store (store (store (store work₀ k term_offset (length (terms f)) o) k term_first (length (terms f)) m) k term_type (length (terms f)) τ) k term_depth (length (terms f)) d) k term_place (length (terms f)) (length f)) k note (length (terms f)) 0) k
   unfolding shared placed
-  indexed_term {work₀} {o} {m} {τ} {d} {t} E s below type_is type_first_is deep shallow =
+  indexed_term {work₀} {o} {m} {τ} {d} {t} E s apart below type_is type_first_is deep shallow =
       let n = length (terms f) in
       let work' = store (store (store (store (store (store work₀ k term_offset n o) k term_first n m) k term_type n τ) k term_depth n d) k term_place n (length f)) k note n 0 in
-      let A = E.go f s.entry (entries file work k term_offset) (term_looks I.index I.searchable.term_slots s) (omega (arith, few, (counts_fewer f).terms_fewer)) empty_left in
+      let A = E.go f s.entry (entries file work k term_offset) (term_looks I.index apart I.depths.unnamed.no_note I.searchable.term_slots s) (omega (arith, few, (counts_fewer f).terms_fewer)) empty_left in
       let C = enrolled_untouched A f in
       let fits = I.index.fits in
       let S = term_stored f k work₀ (rw C.same_size fits) room o m τ d (length f) in
@@ -150,7 +151,7 @@ module _ {file : Bytes} {f : TermFile} {work : List ℕ} {k : ℕ} (I : Indexed 
       let same : (i : ℕ) → cell work' k hash i ≡ cell work₀ k hash i
       = λ i. slots_beside _ k note n 0 refl refl i ∙ slots_beside _ k term_place n (length f) refl refl i ∙ slots_beside _ k term_depth n d refl refl i ∙ slots_beside _ k term_type n τ refl refl i ∙ slots_beside _ k term_first n m refl refl i
       ∙ slots_beside _ k term_offset n o refl refl i in
-      let J = rows.indexed_term without room (record { untouched = U; unlisted = λ B. S.unlisted (enrolled_unlisted A B); offset_is = S.offset_is; first_is = S.first_is; type_is = S.type_is; depth_is = S.depth_is; place_is = S.place_is; note_is = S.note_is }) (enrolled_stays A fits work' same) s (term_found I.index s (enrolled_found A)) below type_is type_first_is deep shallow in
+      let J = rows.indexed_term without room (record { untouched = U; unlisted = λ B. S.unlisted (enrolled_unlisted A B); offset_is = S.offset_is; first_is = S.first_is; type_is = S.type_is; depth_is = S.depth_is; place_is = S.place_is; note_is = S.note_is }) (enrolled_stays A fits work' same) s (term_found I.index s (enrolled_found A)) apart below type_is type_first_is deep shallow in
       let L = lists_term f t in
       record {
         index = J.index;

@@ -15,6 +15,7 @@ use Rattle.index_compare.proofs.Canonical.{index_firsts, same_canonical}
 use Rattle.check_rules.specs.Marks.{mark_of}
 use Rattle.check_rules.proofs.Marks.{entry_mark}
 use Rattle.index_search.proofs.Homes.{mark_canonical}
+use Rattle.index_search.proofs.SetLaws.{same_mark}
 use Rattle.index_search.specs.Found.{SameAt}
 
 -- bytes compared one by one are the same list where the answer is true
@@ -27,8 +28,8 @@ module _ (file : Bytes) (work : List ℕ) (k o p : ℕ) {a b : Bytes} {r : Bool}
   same_marks octets h D =
       let marks : mark_at file o ≡ mark_at file p = sym is ∙ test.0 h ∙ is' in
       record {
-        go = λ f I x y X Y.
-            let S = same_canonical (index_firsts I) file o p octets marks X.reads Y.reads X.in_range Y.in_range in
+        go = λ f I x y X Y N.
+            let S = same_canonical (index_firsts I) file o p octets marks X.reads Y.reads X.in_range Y.in_range (same_mark file o p marks X.reads Y.reads N) in
             record { true_of = λ e. D.true_of (S.from e); of_true = λ t. S.to (D.of_true t) };
       }
 
@@ -37,7 +38,7 @@ module _ (file : Bytes) (work : List ℕ) (k o p : ℕ) {a b : Bytes} {r : Bool}
   unfolding entry_at
   other_marks h =
       record {
-        go = λ f I x y X Y.
+        go = λ f I x y X Y N.
             record {
               true_of = λ e.
                   let marks : a ≡ b = is ∙ entry_mark (mark_at file o) (body_at file o) X.reads ∙ sym (mark_canonical f x) ∙ ap mark_of e ∙ mark_canonical f y ∙ sym (entry_mark (mark_at file p) (body_at file p) Y.reads) ∙ sym is' in

@@ -1,4 +1,7 @@
 pub mod Mixed
+pub mod Members
+pub mod Gathered
+pub mod SetLaws
 pub mod Shapes
 pub mod Ring
 pub mod Homes
@@ -8,6 +11,8 @@ pub mod Probing
 pub mod Equal
 pub mod Searching
 pub mod Numbers
+pub mod SetEqual
+pub mod SetSearch
 pub mod Growth
 pub mod Entered
 pub mod Lookup

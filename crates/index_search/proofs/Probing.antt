@@ -26,7 +26,7 @@ use Rattle.index_search.specs.Storing.{Home, FirstEmpty, Stored}
 use Rattle.index_search.specs.declared.slots.Table.{Table}
 use Rattle.index_search.specs.declared.slots.Table.TheVariants.{Types, Funs, Terms, Enums}
 use Rattle.index_search.specs.Tables.{slot_kind}
-use Rattle.index_search.specs.Probed.{Viewed, Other, Met, Unmet, ProbeTold, Probes, TakesSlot}
+use Rattle.index_search.specs.Probed.{Viewed, Other, Met, Unmet, ProbeTold, Probes, SlotTaken, TakesSlot}
 use Rattle.index_search.proofs.Ring.{code_number, empties_some, empty_near, Taken, taken_none, taken_more, empty_here}
 
 -- the tables have numbers below 4
@@ -98,9 +98,12 @@ module _ {work : List ℕ} {k kind count : ℕ} {test : ℕ → Bool → Type 0}
 pub viewed : {m : RecordsMut} {v : Records} → (v.file.now ≡ m.file.now) × (v.work.now ≡ m.work.now) × (v.sizes ≡ m.sizes) → Viewed m v
 viewed e = record { file_is = e.0; work_is = e.1; sizes_are = e.2 }
 
+pub slot_taken : {m w : RecordsMut} {kind count b d s code : ℕ} → s ≡ slot m.sizes.rows b d → (count < 1048576 → code ≡ code_of count kind) → Becomes m w (store m.work.now m.sizes.rows hash s code) → SlotTaken m w kind count b d
+slot_taken {m} e q B = record { stays = stays_store _ _ _ _ (stays_same m) B; is = λ h. B.memory ∙ (λ i. store m.work.now m.sizes.rows hash (e i) (q h i)) }
+
 module _ {m : RecordsMut} {v : Records} {kind count : ℕ} {test : ℕ → Bool → Type 0} {b : ℕ} (V : Viewed m v) where
   -- what the search tells of the records as they are read is so of the records
-  told_of : {r : Result ℕ ℕ} → Probes v.work.now v.sizes.rows kind count test b r → ProbeTold m.sizes.rows (cell m.work.now m.sizes.rows hash) kind count test b r
+  pub told_of : {r : Result ℕ ℕ} → Probes v.work.now v.sizes.rows kind count test b r → ProbeTold m.sizes.rows (cell m.work.now m.sizes.rows hash) kind count test b r
   told_of {r} P =
       subst (λ (s : Sizes). ProbeTold s.rows (cell m.work.now s.rows hash) kind count test b r) V.sizes_are
       (subst (λ (l : List ℕ). ProbeTold v.sizes.rows (cell l v.sizes.rows hash) kind count test b r) V.work_is P.told)
@@ -108,8 +111,8 @@ module _ {m : RecordsMut} {v : Records} {kind count : ℕ} {test : ℕ → Bool 
   pub takes_met : {n : ℕ} → Probes v.work.now v.sizes.rows kind count test b (Ok n) → TakesSlot m m kind count test b (Some n)
   takes_met P = record { stays = stays_same m; told = (told_of P, refl) }
 
-  pub takes_none : {w : RecordsMut} {d s code : ℕ} → Probes v.work.now v.sizes.rows kind count test b (Err d) → s ≡ slot m.sizes.rows b d → (count < 1048576 → code ≡ code_of count kind) → Becomes m w (store m.work.now m.sizes.rows hash s code) → TakesSlot m w kind count test b None
-  takes_none {d = d} P e q B = record { stays = stays_store _ _ _ _ (stays_same m) B; told = (d, told_of P, λ h. B.memory ∙ (λ i. store m.work.now m.sizes.rows hash (e i) (q h i))) }
+  pub takes_none : {w : RecordsMut} {d : ℕ} → Probes v.work.now v.sizes.rows kind count test b (Err d) → SlotTaken m w kind count b d → TakesSlot m w kind count test b None
+  takes_none {d = d} P T = record { stays = T.stays; told = (d, told_of P, T.is) }
 
 -- ---- what the search found
 

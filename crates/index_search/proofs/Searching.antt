@@ -1,4 +1,4 @@
--- The search for an equal record, from the home of what is looked for.
+-- The search for an equal record, from the home of what is looked for, which is no set.
 -- Assumes nothing.
 use mathlib.Core.Path.{◌≡◌, refl, ◌∙◌}
 use mathlib.Core.Logic.{inl, inr}
@@ -17,6 +17,7 @@ use Rattle.index.specs.declared.RecordsMut.{RecordsMut}
 use Rattle.index_compare.specs.View.{Decides}
 use Rattle.index_search.specs.Slots.{home_of}
 use Rattle.index_search.specs.Storing.{Home}
+use Rattle.index_search.specs.Sets.{SetAt}
 use Rattle.index_search.specs.Probed.{Viewed, TakesSlot}
 use Rattle.index_search.specs.Found.{SameAt, LooksFor, EnrolsIn}
 use Rattle.index_search.proofs.Ring.{empties_some}
@@ -30,16 +31,16 @@ EqualTo file work rows offsets o n r = SameAt file work rows (cell work rows off
 pub equal_viewed : {m w : RecordsMut} {v : Records} (offsets o : ℕ) {kind count b : ℕ} {r : Option ℕ} → Viewed m v → TakesSlot m w kind count (EqualTo v.file.now v.work.now v.sizes.rows offsets o) b r → TakesSlot m w kind count (EqualTo m.file.now m.work.now m.sizes.rows offsets o) b r
 equal_viewed offsets o V T = rw (V.file_is, V.work_is, V.sizes_are) at T
 
-module _ (v : RecordsMut) (offsets o : ℕ) {b : ℕ} (H : Home v.file.now v.work.now v.sizes.rows o b) where
+module _ (v : RecordsMut) (offsets o : ℕ) (no_set : SetAt v.file.now o None) {b : ℕ} (H : Home v.file.now v.work.now v.sizes.rows o b) where
   abbrev test : ℕ → Bool → Type 0
   test = EqualTo v.file.now v.work.now v.sizes.rows offsets o
 
   module _ {kind count : ℕ} {f : TermFile} {x : Entry} {ε : ℕ → Entry} (L : LooksFor v.file.now v.work.now v.sizes.rows offsets kind count o f x ε) where
     home_is : 0 < v.sizes.rows → b ≡ home_of (key_of v.work.now v.sizes.rows) v.sizes.rows (canonical f x)
-    home_is = H.is f x L.index L.sought.reads L.sought.in_range
+    home_is = H.is f x L.index L.sought.reads (no_set.go x L.sought.reads) L.sought.in_range
 
     decides : (n : ℕ) (r : Bool) → n < count → test n r → Decides r (canonical f (ε n) ≡ canonical f x)
-    decides n r l t = t.go f L.index (ε n) x (L.stand n l) L.sought
+    decides n r l t = t.go f L.index (ε n) x (L.stand n l) L.sought (no_set.go x L.sought.reads)
 
   -- an equal record was met
   pub enrolled_old : {w : RecordsMut} {kind count n m firsts : ℕ} → TakesSlot v w kind count test b (Some n) → m ≡ cell w.work.now w.sizes.rows firsts n → EnrolsIn v w offsets firsts kind count o m

@@ -1,12 +1,13 @@
 -- What a search among the records of one kind finds: a record equal to the one that is looked for, or that there is none.
 -- Assumes nothing.
-use Rattle.std.specs.Prelude.{◌≡◌, ◌⊎◌, ℕ, ◌<◌, Bool, List}
+use Rattle.std.specs.Prelude.{◌≡◌, ◌⊎◌, ℕ, ◌<◌, Bool, true, List, length}
 use Rattle.std.proofs.Math.Option.{some}
 use Rattle.script_spec.specs.Base.{Bytes}
 use Rattle.script_spec.specs.Fields.{Entry}
-use Rattle.script_spec.specs.File.{TermFile, earlier}
-use Rattle.index.specs.Cells.{cell, hash}
-use Rattle.index.specs.First.{canonical, InRange}
+use Rattle.script_spec.specs.File.{TermFile, terms, earlier}
+use Rattle.index.specs.Cells.{cell, note, hash}
+use Rattle.index.specs.First.{canonical, InRange, NoSet}
+use Rattle.index.specs.Rules.{differs}
 use Rattle.index.specs.Standing.{entry_at}
 use Rattle.index.specs.Meaning.{Rows}
 use Rattle.index_compare.specs.View.{Decides}
@@ -17,21 +18,23 @@ use Rattle.index.specs.declared.RecordsMut.{RecordsMut}
 use Rattle.index_search.specs.Slots.{home_of}
 use Rattle.index_search.specs.Storing.{Stored}
 
--- the entry x is read at an offset, and refers to records of f only
+-- the entry x is read at an offset, and refers to records of f only, as a set to terms that differ
 pub record At (file : Bytes) (f : TermFile) (o : ℕ) (x : Entry) : Type 0 where
   pub reads : entry_at file o ≡ some x
   pub in_range : InRange (earlier f) x
+  pub differ : differs f x ≡ true
 
--- r is whether the entries at two offsets are equal with first equal numbers for their references
+-- r is whether the entries at two offsets, the second no set, are equal with first equal numbers for their references
 pub record SameAt (file : Bytes) (work : List ℕ) (rows o p : ℕ) (r : Bool) : Type 0 where
-  pub go : (f : TermFile) → Rows file f work rows → (x y : Entry) → At file f o x → At file f p y → Decides r (canonical f x ≡ canonical f y)
+  pub go : (f : TermFile) → Rows file f work rows → (x y : Entry) → At file f o x → At file f p y → NoSet y → Decides r (canonical f x ≡ canonical f y)
 
--- what is looked for, and the entries ε among which it is, by their offsets in a column; each is reached in the slots
+-- what is looked for, and the entries ε among which it is, by their offsets in a column; each is reached in the slots, and no term has a note
 pub record LooksFor (file : Bytes) (work : List ℕ) (rows offsets kind count o : ℕ) (f : TermFile) (x : Entry) (ε : ℕ → Entry) : Type 0 where
   pub index : Rows file f work rows
   pub sought : At file f o x
   pub stand : (n : ℕ) → n < count → At file f (cell work rows offsets n) (ε n)
   pub kind_is : kind < 4
+  pub unnoted : (n : ℕ) → n < length (terms f) → cell work rows note n ≡ 0
   pub reached : (n : ℕ) → n < count → Reached (home_of (key_of work rows) rows) rows (cell work rows hash) kind count (λ m. canonical f (ε m)) n
 
 module _ (f : TermFile) (x : Entry) (ε : ℕ → Entry) (count : ℕ) where

@@ -1,4 +1,5 @@
 pub mod Hash
+pub mod Sets
 pub mod Slots
 pub mod Storing
 pub mod Probed

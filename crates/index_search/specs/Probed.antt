@@ -38,6 +38,11 @@ module _ (rows : ℕ) (column : ℕ → ℕ) (kind count : ℕ) (test : ℕ → 
 pub record Probes (work : List ℕ) (rows kind count : ℕ) (test : ℕ → Bool → Type 0) (b : ℕ) (r : Result ℕ ℕ) : Type 0 where
   pub told : ProbeTold rows (cell work rows hash) kind count test b r
 
+-- the slot d steps after slot b has the record of a kind with number `count`
+pub record SlotTaken (v w : RecordsMut) (kind count b d : ℕ) : Type 0 where
+  pub stays : Stays v w
+  pub is : count < 1048576 → w.work.now ≡ store v.work.now v.sizes.rows hash (slot v.sizes.rows b d) (code_of count kind)
+
 -- what it tells that takes a slot: the record that is met, and the memory is as it was; or none, and the first empty slot has the next number
 abbrev pub TakesSlotTold : List ℕ → List ℕ → ℕ → ℕ → ℕ → (ℕ → Bool → Type 0) → ℕ → Option ℕ → Type 0
 TakesSlotTold work work' rows kind count test b (Some n) = Met rows (cell work rows hash) kind count test b n × (work' ≡ work)

@@ -3,7 +3,8 @@
 use Rattle.std.specs.Prelude.{ℕ, ◌+◌, ◌≤◌, ◌<◌, List, length}
 use Rattle.std.proofs.Math.Option.{Option, none, some}
 use Rattle.script_spec.specs.Base.{Bytes}
-use Rattle.script_spec.specs.Fields.{Entry, input}
+use Rattle.script_spec.specs.Tree.{TermMark, Var, BoolLit, BitVecLit, StringLit, Entity, ExtLit, None, Some, Set, Record, App}
+use Rattle.script_spec.specs.Fields.{Entry, type, enum, func, term, input}
 use Rattle.script_spec.specs.File.{TermFile, types, funs, terms}
 use Rattle.index.specs.Cells.{cell, type_offset, fun_offset, term_offset, hash}
 use Rattle.index.specs.Empties.{empties}
@@ -12,13 +13,39 @@ use Rattle.index.specs.Standing.{entry_at}
 use Rattle.index.specs.Names.{key_of, scaled, Reached}
 use Rattle.index_compare.specs.Printed.{segments_of}
 use Rattle.check_rules.specs.Marks.{mark_of}
-use Rattle.index_search.specs.Hash.{hashed}
+use Rattle.index_search.specs.Hash.{hashed, set_hash}
 
 -- ---- slots
 
--- the home slot of an entry, by the hash of its mark and segments under a key
+-- the hash of an entry under a key, by its mark and segments
+unfoldable pub plain_hash : ℕ → Entry → ℕ
+plain_hash k x = hashed k (mark_of x) (segments_of x)
+
+-- the hash of a term: that of a set by its type and its elements, whatever their order
+unfoldable pub term_hash : ℕ → TermMark ℕ ℕ → List ℕ → ℕ
+term_hash k (Var id n) rs = plain_hash k (term (Var id n) rs)
+term_hash k (BoolLit b) rs = plain_hash k (term (BoolLit b) rs)
+term_hash k (BitVecLit n v) rs = plain_hash k (term (BitVecLit n v) rs)
+term_hash k (StringLit s) rs = plain_hash k (term (StringLit s) rs)
+term_hash k (Entity n id) rs = plain_hash k (term (Entity n id) rs)
+term_hash k (ExtLit v) rs = plain_hash k (term (ExtLit v) rs)
+term_hash k (None n) rs = plain_hash k (term (None n) rs)
+term_hash k Some rs = plain_hash k (term Some rs)
+term_hash k (Set n) rs = set_hash k n rs
+term_hash k (Record names) rs = plain_hash k (term (Record names) rs)
+term_hash k (App n op) rs = plain_hash k (term (App n op) rs)
+
+-- the hash of an entry
+unfoldable pub entry_hash : ℕ → Entry → ℕ
+entry_hash k (type m rs) = plain_hash k (type m rs)
+entry_hash k (enum n ms) = plain_hash k (enum n ms)
+entry_hash k (func id a r) = plain_hash k (func id a r)
+entry_hash k (term m rs) = term_hash k m rs
+entry_hash k (input n) = plain_hash k (input n)
+
+-- the home slot of an entry, by its hash under a key
 unfoldable pub home_of : ℕ → ℕ → Entry → ℕ
-home_of k rows x = scaled rows (hashed k (mark_of x) (segments_of x))
+home_of k rows x = scaled rows (entry_hash k x)
 
 -- ---- what they hold
 

@@ -6,7 +6,7 @@ use Rattle.script_spec.specs.Base.{Bytes}
 use Rattle.script_spec.specs.Fields.{Entry}
 use Rattle.script_spec.specs.File.{TermFile, earlier}
 use Rattle.index.specs.Cells.{cell, store, hash}
-use Rattle.index.specs.First.{canonical, InRange}
+use Rattle.index.specs.First.{canonical, InRange, NoSet}
 use Rattle.index.specs.Standing.{entry_at}
 use Rattle.index.specs.Meaning.{Rows}
 use Rattle.index.specs.Names.{slot, key_of, scaled, name_home}
@@ -17,10 +17,10 @@ pub record Scales (rows h b : ℕ) : Type 0 where
   pub is : b ≡ scaled rows h
   pub inside : 0 < rows → b < rows
 
--- b is the home slot of the entry at an offset, of `rows` slots
+-- b is the home slot of the entry at an offset, which is no set, of `rows` slots
 pub record Home (file : Bytes) (work : List ℕ) (rows o b : ℕ) : Type 0 where
   pub inside : 0 < rows → b < rows
-  pub is : (f : TermFile) (x : Entry) → Rows file f work rows → entry_at file o ≡ some x → InRange (earlier f) x → 0 < rows → b ≡ home_of (key_of work rows) rows (canonical f x)
+  pub is : (f : TermFile) (x : Entry) → Rows file f work rows → entry_at file o ≡ some x → NoSet x → InRange (earlier f) x → 0 < rows → b ≡ home_of (key_of work rows) rows (canonical f x)
 
 -- b is the home slot of a name under a key, of `rows` slots
 pub record NameHome (k rows : ℕ) (name : Bytes) (b : ℕ) : Type 0 where

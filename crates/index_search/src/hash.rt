@@ -1,7 +1,7 @@
 // A hash of a record under the file's key: its mark and its body, references by the numbers of first equal records; and of a type that is not at hand.
-ghost use Rattle.std.specs.Prelude.{◌≡◌, ◌*◌, [], ◌∷◌, map, Some};
+ghost use Rattle.std.specs.Prelude.{◌≡◌, ◌*◌, [], ◌∷◌, map};
 ghost use Rattle.index_compare.specs.Step.{told, refer};
-ghost use Rattle.index_compare.specs.Shape.{terms_ahead, Shaped};
+ghost use Rattle.index_compare.specs.Shape.{terms_ahead};
 ghost use Rattle.index_compare.specs.View.{viewed, viewed_ahead, segments_at};
 ghost use Rattle.index_compare.specs.declared.compare.View.TheVariants.{First, Listed};
 ghost use Rattle.index.specs.Standing.{mark_at};
@@ -22,7 +22,7 @@ pub(crate) fn folded(a: u64, b: u64) -> u64
 }
 
 // A hash with a number mixed in.
-fn mix(key: u64, h: u64, n: u64) -> u64
+pub(crate) fn mix(key: u64, h: u64, n: u64) -> u64
     ensures { result ≡ mixed key h n }
 {
     folded(h ^ n, key)
@@ -44,7 +44,7 @@ pub fn mix_bytes(key: u64, h: u64, s: &[u8]) -> u64
 }
 
 // A hash with the kind and the number of a segment mixed in.
-fn mix_reference(key: u64, h: u64, kind: u8, number: u32) -> u64
+pub(crate) fn mix_reference(key: u64, h: u64, kind: u8, number: u32) -> u64
     ensures { result ≡ mixed_segment key h kind number }
 {
     mix(key, h, 4294967296 * u64::from(kind) + u64::from(number))
@@ -94,33 +94,8 @@ fn mix_terms(key: u64, records: Records<'_>, h: u64, terms: Terms<'_>) -> u64
     x
 }
 
-// A hash with the segments of a shape mixed in.
-fn mix_shape(key: u64, records: Records<'_>, h: u64, shape: Shape<'_>) -> u64
-    ensures { (l : _) → Shaped l (Some shape.entry) → result ≡ mixed_segments key h (map (viewed records.entry.work.now records.entry.sizes.rows First) l) }
-{
-    match shape {
-        Shape::Sole(n) => mix_first(key, records, h, Referent::Term, n),
-        Shape::Applied(t, code, count, terms) => {
-            let x = mix_first(key, records, h, Referent::Type, t);
-            let y = mix_segment(key, x, Segment::Plain(code));
-            let z = mix_segment(key, y, Segment::Plain(count));
-            mix_terms(key, records, z, terms)
-        }
-        Shape::Listing(t, count, terms) => {
-            let x = mix_first(key, records, h, Referent::Type, t);
-            let y = mix_segment(key, x, Segment::Plain(count));
-            mix_terms(key, records, y, terms)
-        }
-        Shape::Bare(body) => mix_segment(key, h, Segment::Plain(body)),
-        Shape::Named(text, t) => {
-            let x = mix_segment(key, h, Segment::Plain(text));
-            mix_first(key, records, x, Referent::Type, t)
-        }
-    }
-}
-
 // The hash of a mark of two bytes.
-fn mark_hash(key: u64, a: u8, b: u8) -> u64
+pub(crate) fn mark_hash(key: u64, a: u8, b: u8) -> u64
     ensures { result ≡ mixed_bytes key key (a ∷ b ∷ []) }
 {
     mix_bytes(key, key, &[a, b])
@@ -137,15 +112,26 @@ fn mark_hash_at(key: u64, file: &[u8], offset: u32) -> u64
     }
 }
 
-// The hash of the record at an offset.
+// The hash of the record at an offset, which is no set.
 pub fn record_hash(records: Records<'_>, offset: u32) -> u64
     ensures { result ≡ record_hash records.entry.file.now records.entry.work.now records.entry.sizes.rows offset }
 {
     let key = records.key();
     let h = mark_hash_at(key, records.file, offset);
     match index_compare::shape::shape_at(records.file, offset) {
-        Some(shape) => mix_shape(key, records, h, shape),
-        None => mix_ahead(
+        Some(Shape::Sole(n)) => mix_first(key, records, h, Referent::Term, n),
+        Some(Shape::Applied(t, code, count, terms)) => {
+            let x = mix_first(key, records, h, Referent::Type, t);
+            let y = mix_segment(key, x, Segment::Plain(code));
+            let z = mix_segment(key, y, Segment::Plain(count));
+            mix_terms(key, records, z, terms)
+        }
+        Some(Shape::Bare(body)) => mix_segment(key, h, Segment::Plain(body)),
+        Some(Shape::Named(text, t)) => {
+            let x = mix_segment(key, h, Segment::Plain(text));
+            mix_first(key, records, x, Referent::Type, t)
+        }
+        Some(Shape::Listing(..)) | None => mix_ahead(
             key,
             h,
             index_compare::compare::viewed_segments(records, View::First, offset),

@@ -4,6 +4,7 @@
 pub mod enums;
 pub mod hash;
 pub mod search;
+pub mod sets;
 pub mod slots;
 
 ghost use Rattle.std.specs.Prelude.{ℕ, ◌<◌, get_or};

@@ -1,11 +1,14 @@
 // The search for a record that is equal to one, among the types, the functions or the terms.
-ghost use Rattle.std.specs.Prelude.{◌≡◌};
+ghost use Rattle.std.specs.Prelude.{◌≡◌, ℕ, Some, None};
 ghost use Rattle.index.specs.Cells.{number, cell};
 ghost use Rattle.index_search.specs.Tables.{table_of, slot_kind, offsets_of, firsts_of, counted};
+ghost use Rattle.index_search.specs.Sets.{SetAt};
 ghost use Rattle.index_search.specs.Found.{SameAt, EnrolsIn};
 
-use crate::slots;
+use crate::sets::{EqualSet, Listed};
 use crate::slots::{Table, Test};
+use crate::{sets, slots};
+use check_rules::repeats;
 use index::{Column, Records, RecordsMut, Sizes};
 
 // The tables of records that are searched by marks and bodies.
@@ -57,7 +60,7 @@ impl Compared {
     }
 }
 
-// Whether the records at two offsets are equal: the same mark, and bodies that agree by the index. Out of line, since most searches meet no record.
+// Whether the records at two offsets, the second no set, are equal: the same mark, and bodies that agree by the index. Out of line, since most searches meet no record.
 #[inline(never)]
 fn same_at(records: Records<'_>, offset: u32, other: u32) -> bool
     ensures { SameAt records.entry.file.now records.entry.work.now records.entry.sizes.rows offset other result }
@@ -68,7 +71,7 @@ fn same_at(records: Records<'_>, offset: u32, other: u32) -> bool
     a == b && index_compare::compare::same_record(records, offset, other)
 }
 
-// The records whose offsets a column has and that are equal to the one at an offset.
+// The records whose offsets a column has and that are equal to the one at an offset, which is no set.
 #[derive(Drop)]
 struct EqualTo {
     offsets: Column,
@@ -83,10 +86,10 @@ impl Test for EqualTo {
     }
 }
 
-// The number of the first record of a table that is equal to the one at an offset; where there is none, how many the table has, and a slot is
-// taken for the record with that number.
-pub fn enrol(records: &mut RecordsMut<'_>, table: Compared, offset: u32) -> u32
-    ensures { EnrolsIn records.old records.new (offsets_of table) (firsts_of table) (slot_kind (table_of table)) (counted table records.old.sizes) offset result }
+// The number of the first record of a table that is equal to one that is no set; where there is none, how many the table has, and a slot is taken
+// for the record with that number.
+fn enrol_plain(records: &mut RecordsMut<'_>, table: Compared, offset: u32) -> u32
+    ensures { SetAt records.old.file.now offset None → EnrolsIn records.old records.new (offsets_of table) (firsts_of table) (slot_kind (table_of table)) (counted table records.old.sizes) offset result }
 {
     let searched = table.searched(records.sizes);
     let count = searched.count;
@@ -98,5 +101,41 @@ pub fn enrol(records: &mut RecordsMut<'_>, table: Compared, offset: u32) -> u32
     match slots::enrol(records, searched.table, count, b, &equal) {
         Some(n) => records.get(searched.firsts, n),
         None => count,
+    }
+}
+
+// The same for a set: its elements are noted while the slots are gone through, and a slot is taken when the notes are cleared.
+fn enrol_set(records: &mut RecordsMut<'_>, table: Compared, set: Listed<'_>) -> u32
+    ensures { (o : ℕ) → SetAt records.old.file.now o (Some set.entry) → EnrolsIn records.old records.new (offsets_of table) (firsts_of table) (slot_kind (table_of table)) (counted table records.old.sizes) o result }
+{
+    let searched = table.searched(records.sizes);
+    let count = searched.count;
+    let hash = sets::set_hash(records.view(), set);
+    let b = slots::scale(records.sizes.rows, hash);
+    let equal = EqualSet {
+        offsets: searched.offsets,
+        ty: records.get(Column::TypeFirst, set.ty),
+        count: set.count,
+    };
+    let noted = repeats::note(set.elements, records, set.count);
+    let met = slots::probe(records.view(), searched.table, count, b, &equal);
+    repeats::clear(set.elements, records, noted);
+    match met {
+        Ok(n) => records.get(searched.firsts, n),
+        Err(d) => {
+            slots::take(records, searched.table, count, b, d);
+            count
+        }
+    }
+}
+
+// The number of the first record of a table that is equal to the one at an offset; where there is none, how many the table has, and a slot is
+// taken for the record with that number.
+pub fn enrol(records: &mut RecordsMut<'_>, table: Compared, offset: u32) -> u32
+    ensures { EnrolsIn records.old records.new (offsets_of table) (firsts_of table) (slot_kind (table_of table)) (counted table records.old.sizes) offset result }
+{
+    match sets::set_at(records.file, offset) {
+        Some(set) => enrol_set(records, table, set),
+        None => enrol_plain(records, table, offset),
     }
 }

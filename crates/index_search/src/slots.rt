@@ -5,7 +5,7 @@ ghost use Rattle.index.specs.Names.{slot, code_of};
 ghost use Rattle.index.specs.declared.Records.{Records};
 ghost use Rattle.index_search.specs.Tables.{slot_kind};
 ghost use Rattle.index_search.specs.Storing.{Scales, Home, NameHome};
-ghost use Rattle.index_search.specs.Probed.{Viewed, Probes, TakesSlot};
+ghost use Rattle.index_search.specs.Probed.{Viewed, Probes, SlotTaken, TakesSlot};
 
 use index::{Column, Records, RecordsMut};
 
@@ -65,7 +65,7 @@ pub fn scale(rows: usize, h: u64) -> usize
     high as usize
 }
 
-// The slot from which the record at an offset is looked for.
+// The slot from which the record at an offset, which is no set, is looked for.
 pub fn home(records: Records<'_>, offset: u32) -> usize
     ensures { Home records.entry.file.now records.entry.work.now records.entry.sizes.rows offset result }
 {
@@ -117,6 +117,14 @@ pub fn probe<T: Test>(
     Err(rows)
 }
 
+// Takes the slot that comes d steps after slot b for the record of a table with number `count`.
+pub fn take(records: &mut RecordsMut<'_>, table: Table, count: u32, b: usize, d: usize)
+    ensures { SlotTaken records.old records.new (slot_kind table) count b d }
+{
+    let rows = records.sizes.rows;
+    records.set_row(Column::Hash, slot(rows, b, d), code(count, table))
+}
+
 // The number of such a record; where none is met, the first empty slot is taken for the record with number `count`.
 pub fn enrol<T: Test>(
     records: &mut RecordsMut<'_>,
@@ -127,11 +135,10 @@ pub fn enrol<T: Test>(
 ) -> Option<u32>
     ensures { (v : Records) × Viewed records.old v × TakesSlot records.old records.new (slot_kind table) count (T.tells test.now v) b result }
 {
-    let rows = records.sizes.rows;
     match probe(records.view(), table, count, b, test) {
         Ok(n) => Some(n),
         Err(d) => {
-            records.set_row(Column::Hash, slot(rows, b, d), code(count, table));
+            take(records, table, count, b, d);
             None
         }
     }

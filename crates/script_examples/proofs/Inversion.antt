@@ -1,30 +1,33 @@
 -- What the bytes of a faithful script give away, whatever naming and roles it is faithful by: the names of its things, that there
--- are enough of them, and the bodies of its assertions; and where all terms are Bool also its definitions and the order of uses. By
--- recursion on the roles, since each role's command is read as what the role says (`Roles`).
+-- are enough of them, and the bodies of its assertions; and where all terms are Bool or sets of Bool also its definitions and the order
+-- of uses. By recursion on the roles, since each role's command is read as what the role says (`Roles`).
 -- Assumes nothing.
 use Prim.Native.Nat.{ℕ, zero, suc, ◌≤◌}
 use mathlib.Core.Path.{◌≡◌, refl, sym, ap, ◌∙◌, subst}
-use mathlib.Core.Bool.{Bool, true, not, ◌&&◌}
+use mathlib.Core.Logic.{inl, inr, ⊎_elim}
+use mathlib.Core.Bool.{Bool, true, not, ◌&&◌, ◌||◌}
 use mathlib.Core.List.{List, [], ◌∷◌, ◌++◌, map, map-append, tail, Memᴰ}
 use mathlib.Core.Option
 use mathlib.Core.Option.{some}
 use lib.Dec.{T, T_not}
 use lib.ListN.{length, length-map, get_elem?}
-use Rattle.script_spec.specs.Base.{Bytes, bytes, all, any, collect}
-use Rattle.script_spec.specs.Tree.{Tm, Mark, Forest, node, nil, cons, trees, children, type_of, eq_ty, eq_tm, Bool·, Enums}
+use Rattle.script_spec.specs.Base.{Bytes, all, any, collect}
+use Rattle.script_spec.specs.Tree.{Ty, Tm, Mark, Forest, node, nil, cons, trees, children, type_of, eq_ty, eq_tm, Set·, Enums}
 use Rattle.script_spec.specs.File.{distinct}
 use Rattle.script_spec.specs.Spelling.{Names, sort}
 use Rattle.script_spec.specs.Smtlib.{Token, flat, word_end}
 use Rattle.script_spec.specs.Faithful.{Thing, term, func, type, Needed, NeededTerm, is_input, is_child, name_of, well_named, lettered, full, Role, declares, defines, asserts, command, introduced, asserted, Definition, definitions, unfolded, Right, in_order, unique, Every, every, also, things, Says}
+use Rattle.script_spec.proofs.Asked.{bool}
 use Rattle.script_spec.proofs.Computes
-use Rattle.script_spec.proofs.Laws.{and_parts, or_left, or_right, all_parts, eq_ty_eq, eq_tm_refl}
+use Rattle.script_spec.proofs.Laws.{and_parts, or_left, or_right, or_cases, all_parts, eq_ty_eq}
+use Rattle.script_spec.proofs.Equal.{eq_tm_refl}
 use Rattle.script_spec.proofs.Defined.{definitions_append}
 use Rattle.script_spec.proofs.Unfolding.{flat_word_end}
 use Rattle.script_spec.proofs.OneResult.{says_named}
 use Rattle.script_spec.proofs.Lists.{all_mem, all_members}
-use Rattle.script_examples.proofs.Pigeonhole.{Apart, apart, new, length_apart}
+use Rattle.script_spec.proofs.Pigeonhole.{Apart, apart, new, length_apart}
 use Rattle.script_examples.proofs.Readings.{name_read, assertion_read, definitions_read, order_read}
-use Rattle.script_examples.proofs.Roles.{asserted_body, DefinesBool, role_name, role_own, role_assertion, role_definition, role_uses}
+use Rattle.script_examples.proofs.Roles.{asserted_body, SimpleSort, DefinesSimple, role_name, role_own, role_assertion, role_definition, role_uses}
 
 -- ---- names and assertions
 
@@ -44,63 +47,73 @@ module _ (e : Enums) (ν : Names) where
   assertions_read ds (defines t b ∷ rs) (also p ps) = rw (role_assertion e ν (defines t b)) (assertions_read ds rs ps)
   assertions_read ds (asserts t b ∷ rs) (also p ps) = rw (role_assertion e ν (asserts t b)) (λ i. p i ∷ assertions_read ds rs ps i)
 
--- ---- definitions and uses, where all terms are Bool
+-- ---- definitions and uses, where all terms are Bool or sets of Bool
 
--- this term and all below it are Bool
+-- the type of sets of Bool
+abbrev pub bool_set : Ty
+bool_set = node Set· (cons bool nil)
+
+-- the type Bool, or that of its sets
+unfoldable pub simple_type : Ty → Bool
+simple_type ty = eq_ty ty bool || eq_ty ty bool_set
+
+-- this term and all below it have these types
 unfoldable mutual
-  pub boolean : Tm → Bool
-  boolean (node m ts) = eq_ty (type_of (node m ts)) (node Bool· nil) && booleans ts
+  pub simple : Tm → Bool
+  simple (node m ts) = simple_type (type_of (node m ts)) && simples ts
 
-  pub booleans : Forest Mark → Bool
-  booleans nil = true
-  booleans (cons t ts) = boolean t && booleans ts
+  pub simples : Forest Mark → Bool
+  simples nil = true
+  simples (cons t ts) = simple t && simples ts
 
-booleans_all : (ts : Forest Mark) → booleans ts ≡ all boolean (trees ts)
-unfolding boolean trees all
-booleans_all nil = refl
-booleans_all (cons t ts) = ap (λ (b : Bool). boolean t && b) (booleans_all ts)
+simples_all : (ts : Forest Mark) → simples ts ≡ all simple (trees ts)
+unfolding simple trees all
+simples_all nil = refl
+simples_all (cons t ts) = ap (λ (b : Bool). simple t && b) (simples_all ts)
 
-boolean_child : (u : Tm) → T (boolean u) → {t : Tm} → Memᴰ t (children u) → T (boolean t)
-unfolding boolean children
-boolean_child (node m ts) h k =
-    all_mem boolean (trees ts) (subst T (booleans_all ts) (and_parts (eq_ty (type_of (node m ts)) (node Bool· nil)) (booleans ts) h).1) k
+simple_child : (u : Tm) → T (simple u) → {t : Tm} → Memᴰ t (children u) → T (simple t)
+unfolding simple children
+simple_child (node m ts) h k = all_mem simple (trees ts) (subst T (simples_all ts) (and_parts (simple_type (type_of (node m ts))) (simples ts) h).1) k
 
-needed_boolean : {ins : List Tm} {t : Tm} → T (all boolean ins) → NeededTerm ins t → T (boolean t)
-needed_boolean {ins} h (is_input m) = all_mem boolean ins h m
-needed_boolean h (is_child {u = u} n k m) = boolean_child u (needed_boolean h n) m
+needed_simple : {ins : List Tm} {t : Tm} → T (all simple ins) → NeededTerm ins t → T (simple t)
+needed_simple {ins} h (is_input m) = all_mem simple ins h m
+needed_simple h (is_child {u = u} n k m) = simple_child u (needed_simple h n) m
 
-boolean_sort : (ν : Names) (t : Tm) → T (boolean t) → sort ν (type_of t) ≡ bytes "Bool"
-unfolding boolean Computes.spelling
-boolean_sort ν (node m ts) h = ap (sort ν) (eq_ty_eq (type_of (node m ts)) (node Bool· nil) (and_parts (eq_ty (type_of (node m ts)) (node Bool· nil)) (booleans ts) h).0)
+simple_sort : (ν : Names) (t : Tm) → T (simple t) → SimpleSort (sort ν (type_of t))
+unfolding simple simple_type SimpleSort Computes.base Computes.command Computes.spelling
+simple_sort ν (node m ts) h =
+    let ty = type_of (node m ts) in
+    let q = or_cases (eq_ty ty bool) (eq_ty ty bool_set) (and_parts (simple_type ty) (simples ts) h).0 in
+    ⊎_elim (λ p. inl (ap (sort ν) (eq_ty_eq ty bool p))) (λ p. inr (ap (sort ν) (eq_ty_eq ty bool_set p))) q
 
--- a thing that is a term is Bool
-boolean_thing : Thing → Bool
-boolean_thing (term t) = boolean t
-boolean_thing (func f) = true
-boolean_thing (type ty) = true
+-- a thing that is a term has one of these types, and so have all terms below it
+simple_thing : Thing → Bool
+simple_thing (term t) = simple t
+simple_thing (func f) = true
+simple_thing (type ty) = true
 
-role_boolean : (ν : Names) (r : Role) → T (all boolean_thing (introduced r)) → DefinesBool ν r
-unfolding introduced all boolean_thing DefinesBool
-role_boolean ν (declares th) h = tt
-role_boolean ν (defines t b) h = boolean_sort ν t (and_parts (boolean t) true h).0
-role_boolean ν (asserts t b) h = tt
+role_simple : (ν : Names) (r : Role) → T (all simple_thing (introduced r)) → DefinesSimple ν r
+unfolding introduced all simple_thing DefinesSimple
+role_simple ν (declares th) h = tt
+role_simple ν (defines t b) h = simple_sort ν t (and_parts (simple t) true h).0
+role_simple ν (asserts t b) h = tt
 
 module _ (e : Enums) (ν : Names) where
-  definitions_read_lem : (rs : List Role) → T (all (well_named ν) (things rs)) → T (all boolean_thing (things rs)) → definitions_read (map (command e ν) rs) ≡ definitions ν rs
+  definitions_read_lem : (rs : List Role) → T (all (well_named ν) (things rs)) → T (all simple_thing (things rs)) → definitions_read (map (command e ν) rs) ≡ definitions ν rs
   unfolding things collect definitions_read definitions
   definitions_read_lem [] h k = refl
   definitions_read_lem (r ∷ rs) h k =
       let p = all_parts (well_named ν) (introduced r) (things rs) h in
-      let q = all_parts boolean_thing (introduced r) (things rs) k in
-      rw (role_definition e ν r p.0 (role_boolean ν r q.0), definitions_read_lem rs p.1 q.1) (sym (definitions_append ν (r ∷ []) rs))
+      let q = all_parts simple_thing (introduced r) (things rs) k in
+      rw (role_definition e ν r p.0 (role_simple ν r q.0), definitions_read_lem rs p.1 q.1) (sym (definitions_append ν (r ∷ []) rs))
 
-  order_read_lem : (seen : List Bytes) (rs : List Role) → T (all (well_named ν) (things rs)) → T (all boolean_thing (things rs)) → in_order e ν seen rs ≡ order_read seen (map (command e ν) rs)
+  order_read_lem : (seen : List Bytes) (rs : List Role) → T (all (well_named ν) (things rs)) → T (all simple_thing (things rs)) → in_order e ν seen rs ≡ order_read seen (map (command e ν) rs)
   unfolding things collect in_order order_read
   order_read_lem seen [] h k = refl
   order_read_lem seen (r ∷ rs) h k =
       let p = all_parts (well_named ν) (introduced r) (things rs) h in
-      let q = all_parts boolean_thing (introduced r) (things rs) k in
-      rw (role_own e ν r p.0, role_name e ν r p.0, role_uses e ν r p.0 (role_boolean ν r q.0), order_read_lem (map (name_of ν) (introduced r) ++ seen) rs p.1 q.1) refl
+      let q = all_parts simple_thing (introduced r) (things rs) k in
+      rw (role_own e ν r p.0, role_name e ν r p.0, role_uses e ν r p.0 (role_simple ν r q.0), order_read_lem (map (name_of ν) (introduced r) ++ seen) rs p.1 q.1) refl
 
 -- ---- unlike terms
 
@@ -158,23 +171,23 @@ module _ {e : Enums} {ins : List Tm} {cs : List (List Token)} (h : Says e ins cs
       ∙ get_elem?_map (λ b. flat (unfolded (definitions h.names h.roles) b)) (collect assertion_read (tail cs)) k
       ∙ rw p (ap some (flat_word_end (definitions h.names h.roles) w (says_named h) u))
 
-  module _ (bool : T (all boolean ins)) where
-    things_boolean : T (all boolean_thing (things h.roles))
-    unfolding Needed boolean_thing
-    things_boolean = all_members boolean_thing (things h.roles) (λ th m. go th ((h.needed th).1 m))
+  module _ (typed : T (all simple ins)) where
+    things_simple : T (all simple_thing (things h.roles))
+    unfolding Needed simple_thing
+    things_simple = all_members simple_thing (things h.roles) (λ th m. go th ((h.needed th).1 m))
       where
-        go : (th : Thing) → Needed e ins th → T (boolean_thing th)
-        go (term t) n = needed_boolean bool n.0
+        go : (th : Thing) → Needed e ins th → T (simple_thing th)
+        go (term t) n = needed_simple typed n.0
         go (func f) n = tt
         go (type ty) n = tt
 
     -- what each assertion unfolds to by the definitions that are read is the full spelling of its input
     pub unfolded_of : map (λ b. flat (unfolded (definitions_read (tail cs)) b)) (collect assertion_read (tail cs)) ≡ map (full e h.names) ins
-    unfolded_of = subst (λ (ds : List Definition). map (λ b. flat (unfolded ds b)) (collect assertion_read (tail cs)) ≡ map (full e h.names) ins) (sym (ap definitions_read commands_read ∙ definitions_read_lem e h.names h.roles h.lettering things_boolean)) assertions_of
+    unfolded_of = subst (λ (ds : List Definition). map (λ b. flat (unfolded ds b)) (collect assertion_read (tail cs)) ≡ map (full e h.names) ins) (sym (ap definitions_read commands_read ∙ definitions_read_lem e h.names h.roles h.lettering things_simple)) assertions_of
 
     -- no command uses a name before its command
     pub order_of : T (order_read [] (tail cs))
-    order_of = rw (commands_read, ← order_read_lem e h.names [] h.roles h.lettering things_boolean) h.order
+    order_of = rw (commands_read, ← order_read_lem e h.names [] h.roles h.lettering things_simple) h.order
 
   -- there are no fewer names than unlike terms that need one
   pub terms_fit : (ts : List Tm) → T (distinct ts) → Every (λ t. Needed e ins (term t)) ts → length ts ≤ length (collect name_read (tail cs))

@@ -4,15 +4,17 @@
 use Prim.Native.Nat.{ℕ, ◌≤◌}
 use Prim.Native.String.{String}
 use native.Mathlib.Omega.{arith}
-use mathlib.Core.Path.{◌≡◌, refl, sym, ap, subst}
+use mathlib.Core.Path.{◌≡◌, refl, sym, ap, ◌∙◌, subst}
 use mathlib.Core.List.Memᴰ
-use mathlib.Core.List.{List, [], ◌∷◌, ◌++◌, tail, nil≢cons}
-use mathlib.Core.Option.{some, map}
+use mathlib.Core.List.{List, [], ◌∷◌, ◌++◌, map, tail, nil≢cons}
+use mathlib.Core.Option
+use mathlib.Core.Option.{some}
 use lib.Dec.{T, eqb}
 use lib.ListN.{length, get_or, get_elem?, drop}
 use Rattle.script_spec.specs.Base.{Bytes, bytes, any, collect}
-use Rattle.script_spec.specs.Tree.{Tm, node, nil, Var, And, Eq, Not}
+use Rattle.script_spec.specs.Tree.{Tm, node, nil, forest, Var, Set, And, Eq, Not}
 use Rattle.script_spec.specs.File.{TermFile, type, term, input, members, inputs}
+use Rattle.script_spec.specs.Listing.{sets_of, listed, as_listed}
 use Rattle.script_spec.specs.Smtlib.{word, commands_of}
 use Rattle.script_spec.specs.Faithful.{Faithful, Says, full, is_input, is_child, also, every}
 use Rattle.script_spec.proofs.Asked.{bool, apply}
@@ -21,7 +23,7 @@ use Rattle.script_spec.proofs.Laws.{any_left, any_right}
 use Rattle.script_examples.proofs.Lines.{lines, after_option}
 use Rattle.script_examples.proofs.Readings
 use Rattle.script_examples.proofs.Readings.{assertion_read}
-use Rattle.script_examples.proofs.Inversion.{boolean, names_unique, assertions_count, bare_of, unfolded_of, order_of, terms_fit}
+use Rattle.script_examples.proofs.Inversion.{bool_set, simple, simple_type, names_unique, assertions_count, bare_of, unfolded_of, order_of, terms_fit}
 
 -- ---- terms and files
 
@@ -45,6 +47,17 @@ a_and_b = apply And (a ∷ b ∷ [])
 abbrev pub a_equals_b : Tm
 a_equals_b = apply Eq (a ∷ b ∷ [])
 
+-- a set of these terms
+abbrev pub set : List Tm → Tm
+set ts = node (Set bool) (forest ts)
+
+-- the set of the two variables, listed one way and the other
+abbrev pub a_b : Tm
+a_b = set (a ∷ b ∷ [])
+
+abbrev pub b_a : Tm
+b_a = set (b ∷ a ∷ [])
+
 -- one input: not a
 abbrev pub negation : TermFile
 negation = type bool ∷ term a ∷ term not_a ∷ input not_a ∷ []
@@ -61,6 +74,15 @@ conjunction = type bool ∷ term a ∷ term b ∷ term a_and_b ∷ input a_and_b
 abbrev pub equality : TermFile
 equality = type bool ∷ term a ∷ term b ∷ term a_equals_b ∷ input a_equals_b ∷ []
 
+-- two inputs: b, which tells the variables' names apart, and the set listed [b a]; a record before that one, which no input needs, lists
+-- it [a b]
+abbrev pub spare_listing : TermFile
+spare_listing = type bool ∷ type bool_set ∷ term a ∷ term b ∷ term a_b ∷ term b_a ∷ input b ∷ input b_a ∷ []
+
+-- two inputs: the set listed [a b], and the same listed [b a]
+abbrev pub both_listings : TermFile
+both_listings = type bool ∷ type bool_set ∷ term a ∷ term b ∷ term a_b ∷ term b_a ∷ input a_b ∷ input b_a ∷ []
+
 -- ---- the wrong scripts
 
 -- nothing at all, for any file
@@ -70,8 +92,11 @@ nothing_written f h = nil≢cons h.commands
 
 -- the Option lines alone, for any file with an input
 pub option_alone : (f : TermFile) (t : Tm) (ts : List Tm) → inputs f ≡ t ∷ ts → Faithful f (after_option []) → ⊥
-unfolding lines after_option Readings.computes Computes.base Computes.smtlib Computes.faithful
-option_alone f t ts i h = let k : 0 ≡ length (inputs f) = assertions_count h in let l = ap length i in omega arith
+unfolding lines after_option as_listed Readings.computes Computes.base Computes.smtlib Computes.faithful
+option_alone f t ts i h =
+    let k : 0 ≡ length (map (listed (sets_of (inputs f))) (inputs f)) = assertions_count h in
+    let l : 0 ≡ length (map (listed (sets_of (inputs f))) (t ∷ ts)) = k ∙ ap (λ (us : List Tm). length (map (listed (sets_of (inputs f))) us)) i in
+    omega arith
 
 -- so for the file of one negation
 pub option_alone_negation : Faithful negation (after_option []) → ⊥
@@ -79,14 +104,14 @@ unfolding Computes.base Computes.file
 option_alone_negation = option_alone negation not_a [] refl
 
 -- a bare `true`, for any file: the input in its place is spelled `true`
-pub bare_true : (f : TermFile) (s : Bytes) (h : Says (members f) (inputs f) (commands_of s)) (k : ℕ) → get_elem? (collect assertion_read (tail (commands_of s))) k ≡ some (word (bytes "true") ∷ [])
-    → map (full (members f) h.names) (get_elem? (inputs f) k) ≡ some (bytes "true")
+pub bare_true : (f : TermFile) (s : Bytes) (h : Says (members f) (as_listed (inputs f)) (commands_of s)) (k : ℕ) → get_elem? (collect assertion_read (tail (commands_of s))) k ≡ some (word (bytes "true") ∷ [])
+    → Option.map (full (members f) h.names) (get_elem? (as_listed (inputs f)) k) ≡ some (bytes "true")
 unfolding Computes.base Computes.smtlib Computes.faithful
 bare_true f s h k p = bare_of h (bytes "true") tt k p
 
 -- opens what the proofs below compute with
 computes : Unit {0}
-unfolding lines after_option boolean Readings.computes Computes.base Computes.tree Computes.file Computes.command Computes.spelling Computes.smtlib Computes.faithful
+unfolding lines after_option simple simple_type Readings.computes Computes.base Computes.tree Computes.file Computes.listing Computes.command Computes.spelling Computes.smtlib Computes.faithful
 computes = tt
 
 -- the first input right, and a bare assertion for the second
@@ -169,3 +194,34 @@ pub used_in_itself : Faithful negation (after_option
     ∷ [])) → ⊥
 unfolding computes
 used_in_itself h = order_of h tt
+
+-- a set listed as the file does first, and not as the encoder meets it first
+pub listed_in_file_order : Faithful spare_listing (after_option
+    ("(declare-const t0 Bool)"
+    ∷ "(declare-const t1 Bool)"
+    ∷ "(define-fun t2 () (Set Bool) (set.insert t1 t0 (as set.empty (Set Bool))))"
+    ∷ "(assert t0)"
+    ∷ "(assert t2)"
+    ∷ [])) → ⊥
+unfolding computes
+listed_in_file_order h =
+    let p = unfolded_of h tt in
+    let b_named : h.names.term b ≡ bytes "t0" = sym (ap (λ (l : List Bytes). get_or l 0 []) p) in
+    let digit : Bytes → ℕ = λ n. get_or ((n ++ (32 ∷ (h.names.term a ++ bytes " (as set.empty (Set Bool))"))) ++ (41 ∷ [])) 1 0 in
+    let k : ◌≡◌ {A = ℕ} 49 48 = ap (λ (l : List Bytes). get_or (get_or l 1 []) 13 0) p ∙ ap digit b_named in
+    omega arith
+
+-- a name for each listing of one set
+pub listed_twice : Faithful both_listings (after_option
+    ("(declare-const t0 Bool)"
+    ∷ "(declare-const t1 Bool)"
+    ∷ "(define-fun t2 () (Set Bool) (set.insert t0 t1 (as set.empty (Set Bool))))"
+    ∷ "(define-fun t3 () (Set Bool) (set.insert t1 t0 (as set.empty (Set Bool))))"
+    ∷ "(assert t2)"
+    ∷ "(assert t3)"
+    ∷ [])) → ⊥
+unfolding computes
+listed_twice h =
+    let p = unfolded_of h tt in
+    let k : ◌≡◌ {A = ℕ} 48 49 = ap (λ (l : List Bytes). get_or (get_or l 0 []) 13 0) p ∙ sym (ap (λ (l : List Bytes). get_or (get_or l 1 []) 13 0) p) in
+    omega arith

@@ -10,11 +10,12 @@ use Rattle.script_spec.specs.Text
 use Rattle.script_spec.specs.Command
 use Rattle.script_spec.specs.Spelling
 use Rattle.script_spec.specs.Walk
+use Rattle.script_spec.specs.Listing
 use Rattle.script_spec.specs.Smtlib
 use Rattle.script_spec.specs.Faithful
 
 unfoldable pub base : Unit {0}
-unfolding Base.bytes Base.is_some Base.if_some Base.and_then Base.between Base.same Base.before Base.ascending Base.ends_line Base.place_from Base.empty Base.any Base.all Base.joined Base.place Base.at Base.list_dec Base.collect Base.firsts Base.seconds Base.lookup
+unfolding Base.bytes Base.is_some Base.if_some Base.and_then Base.between Base.same Base.before Base.ascending Base.ends_line Base.place_from Base.empty Base.any Base.all Base.joined Base.place Base.first_of Base.at Base.list_dec Base.collect Base.firsts Base.seconds Base.lookup
 base = tt
 
 unfoldable pub utf8 : Unit {0}
@@ -22,7 +23,7 @@ unfolding Utf8.decode Utf8.code_points? Utf8.is_utf8 Utf8.code_points
 utf8 = tt
 
 unfoldable pub tree : Unit {0}
-unfolding Tree.trees Tree.forest Tree.children Tree.depth Tree.datatype_mark Tree.datatype Tree.name_of_entity Tree.entity_name Tree.attributes_of Tree.attributes Tree.attribute Tree.enum_of Tree.wildcard Tree.ext_type_of Tree.type_from Tree.type_of Tree.bytes_dec Tree.ty_dec Tree.fun_dec Tree.mark_dec Tree.tm_dec Tree.eq_ty Tree.eq_fun Tree.eq_tm Tree.negation_over Tree.negation_with Tree.negation Tree.is_falsehood Tree.is_variable ℕ_discrete
+unfolding Tree.trees Tree.forest Tree.children Tree.depth Tree.datatype_mark Tree.datatype Tree.name_of_entity Tree.entity_name Tree.attributes_of Tree.attributes Tree.attribute Tree.enum_of Tree.wildcard Tree.ext_type_of Tree.type_from Tree.type_of Tree.bytes_dec Tree.ty_dec Tree.fun_dec Tree.mark_dec Tree.mark Tree.is_set Tree.itemwise Tree.any_order Tree.eq_ty Tree.eq_fun Tree.eq_tm Tree.negation_over Tree.negation_with Tree.negation Tree.is_falsehood Tree.is_variable ℕ_discrete
 tree = tt
 
 unfoldable pub fields : Unit {0}
@@ -48,6 +49,10 @@ spelling = tt
 unfoldable pub walk : Unit {0}
 unfolding Walk.start Walk.enter_type Walk.enter_fun Walk.enter_term Walk.write Walk.numbered Walk.letter Walk.type_name Walk.names Walk.◌>>◌ Walk.unless Walk.refuse_unless Walk.is_low Walk.first_high Walk.refuse_high Walk.writing Walk.declare_type Walk.encode_type Walk.declare_function Walk.encode_uuf Walk.enter Walk.declare_var Walk.define_term Walk.define_entity Walk.record_get Walk.operator_step Walk.define_app Walk.encode_new Walk.encode_term Walk.encode_inputs Walk.assertions Walk.is_term Walk.first_equal Walk.encoding Walk.encoded Walk.has_position Walk.position_words Walk.printed Walk.termscript
 walk = tt
+
+unfoldable pub listing : Unit {0}
+unfolding Listing.only Listing.sets_in Listing.sets_of Listing.stand_in Listing.in_order_of Listing.first_listing Listing.listed Listing.as_listed
+listing = tt
 
 unfoldable pub smtlib : Unit {0}
 unfolding Smtlib.next Smtlib.outside_comment Smtlib.uncommented Smtlib.word_end Smtlib.separator Smtlib.step_outside Smtlib.step Smtlib.final Smtlib.tokens_from Smtlib.tokens Smtlib.flat Smtlib.is_zero Smtlib.closed Smtlib.depth_after Smtlib.ended Smtlib.read_on Smtlib.last_command Smtlib.commands_from Smtlib.commands_of Smtlib.byte_unless Smtlib.undoubled Smtlib.hex_digit Smtlib.hex_run Smtlib.braced Smtlib.escape_from Smtlib.escape_at Smtlib.unescaped Smtlib.read_back

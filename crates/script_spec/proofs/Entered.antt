@@ -12,7 +12,8 @@ use Rattle.script_spec.specs.Base.{any}
 use Rattle.script_spec.specs.Tree.{Ty, Fun, Tm, TypeMark, Forest, node, nil, cons, depth, depths, eq_ty, eq_fun, eq_tm, Enums, Datatype, datatype}
 use Rattle.script_spec.specs.Spelling.{type_comment, type_declaration}
 use Rattle.script_spec.specs.Walk.{State, went, ◌>>◌, names, enter_type, write, declare_type, encode_type, encode_types}
-use Rattle.script_spec.proofs.Laws.{any_cases, any_right, or_left, eq_ty_eq, eq_ty_refl, eq_fun_eq, eq_fun_refl, eq_tm_eq, eq_tm_refl}
+use Rattle.script_spec.proofs.Laws.{any_cases, any_right, or_left, eq_ty_eq, eq_ty_refl, eq_fun_eq, eq_fun_refl}
+use Rattle.script_spec.proofs.Equal.{eq_tm_refl}
 use Rattle.script_spec.proofs.Steps.{Goes, goes, ends_then, ends_unless, ends_map}
 
 -- ---- a table with one entry more
@@ -21,36 +22,39 @@ one : (b : Bool) → T (b || false) → T b
 one true h = tt
 one false h = h
 
-module _ {A : Type 0} (eq : A → A → Bool) (eq-eq : (x y : A) → T (eq x y) → x ≡ y) (eq_refl : (x : A) → T (eq x x)) where
-  entry_cases : (xs : List A) (x u : A) → T (any (eq u) (xs ++ (x ∷ []))) → T (any (eq u) xs) ⊎ (u ≡ x)
+module _ {A : Type 0} (eq : A → A → Bool) where
+  entry_equal : (xs : List A) (x u : A) → T (any (eq u) (xs ++ (x ∷ []))) → T (any (eq u) xs) ⊎ T (eq u x)
   unfolding any
-  entry_cases xs x u h = go (any_cases (eq u) xs (x ∷ []) h)
+  entry_equal xs x u h = go (any_cases (eq u) xs (x ∷ []) h)
     where
-      go : T (any (eq u) xs) ⊎ T (any (eq u) (x ∷ [])) → T (any (eq u) xs) ⊎ (u ≡ x)
+      go : T (any (eq u) xs) ⊎ T (any (eq u) (x ∷ [])) → T (any (eq u) xs) ⊎ T (eq u x)
       go (inl k) = inl k
-      go (inr k) = inr (eq-eq u x (one (eq u x) k))
+      go (inr k) = inr (one (eq u x) k)
 
-  entry_new : (xs : List A) (x : A) → T (any (eq x) (xs ++ (x ∷ [])))
+  entry_cases : ((x y : A) → T (eq x y) → x ≡ y) → (xs : List A) (x u : A) → T (any (eq u) (xs ++ (x ∷ []))) → T (any (eq u) xs) ⊎ (u ≡ x)
+  entry_cases eq-eq xs x u h = elim (entry_equal xs x u h) [ inl k ↦ inl k | inr k ↦ inr (eq-eq u x k) ]
+
+  entry_new : ((x : A) → T (eq x x)) → (xs : List A) (x : A) → T (any (eq x) (xs ++ (x ∷ [])))
   unfolding any
-  entry_new xs x = any_right (eq x) xs (x ∷ []) (or_left (eq x x) false (eq_refl x))
+  entry_new eq_refl xs x = any_right (eq x) xs (x ∷ []) (or_left (eq x x) false (eq_refl x))
 
 pub type_cases : (xs : List Ty) (x u : Ty) → T (any (eq_ty u) (xs ++ (x ∷ []))) → T (any (eq_ty u) xs) ⊎ (u ≡ x)
-type_cases = entry_cases eq_ty eq_ty_eq eq_ty_refl
+type_cases = entry_cases eq_ty eq_ty_eq
 
 pub fun_cases : (xs : List Fun) (x u : Fun) → T (any (eq_fun u) (xs ++ (x ∷ []))) → T (any (eq_fun u) xs) ⊎ (u ≡ x)
-fun_cases = entry_cases eq_fun eq_fun_eq eq_fun_refl
+fun_cases = entry_cases eq_fun eq_fun_eq
 
-pub term_cases : (xs : List Tm) (x u : Tm) → T (any (eq_tm u) (xs ++ (x ∷ []))) → T (any (eq_tm u) xs) ⊎ (u ≡ x)
-term_cases = entry_cases eq_tm eq_tm_eq eq_tm_refl
+pub term_cases : (xs : List Tm) (x u : Tm) → T (any (eq_tm u) (xs ++ (x ∷ []))) → T (any (eq_tm u) xs) ⊎ T (eq_tm u x)
+term_cases = entry_equal eq_tm
 
 pub type_new : (xs : List Ty) (x : Ty) → T (any (eq_ty x) (xs ++ (x ∷ [])))
-type_new = entry_new eq_ty eq_ty_eq eq_ty_refl
+type_new = entry_new eq_ty eq_ty_refl
 
 pub fun_new : (xs : List Fun) (x : Fun) → T (any (eq_fun x) (xs ++ (x ∷ [])))
-fun_new = entry_new eq_fun eq_fun_eq eq_fun_refl
+fun_new = entry_new eq_fun eq_fun_refl
 
 pub term_new : (xs : List Tm) (x : Tm) → T (any (eq_tm x) (xs ++ (x ∷ [])))
-term_new = entry_new eq_tm eq_tm_eq eq_tm_refl
+term_new = entry_new eq_tm eq_tm_refl
 
 -- ---- the walk over a type
 

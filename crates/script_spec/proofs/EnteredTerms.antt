@@ -2,7 +2,7 @@
 -- children. By recursion on the term.
 -- Assumes nothing.
 use Prim.Native.Nat.{ℕ, suc, ◌≤◌, ◌<◌, max}
-use mathlib.Core.Path.{◌≡◌, refl, sym, ap, ◌∙◌, subst}
+use mathlib.Core.Path.{◌≡◌, refl, sym, ◌∙◌, subst}
 use mathlib.Core.Logic.{◌⊎◌, inl, inr}
 use mathlib.Core.Bool.{Bool, true, false}
 use mathlib.Core.List.{List, [], ◌∷◌, map}
@@ -16,6 +16,7 @@ use Rattle.script_spec.specs.Command.{Command}
 use Rattle.script_spec.specs.Walk.{State, Step, Walk, ◌>>◌, unless, refuse_unless, refuse_high, enter_fun, enter_term, write, writing, declare_function, encode_type, encode_uuf, enter, declare_var, define_term, define_entity, record_get, operator_step, define_app, encode_new, encode_term, encode_terms}
 use Rattle.script_spec.proofs.Laws.{is_true}
 use Rattle.script_spec.proofs.Steps.{Ends, Goes, goes, ends_then, ends_unless, ends_tested, ends_high, ends_map, goes_map}
+use Rattle.script_spec.proofs.Equal.{eq_tm_depth}
 use Rattle.script_spec.proofs.Entered.{term_cases, encode_type_only}
 
 -- ---- types and functions enter no term
@@ -64,9 +65,9 @@ entered_only : (t : Tm) (cs : List Command) (s : State) → TermsOnly (depth t) 
 unfolding enter_term write
 entered_only t cs s = record { terms = λ u l h. old u l (term_cases s.terms t u h) }
   where
-    old : (u : Tm) → depth t < depth u → T (any (eq_tm u) s.terms) ⊎ (u ≡ t) → T (any (eq_tm u) s.terms)
+    old : (u : Tm) → depth t < depth u → T (any (eq_tm u) s.terms) ⊎ T (eq_tm u t) → T (any (eq_tm u) s.terms)
     old u l (inl h) = h
-    old u l (inr p) = absurd (let q : depth u ≡ depth t = ap depth p in omega arith)
+    old u l (inr p) = absurd (let q = eq_tm_depth u t p in omega arith)
 
 -- ---- a new term
 

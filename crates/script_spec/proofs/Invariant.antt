@@ -14,12 +14,18 @@ use Rattle.script_spec.specs.Tree.{Ty, Fun, Tm, eq_ty, eq_fun, eq_tm, Enums, Dat
 use Rattle.script_spec.specs.Command.{Command}
 use Rattle.script_spec.specs.Spelling.{Names, option_declaration}
 use Rattle.script_spec.specs.Walk.{State, start, enter_type, enter_fun, enter_term, write, numbered, letter, type_name, names}
-use Rattle.script_spec.specs.Faithful.{Thing, term, func, type, Needed}
+use Rattle.script_spec.specs.Faithful.{Thing, term, func, type, NeededTerm, Needed}
 use Rattle.script_spec.proofs.Laws.{any_left, place_append, any_place, collect_append}
 use Rattle.script_spec.proofs.Log.{command_of, silent, HasType, HasParts, nameable, Ordered, next, reversed}
 use Rattle.script_spec.proofs.Log as log
 use Rattle.script_spec.proofs.Agree.{Agree, command_agree}
 use Rattle.script_spec.proofs.Grow.{Grows, grows_next, Done, type_grows, done_grows, parts_grow}
+
+-- ---- listings
+
+-- no two needed terms are equal and listed differently
+pub record OneListing (ins : List Tm) : Type 0 where
+  pub same : (t u : Tm) → NeededTerm ins t → NeededTerm ins u → T (eq_tm t u) → t ≡ u
 
 -- ---- tables
 
@@ -96,20 +102,27 @@ Covered e log (term t) = Done e log t
 Covered e log (func f) = Memᴰ (func f) log
 Covered e log (type ty) = HasType log ty
 
+-- a term is needed; of a function or a type nothing is asked
+unfoldable pub Asked : List Tm → Thing → Type 0
+Asked ins (term t) = NeededTerm ins t
+Asked ins (func f) = Unit {0}
+Asked ins (type ty) = Unit {0}
+
 covered_grows : {log log' : List Thing} (e : Enums) → Grows log log' → (th : Thing) → Covered e log th → Covered e log' th
 unfolding Covered
 covered_grows e g (term t) k = done_grows g e t k
 covered_grows e g (func f) k = g (func f) k
 covered_grows e g (type ty) k = type_grows g ty k
 
--- the log is ordered, without repetition, in the tables and needed; what is in the tables is covered; and under any names that agree
--- with the tables the commands are those of the log
+-- the log is ordered, without repetition, in the tables and needed; what is needed and in the tables is covered; the terms in the table
+-- are needed; and under any names that agree with the tables the commands are those of the log
 pub record Inv (e : Enums) (ins : List Tm) (s : State) (log : List Thing) : Type 0 where
   pub ordered : Ordered e log
   pub distinct : Distinct log
   pub tabled : (th : Thing) → Memᴰ th log → Tabled s th
   pub needed : (th : Thing) → Memᴰ th log → Needed e ins th
-  pub covered : (th : Thing) → Tabled s th → Covered e log th
+  pub covered : (th : Thing) → Asked ins th → Tabled s th → Covered e log th
+  pub entered : (t : Tm) → Memᴰ t s.terms → NeededTerm ins t
   pub commands : (ν : Names) → Agree log ν (names s) → collect silent s.commands ≡ option_declaration ∷ map (command_of e ν) (reversed log)
 
 pub inv_start : (e : Enums) (ins : List Tm) → Inv e ins start []
@@ -120,7 +133,8 @@ inv_start e ins =
       distinct = tt;
       tabled = λ th m. absurd (Memᴰ.not-nil m);
       needed = λ th m. absurd (Memᴰ.not-nil m);
-      covered = none_covered;
+      covered = λ th a h. none_covered th h;
+      entered = λ t m. absurd (Memᴰ.not-nil m);
       commands = λ ν a. refl;
     }
   where
@@ -140,35 +154,38 @@ module _ {e : Enums} {ins : List Tm} {s : State} {log : List Thing} (inv : Inv e
       }
 
   -- entries that need no log, and comments
-  pub inv_quiet : (s' : State) → Extends s s' → ((th : Thing) → Tabled s' th → Tabled s th ⊎ Covered e log th) → collect silent s'.commands ≡ collect silent s.commands → Inv e ins s' log
-  inv_quiet s' x new c =
+  pub inv_quiet : (s' : State) → Extends s s' → ((th : Thing) → Asked ins th → Tabled s' th → Tabled s th ⊎ Covered e log th)
+      → ((t : Tm) → Memᴰ t s'.terms → NeededTerm ins t) → collect silent s'.commands ≡ collect silent s.commands → Inv e ins s' log
+  inv_quiet s' x new entered c =
       record {
         ordered = inv.ordered;
         distinct = inv.distinct;
         tabled = λ th m. x.kept th (inv.tabled th m);
         needed = inv.needed;
-        covered = λ th h. go th (new th h);
+        covered = λ th a h. go th a (new th a h);
+        entered = entered;
         commands = λ ν a. c ∙ inv.commands ν (agree_older x a);
       }
     where
-      go : (th : Thing) → Tabled s th ⊎ Covered e log th → Covered e log th
-      go th (inl h) = inv.covered th h
-      go th (inr k) = k
+      go : (th : Thing) → Asked ins th → Tabled s th ⊎ Covered e log th → Covered e log th
+      go th a (inl h) = inv.covered th a h
+      go th a (inr k) = k
 
   -- a thing that is entered and logged, with its command
   pub inv_logged : (s' : State) (th : Thing) (cs : List Command) → Extends s s'
       → HasParts e log th → T (nameable e th) → (Tabled s th → ⊥) → Needed e ins th
-      → Tabled s' th → ((u : Thing) → Tabled s' u → Tabled s u ⊎ (u ≡ th)) → Covered e (th ∷ log) th
+      → Tabled s' th → ((u : Thing) → Asked ins u → Tabled s' u → Tabled s u ⊎ (u ≡ th)) → ((t : Tm) → Memᴰ t s'.terms → NeededTerm ins t) → Covered e (th ∷ log) th
       → s'.commands ≡ s.commands ++ cs → collect silent cs ≡ command_of e (names s') th ∷ []
       → Inv e ins s' (th ∷ log)
   unfolding Distinct reversed
-  inv_logged s' th cs x parts able fresh need here new cover written spoken =
+  inv_logged s' th cs x parts able fresh need here new entered cover written spoken =
       record {
         ordered = next inv.ordered parts able;
         distinct = (λ m. fresh (inv.tabled th m), inv.distinct);
         tabled = λ u m. tabled u (Memᴰ.cases_cons m);
         needed = λ u m. needed u (Memᴰ.cases_cons m);
-        covered = λ u h. covers u (new u h);
+        covered = λ u a h. covers u a (new u a h);
+        entered = entered;
         commands = commands;
       }
     where
@@ -180,9 +197,9 @@ module _ {e : Enums} {ins : List Tm} {s : State} {log : List Thing} (inv : Inv e
       needed u (inl p) = subst (Needed e ins) (sym p) need
       needed u (inr m) = inv.needed u m
 
-      covers : (u : Thing) → Tabled s u ⊎ (u ≡ th) → Covered e (th ∷ log) u
-      covers u (inl h) = covered_grows e grows_next u (inv.covered u h)
-      covers u (inr p) = subst (Covered e (th ∷ log)) (sym p) cover
+      covers : (u : Thing) → Asked ins u → Tabled s u ⊎ (u ≡ th) → Covered e (th ∷ log) u
+      covers u a (inl h) = covered_grows e grows_next u (inv.covered u a h)
+      covers u a (inr p) = subst (Covered e (th ∷ log)) (sym p) cover
 
       commands : (ν : Names) → Agree (th ∷ log) ν (names s') → collect silent s'.commands ≡ option_declaration ∷ map (command_of e ν) (reversed log ++ (th ∷ []))
       commands ν a =

@@ -10,7 +10,7 @@ use native.Mathlib.Omega.{arith}
 use lib.Dec.{T, eqb, eqb→eq}
 use borrow.Author.Tests.{eq-eqb}
 use Rattle.script_spec.specs.Base.{Bytes, is_yes, same, any, all, place, place_from, collect, is_some}
-use Rattle.script_spec.specs.Tree.{Ty, Fun, Tm, eq_ty, eq_fun, eq_tm, ty_dec, fun_dec, tm_dec}
+use Rattle.script_spec.specs.Tree.{Ty, Fun, Mark, eq_ty, eq_fun, ty_dec, fun_dec, mark_dec}
 
 -- from a case that does not occur
 pub never : {A : Type 0} → ◌≡◌ {A = ℕ} 0 1 → A
@@ -193,10 +193,15 @@ pub eq_fun_refl : (f : Fun) → T (eq_fun f f)
 unfolding eq_fun
 eq_fun_refl f = yes_refl fun_dec f
 
-pub eq_tm_eq : (t u : Tm) → T (eq_tm t u) → t ≡ u
-unfolding eq_tm
-eq_tm_eq t u h = yes_eq tm_dec t u h
+pub mark_dec_eq : (m n : Mark) → T (is_yes (mark_dec m n)) → m ≡ n
+mark_dec_eq m n h = yes_eq mark_dec m n h
 
-pub eq_tm_refl : (t : Tm) → T (eq_tm t t)
-unfolding eq_tm
-eq_tm_refl t = yes_refl tm_dec t
+pub mark_dec_refl : (m : Mark) → T (is_yes (mark_dec m m))
+mark_dec_refl m = yes_refl mark_dec m
+
+-- tests that pass together
+pub same_truth : (x y : Bool) → (T x → T y) → (T y → T x) → x ≡ y
+same_truth true true h k = refl
+same_truth true false h k = absurd (h tt)
+same_truth false true h k = absurd (k tt)
+same_truth false false h k = refl

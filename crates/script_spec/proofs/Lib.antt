@@ -2,7 +2,11 @@
 -- laws of tests, lists and readers, and a name for each module's definitions
 pub mod Laws
 pub mod Lists
+pub mod Pigeonhole
 pub mod Readers
+pub mod Equal
+pub mod Classes
+pub mod Listings
 pub mod Computes
 pub mod Cutting
 -- reading a script: its commands, and texts that may stand inside one
@@ -42,6 +46,10 @@ pub mod Bare
 pub mod BareEntry
 pub mod BareFile
 pub mod Encoding
+-- the walk over the inputs and the walk over them as listed
+pub mod Tracks
+pub mod TracksTerms
+pub mod Relisted
 -- demand 3: what it asks of a script, computed; the script of a log is faithful, and so is that of a file
 pub mod Asked
 pub mod Roles

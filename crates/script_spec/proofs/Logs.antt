@@ -1,5 +1,5 @@
--- The log of a walk that goes through is a log of what its inputs need: what is needed is logged, by recursion on why it is needed;
--- the rest is the invariant and the laws of names. And a walk that stops names a needed term.
+-- The log of a walk that goes through is a log of what its inputs need, where equal terms that are needed are one tree: what is needed
+-- is logged, by recursion on why it is needed; the rest is the invariant and the laws of names. And a walk that stops names a needed term.
 -- Assumes nothing.
 use Prim.Native.Nat.{ℕ}
 use mathlib.Core.Path.{◌≡◌, refl, sym, ap, ap₂, ◌∙◌, subst}
@@ -16,8 +16,8 @@ use Rattle.script_spec.proofs.Log.{silent, HasType, HasTypes, HasParts, nameable
 use Rattle.script_spec.proofs.Lists.{mem_reversed, all_members, every_mem, every_weaker}
 use Rattle.script_spec.proofs.Steps.{ends_went, ends_stopped}
 use Rattle.script_spec.proofs.Grow.{Done, Dones, done_term, ordered_parts}
-use Rattle.script_spec.proofs.Invariant.{Inv}
-use Rattle.script_spec.proofs.Names.{Bare, name_of_injective, name_of_well_named, unique_names}
+use Rattle.script_spec.proofs.Invariant.{OneListing, Inv}
+use Rattle.script_spec.proofs.Names.{Bare, OnlyOne, name_of_injective, name_of_well_named, unique_names}
 use Rattle.script_spec.proofs.TypeLog.{Logs}
 use Rattle.script_spec.proofs.NewLog.{Refusal}
 use Rattle.script_spec.proofs.TermLog.{walk_logs}
@@ -78,14 +78,20 @@ unfolding collect silent assertions
 assertions_silent e ν [] = refl
 assertions_silent e ν (t ∷ ts) = ap (λ (cs : List Command). assert_that (atom e ν t) ∷ cs) (assertions_silent e ν ts)
 
-pub walk_logged : (e : Enums) (ins : List Tm) (s : State) → BareTypes ins → encode_inputs e ins start ≡ went s
+only_one : {e : Enums} {ins : List Tm} {s : State} {log : List Thing} → Inv e ins s log → OneListing ins → (th : Thing) → Needed e ins th → OnlyOne s th
+unfolding OnlyOne Needed
+only_one inv one (term t) n = λ u m h. one.same t u n.0 (inv.entered u m) h
+only_one inv one (func f) n = tt
+only_one inv one (type ty) n = tt
+
+pub walk_logged : (e : Enums) (ins : List Tm) (s : State) → OneListing ins → BareTypes ins → encode_inputs e ins start ≡ went s
     → (log : List Thing) × Logged e ins (names s) (s.commands ++ assertions e (names s) ins) log
-walk_logged e ins s bare p = (
+walk_logged e ins s one bare p = (
   log,
   record {
     ordered = inv.ordered;
     needed = λ th. (needed_logged inv.ordered done th, inv.needed th);
-    unlike = unique_names (names s) log inv.distinct (λ a b m k. name_of_injective e s a b (inv.tabled a m) (inv.tabled b k) (able a m) (able b k) (plain a m) (plain b k));
+    unlike = unique_names (names s) log inv.distinct (λ a b m k. name_of_injective e s a b (only a m) (only b k) (inv.tabled a m) (inv.tabled b k) (able a m) (able b k) (plain a m) (plain b k));
     lettering = all_members (well_named (names s)) (reversed log) (λ a m. let k = mem_reversed a log m in name_of_well_named e s a (inv.tabled a k) (able a k));
     inputs = every_weaker (λ t d. done_term t d) done;
     commands =
@@ -95,7 +101,7 @@ walk_logged e ins s bare p = (
 )
   where
     logs : Logs e ins (λ l. Every (Done e l) ins) [] s
-    logs = ends_went (walk_logs e ins) p
+    logs = ends_went (walk_logs e ins one) p
 
     log : List Thing
     log = logs.later
@@ -106,6 +112,9 @@ walk_logged e ins s bare p = (
     done : Every (Done e log) ins
     done = logs.has
 
+    only : (a : Thing) → Memᴰ a log → OnlyOne s a
+    only a m = only_one inv one a (inv.needed a m)
+
     able : (a : Thing) → Memᴰ a log → T (nameable e a)
     able a m = needed_nameable e ins a (inv.needed a m)
 
@@ -113,5 +122,5 @@ walk_logged e ins s bare p = (
     plain a m = needed_bare e ins bare a (inv.needed a m)
 
 -- a walk that stops has a number from 14 to 19, 24 or 25, a needed term, and the position in its text
-pub walk_refusal : (e : Enums) (ins : List Tm) (n : ℕ) (t : Tm) (q : ℕ) → encode_inputs e ins start ≡ stopped n t q → Refusal ins n t q
-walk_refusal e ins n t q p = ends_stopped (walk_logs e ins) p
+pub walk_refusal : (e : Enums) (ins : List Tm) (n : ℕ) (t : Tm) (q : ℕ) → OneListing ins → encode_inputs e ins start ≡ stopped n t q → Refusal ins n t q
+walk_refusal e ins n t q one p = ends_stopped (walk_logs e ins one) p

@@ -16,7 +16,7 @@ use Rattle.script_spec.specs.Text.{decimal}
 use Rattle.script_spec.specs.Spelling.{Names, sort, sort_from, datatype_sort, ext_name}
 use Rattle.script_spec.specs.Walk.{State, numbered, letter, type_name, names}
 use Rattle.script_spec.specs.Faithful.{Thing, term, func, type, name_of, digits_only, lettered, datatype_named, well_named, unique}
-use Rattle.script_spec.proofs.Laws.{eq_ty_eq, eq_fun_eq, eq_tm_eq, same_refl, same_eq, and_parts, and_both, or_cases, any_cases, any_place}
+use Rattle.script_spec.proofs.Laws.{eq_ty_eq, eq_fun_eq, same_refl, same_eq, and_parts, and_both, or_cases, any_cases, any_place}
 use Rattle.script_spec.proofs.Log.{nameable, reversed}
 use Rattle.script_spec.proofs.Lists.{mem_reversed}
 use Rattle.script_spec.proofs.Invariant.{Tabled, Distinct}
@@ -25,12 +25,16 @@ use Rattle.script_spec.proofs.Computes
 
 -- ---- places
 
-module _ {A : Type 0} (eq : A → A → Bool) (eq-eq : (x y : A) → T (eq x y) → x ≡ y) where
+-- t is the only entry of a table that is equal to it
+abbrev Only : {A : Type 0} → (A → A → Bool) → List A → A → Type 0
+Only {A} eq xs t = (x : A) → Memᴰ x xs → T (eq t x) → t ≡ x
+
+module _ {A : Type 0} (eq : A → A → Bool) where
   -- what a table has at the place of one of its entries
-  place_at : (xs : List A) (t : A) → T (any (eq t) xs) → (n : ℕ) × (place (eq t) xs ≡ some n) × (at n xs ≡ some t)
+  place_at : (xs : List A) (t : A) → Only eq xs t → T (any (eq t) xs) → (n : ℕ) × (place (eq t) xs ≡ some n) × (at n xs ≡ some t)
   unfolding any place place_from at
-  place_at [] t h = absurd h
-  place_at (x ∷ xs) t h = go (eq t x) (λ k. eq-eq t x k) h (λ k. place_at xs t k)
+  place_at [] t o h = absurd h
+  place_at (x ∷ xs) t o h = go (eq t x) (λ k. o x (Memᴰ.head refl) k) h (λ k. place_at xs t (λ y m. o y (Memᴰ.tail m)) k)
     where
       go : (b : Bool) → (T b → t ≡ x) → T (b || any (eq t) xs) → (T (any (eq t) xs) → (n : ℕ) × (place (eq t) xs ≡ some n) × (at n xs ≡ some t))
           → (n : ℕ) × (place_from b (place (eq t) xs) ≡ some n) × (at n (x ∷ xs) ≡ some t)
@@ -76,12 +80,12 @@ thing_of s (b ∷ r) =
     ]
 
 -- a name by a table gives back the entry
-module _ {A : Type 0} (eq : A → A → Bool) (eq-eq : (x y : A) → T (eq x y) → x ≡ y) where
+module _ {A : Type 0} (eq : A → A → Bool) where
   numbered_back : (s : State) (letters : Bytes) (th : A → Thing) (xs : List A) → ((r : Bytes) → thing_of s (letters ++ r) ≡ and_then (at (value 0 r) xs) (λ x. some (th x)))
-      → (a : A) → T (any (eq a) xs) → thing_of s (numbered letters (place (eq a) xs)) ≡ some (th a)
+      → (a : A) → Only eq xs a → T (any (eq a) xs) → thing_of s (numbered letters (place (eq a) xs)) ≡ some (th a)
   unfolding numbered and_then
-  numbered_back s letters th xs read a h =
-      let r = place_at eq eq-eq xs a h in
+  numbered_back s letters th xs read a o h =
+      let r = place_at eq xs a o h in
       ap (λ (o : Option ℕ). thing_of s (numbered letters o)) r.1
       ∙ read (decimal r.0)
       ∙ ap (λ (v : ℕ). and_then (at v xs) (λ x. some (th x))) (value_decimal r.0)
@@ -94,24 +98,30 @@ extension_back s Decimal = refl
 extension_back s Datetime = refl
 extension_back s Duration = refl
 
-thing_of_name : (e : Enums) (s : State) (th : Thing) → Tabled s th → T (nameable e th) → Bare th → thing_of s (name_of (names s) th) ≡ some th
-unfolding thing_of name_of names type_name letter bytes Tabled nameable Bare is_extension sort sort_from datatype_sort datatype datatype_mark is_some
-thing_of_name e s (term t) h n b = numbered_back eq_tm eq_tm_eq s (bytes "t") term s.terms (λ r. refl) t h
-thing_of_name e s (func f) h n b = numbered_back eq_fun eq_fun_eq s (bytes "f") func s.funs (λ r. refl) f h
-thing_of_name e s (type (node Bool· ts)) h n b = absurd n
-thing_of_name e s (type (node String· ts)) h n b = absurd n
-thing_of_name e s (type (node Option· ts)) h n b = absurd n
-thing_of_name e s (type (node Set· ts)) h n b = absurd n
-thing_of_name e s (type (node (BitVec· k) ts)) h n b = absurd n
-thing_of_name e s (type (node (Declared (entity name)) ts)) h n b = numbered_back eq_ty eq_ty_eq s (bytes "E") type s.types (λ r. refl) (node (Declared (entity name)) ts) h
-thing_of_name e s (type (node (Declared (extension x)) ts)) h n b = extension_back s x ∙ ap (λ (us : Forest TypeMark). some (type (node (Declared (extension x)) us))) (sym (b tt))
-thing_of_name e s (type (node (Declared (record_of names)) ts)) h n b = numbered_back eq_ty eq_ty_eq s (bytes "R") type s.types (λ r. refl) (node (Declared (record_of names)) ts) h
+-- a term is the only one of the table that is equal to it
+unfoldable pub OnlyOne : State → Thing → Type 0
+OnlyOne s (term t) = Only eq_tm s.terms t
+OnlyOne s (func f) = Unit {0}
+OnlyOne s (type ty) = Unit {0}
+
+thing_of_name : (e : Enums) (s : State) (th : Thing) → OnlyOne s th → Tabled s th → T (nameable e th) → Bare th → thing_of s (name_of (names s) th) ≡ some th
+unfolding thing_of name_of names type_name letter bytes Tabled OnlyOne nameable Bare is_extension sort sort_from datatype_sort datatype datatype_mark is_some
+thing_of_name e s (term t) o h n b = numbered_back eq_tm s (bytes "t") term s.terms (λ r. refl) t o h
+thing_of_name e s (func f) o h n b = numbered_back eq_fun s (bytes "f") func s.funs (λ r. refl) f (λ g m k. eq_fun_eq f g k) h
+thing_of_name e s (type (node Bool· ts)) o h n b = absurd n
+thing_of_name e s (type (node String· ts)) o h n b = absurd n
+thing_of_name e s (type (node Option· ts)) o h n b = absurd n
+thing_of_name e s (type (node Set· ts)) o h n b = absurd n
+thing_of_name e s (type (node (BitVec· k) ts)) o h n b = absurd n
+thing_of_name e s (type (node (Declared (entity name)) ts)) o h n b = numbered_back eq_ty s (bytes "E") type s.types (λ r. refl) (node (Declared (entity name)) ts) (λ u m k. eq_ty_eq (node (Declared (entity name)) ts) u k) h
+thing_of_name e s (type (node (Declared (extension x)) ts)) o h n b = extension_back s x ∙ ap (λ (us : Forest TypeMark). some (type (node (Declared (extension x)) us))) (sym (b tt))
+thing_of_name e s (type (node (Declared (record_of names)) ts)) o h n b = numbered_back eq_ty s (bytes "R") type s.types (λ r. refl) (node (Declared (record_of names)) ts) (λ u m k. eq_ty_eq (node (Declared (record_of names)) ts) u k) h
 
 -- different things have different names
-pub name_of_injective : (e : Enums) (s : State) (a b : Thing) → Tabled s a → Tabled s b → T (nameable e a) → T (nameable e b) → Bare a → Bare b
+pub name_of_injective : (e : Enums) (s : State) (a b : Thing) → OnlyOne s a → OnlyOne s b → Tabled s a → Tabled s b → T (nameable e a) → T (nameable e b) → Bare a → Bare b
     → name_of (names s) a ≡ name_of (names s) b → a ≡ b
-name_of_injective e s a b ta tb na nb la lb p =
-    let q : some a ≡ some b = sym (thing_of_name e s a ta na la) ∙ ap (thing_of s) p ∙ thing_of_name e s b tb nb lb in
+name_of_injective e s a b oa ob ta tb na nb la lb p =
+    let q : some a ≡ some b = sym (thing_of_name e s a oa ta na la) ∙ ap (thing_of s) p ∙ thing_of_name e s b ob tb nb lb in
     cc
 
 -- ---- letters and digits

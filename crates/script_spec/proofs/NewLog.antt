@@ -4,7 +4,8 @@ use Prim.Native.Nat.{ℕ}
 use mathlib.Core.Path.{◌≡◌, refl, sym, ap, subst}
 use mathlib.Core.Logic.{◌⊎◌, inl, inr}
 use mathlib.Core.Bool.{true, false, not, ◌||◌}
-use mathlib.Core.List.{List, [], ◌∷◌, map, append-nil, Memᴰ}
+use mathlib.Core.List.Memᴰ
+use mathlib.Core.List.{List, [], ◌∷◌, ◌++◌, map, append-nil, Memᴰ}
 use mathlib.Core.Option.{Option, none, some}
 use lib.Dec.{T, T_not, eqb}
 use Rattle.script_spec.specs.Base.{Bytes, any, between, collect, is_some, is_yes, same}
@@ -22,7 +23,7 @@ use Rattle.script_spec.proofs.Steps.{Ends, goes, ends_then, ends_tested, ends_hi
 use Rattle.script_spec.proofs.Negated.{is_falsehood_by}
 use Rattle.script_spec.proofs.Grow.{grows_next, Done, Dones, dones_terms, type_grows, dones_grow}
 use Rattle.script_spec.proofs.Entered.{term_cases, term_new}
-use Rattle.script_spec.proofs.Invariant.{Tabled, Covered, Extends, extends, extends_term, Inv, inv_quiet, inv_logged}
+use Rattle.script_spec.proofs.Invariant.{OneListing, Tabled, Covered, Asked, Extends, extends, extends_term, Inv, inv_quiet, inv_logged}
 use Rattle.script_spec.proofs.TypeLog.{Logs, logs_same, logs_then, encode_uuf_logs}
 
 -- what a refusal's number and position say of its term: the first high code point of an id, of a text or of a pattern, or no position
@@ -85,11 +86,16 @@ defined_command e ν t v = rw (is_false (is_variable t) v, command_of) refl
 
 -- the terms that are entered between two states are t or none
 abbrev pub EntersOnly : Tm → State → State → Type 0
-EntersOnly t s s' = (u : Tm) → T (any (eq_tm u) s'.terms) → T (any (eq_tm u) s.terms) ⊎ (u ≡ t)
+EntersOnly t s s' = (u : Tm) → T (any (eq_tm u) s'.terms) → T (any (eq_tm u) s.terms) ⊎ T (eq_tm u t)
+
+-- a table of needed terms with one more
+entered_needed : {ins : List Tm} {t : Tm} (us : List Tm) → NeededTerm ins t → ((u : Tm) → Memᴰ u us → NeededTerm ins u) → (u : Tm) → Memᴰ u (us ++ (t ∷ [])) → NeededTerm ins u
+entered_needed {ins} us n h u m = elim (Memᴰ.append_cases us m) [ inl k ↦ h u k | inr k ↦ subst (NeededTerm ins) (sym (Memᴰ.eq_of_singleton k)) n ]
 
 module _ (e : Enums) (ins : List Tm) where
   -- a term that is needed and new, with its type and its children logged
   pub record Ready (m : Mark) (ts : Forest Mark) (s : State) (log : List Thing) : Type 0 where
+    pub listing : OneListing ins
     pub needed : NeededTerm ins (node m ts)
     pub inv : Inv e ins s log
     pub typed : HasType log (type_of (node m ts))
@@ -111,8 +117,8 @@ module _ (e : Enums) (ins : List Tm) where
     unentered i a = (logs_same e ins r.inv (inlined_done i a), λ u h. inl h)
 
     entered_inlined : T (inlined e (node m ts)) → Applied log m → Finished m ts s log (enter_term (node m ts) s)
-    unfolding enter_term Tabled Covered
-    entered_inlined i a = (logs_same e ins (inv_quiet r.inv s' grown new refl) (inlined_done i a), λ u h. term_cases s.terms (node m ts) u h)
+    unfolding enter_term Tabled Covered Asked
+    entered_inlined i a = (logs_same e ins (inv_quiet r.inv s' grown new (entered_needed s.terms r.needed r.inv.entered) refl) (inlined_done i a), λ u h. term_cases s.terms (node m ts) u h)
       where
         s' : State
         s' = enter_term (node m ts) s
@@ -120,22 +126,22 @@ module _ (e : Enums) (ins : List Tm) where
         grown : Extends s s'
         grown = extends s s' [] [] (node m ts ∷ []) (sym (append-nil s.types)) (sym (append-nil s.funs)) refl
 
-        new : (th : Thing) → Tabled s' th → Tabled s th ⊎ Covered e log th
-        new (term u) h = elim (term_cases s.terms (node m ts) u h) [ inl k ↦ inl k | inr p ↦ inr (subst (Done e log) (sym p) (inlined_done i a)) ]
-        new (func f) h = inl h
-        new (type ty) h = inl h
+        new : (th : Thing) → Asked ins th → Tabled s' th → Tabled s th ⊎ Covered e log th
+        new (term u) n h = elim (term_cases s.terms (node m ts) u h) [ inl k ↦ inl k | inr p ↦ inr (subst (Done e log) (sym (r.listing.same u (node m ts) n r.needed p)) (inlined_done i a)) ]
+        new (func f) n h = inl h
+        new (type ty) n h = inl h
 
     -- ---- terms that have a name
 
     entered_named : (cs : List Command) → T (not (inlined e (node m ts))) → (T (not (is_variable (node m ts))) → T (not (is_falsehood (node m ts)))) → Applied log m
         → collect silent cs ≡ command_of e (names (enter_term (node m ts) s)) (term (node m ts)) ∷ []
         → Finished m ts s log (write cs (enter_term (node m ts) s))
-    unfolding enter_term write names type_name Tabled Covered Needed HasParts nameable Done children
+    unfolding enter_term write names type_name Tabled Covered Asked Needed HasParts nameable Done children
     entered_named cs i v a spoken = (
       record {
         later = term t ∷ log;
         grown = grows_next;
-        inv = inv_logged r.inv s' (term t) cs (extends_term t cs s) parts i r.fresh (r.needed, i) (term_new s.terms t) new done refl spoken;
+        inv = inv_logged r.inv s' (term t) cs (extends_term t cs s) parts i r.fresh (r.needed, i) (term_new s.terms t) new (entered_needed s.terms r.needed r.inv.entered) done refl spoken;
         has = done;
       },
       λ u h. term_cases s.terms t u h,
@@ -157,10 +163,10 @@ module _ (e : Enums) (ins : List Tm) where
           λ n. dones_grow grows_next e ts (r.below n),
         )
 
-        new : (u : Thing) → Tabled s' u → Tabled s u ⊎ (u ≡ term t)
-        new (term u) h = elim (term_cases s.terms t u h) [ inl k ↦ inl k | inr p ↦ inr (ap term p) ]
-        new (func f) h = inl h
-        new (type ty) h = inl h
+        new : (u : Thing) → Asked ins u → Tabled s' u → Tabled s u ⊎ (u ≡ term t)
+        new (term u) n h = elim (term_cases s.terms t u h) [ inl k ↦ inl k | inr p ↦ inr (ap term (r.listing.same u t n r.needed p)) ]
+        new (func f) n h = inl h
+        new (type ty) n h = inl h
 
     defined : {X : ℕ → Tm → ℕ → Type 0} → T (not (inlined e (node m ts))) → T (not (is_variable (node m ts))) → T (not (is_falsehood (node m ts))) → Applied log m → Ends (Finished m ts s log) X (define_term e (node m ts) s)
     unfolding define_term
@@ -223,6 +229,7 @@ module _ (e : Enums) (ins : List Tm) where
   unfolding Tabled
   ready_later {m} {ts} r l p =
       record {
+        listing = r.listing;
         needed = r.needed;
         inv = l.inv;
         typed = type_grows l.grown (type_of (node m ts)) r.typed;

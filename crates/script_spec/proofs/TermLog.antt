@@ -1,7 +1,7 @@
 -- The walk over terms and inputs logs them, or stops at a needed term: by recursion on the term.
 -- Assumes nothing.
 use Prim.Native.Nat.{ℕ, suc, ◌<◌}
-use mathlib.Core.Path.{◌≡◌, refl, ap, subst}
+use mathlib.Core.Path.{◌≡◌, refl, subst}
 use mathlib.Core.Logic.{◌⊎◌, inl, inr}
 use mathlib.Core.Bool.{not}
 use mathlib.Core.List.{List, [], ◌∷◌, Memᴰ}
@@ -14,7 +14,8 @@ use Rattle.script_spec.specs.Faithful.{Thing, term, NeededTerm, is_input, is_chi
 use Rattle.script_spec.proofs.Log.{HasType}
 use Rattle.script_spec.proofs.Steps.{Ends, goes, ends_then, ends_unless, ends_map, goes_map}
 use Rattle.script_spec.proofs.Grow.{Done, Dones, type_grows, done_grows}
-use Rattle.script_spec.proofs.Invariant.{Tabled, Covered, Inv, inv_start}
+use Rattle.script_spec.proofs.Invariant.{OneListing, Tabled, Covered, Asked, Inv, inv_start}
+use Rattle.script_spec.proofs.Equal.{eq_tm_depth}
 use Rattle.script_spec.proofs.TypeLog.{Logs, logs_same, logs_then, encode_type_step}
 use Rattle.script_spec.proofs.NewLog.{Refusal, encode_new_logs}
 
@@ -22,7 +23,7 @@ use Rattle.script_spec.proofs.NewLog.{Refusal, encode_new_logs}
 abbrev Shallow : ℕ → State → State → Type 0
 Shallow d s s' = (u : Tm) → d < depth u → T (any (eq_tm u) s'.terms) → T (any (eq_tm u) s.terms)
 
-module _ (e : Enums) (ins : List Tm) where
+module _ (e : Enums) (ins : List Tm) (one : OneListing ins) where
   -- what is shown of the state after the children of a term
   abbrev Below : Mark → Forest Mark → State → List Thing → State → Type 0
   Below m ts s log s' = Logs e ins (λ l. T (not (is_falsehood (node m ts))) → Dones e l ts) log s' × Shallow (depths ts) s s'
@@ -35,6 +36,7 @@ module _ (e : Enums) (ins : List Tm) where
   new_after m ts s s₁ s₂ log need k a p b =
       ends_map (λ s₃ f. (logs_then e ins (λ th x. b.0.grown th (a.grown th x)) f.0 (λ h. h), λ u d h. from u d (f.1 u h)))
       (encode_new_logs e ins m ts s₂ b.0.later (record {
+        listing = one;
         needed = need;
         inv = b.0.inv;
         typed = type_grows b.0.grown (type_of (node m ts)) a.has;
@@ -45,18 +47,18 @@ module _ (e : Enums) (ins : List Tm) where
       back : (u : Tm) → depths ts < depth u → T (any (eq_tm u) s₂.terms) → T (any (eq_tm u) s.terms)
       back u d h = subst (λ (us : List Tm). T (any (eq_tm u) us)) p (b.1 u d h)
 
-      from : (u : Tm) → suc (depths ts) < depth u → T (any (eq_tm u) s₂.terms) ⊎ (u ≡ node m ts) → T (any (eq_tm u) s.terms)
+      from : (u : Tm) → suc (depths ts) < depth u → T (any (eq_tm u) s₂.terms) ⊎ T (eq_tm u (node m ts)) → T (any (eq_tm u) s.terms)
       from u d (inl h) = back u (omega arith) h
-      from u d (inr q) = absurd (let z : depth u ≡ suc (depths ts) = ap depth q in omega arith)
+      from u d (inr q) = absurd (let z : depth u ≡ suc (depths ts) = eq_tm_depth u (node m ts) q in omega arith)
 
   mutual
-    unfolding encode_term Tabled Covered Done trees children depth
+    unfolding encode_term Tabled Covered Asked Done trees children depth
 
     encode_term_logs : (t : Tm) (s : State) (log : List Thing) → NeededTerm ins t → Inv e ins s log
         → Ends (λ s'. Logs e ins (λ l. Done e l t) log s' × Shallow (depth t) s s') (Refusal ins) (encode_term e t s)
     encode_term_logs (node m ts) s log need inv =
         ends_unless (λ s'. any (eq_tm (node m ts)) s'.terms) (◌>>◌ (encode_type e (type_of (node m ts))) (◌>>◌ (unless (λ s'. is_falsehood (node m ts)) (encode_terms e ts)) (encode_new e (node m ts)))) s
-        (λ k. (logs_same e ins inv (inv.covered (term (node m ts)) k), λ u d h. h))
+        (λ k. (logs_same e ins inv (inv.covered (term (node m ts)) need k), λ u d h. h))
         (λ k. ends_then (encode_type e (type_of (node m ts))) (◌>>◌ (unless (λ s'. is_falsehood (node m ts)) (encode_terms e ts)) (encode_new e (node m ts))) s
         (goes_map (λ s₁ a. ends_then (unless (λ s'. is_falsehood (node m ts)) (encode_terms e ts)) (encode_new e (node m ts)) s₁
         (ends_map (λ s₂ b. new_after m ts s s₁ s₂ log need k a.0 a.1.terms b)

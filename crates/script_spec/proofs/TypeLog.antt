@@ -18,7 +18,7 @@ use Rattle.script_spec.proofs.Log.{command_of, silent, HasType, HasTypes, HasPar
 use Rattle.script_spec.proofs.Steps.{Goes, goes, ends_then, ends_unless, ends_map, goes_both}
 use Rattle.script_spec.proofs.Grow.{Grows, grows_next, type_grows, types_grow}
 use Rattle.script_spec.proofs.Entered.{type_cases, type_new, fun_cases, fun_new, TypesOnly, encode_type_only, encode_types_only}
-use Rattle.script_spec.proofs.Invariant.{Tabled, Covered, extends, extends_type, extends_fun, Inv, inv_quiet, inv_logged}
+use Rattle.script_spec.proofs.Invariant.{Tabled, Covered, Asked, extends, extends_type, extends_fun, Inv, inv_quiet, inv_logged}
 
 -- a state whose log has grown and has P
 pub record Logs (e : Enums) (ins : List Tm) (P : List Thing → Type 0) (log : List Thing) (s : State) : Type 0 where
@@ -53,12 +53,12 @@ module _ (e : Enums) (ins : List Tm) where
   declared_logs : (d : Datatype) (m : TypeMark) (ts : Forest TypeMark) (s : State) (log : List Thing)
       → NeededType ins (node m ts) → Inv e ins s log → HasTypes log ts → (Tabled s (type (node m ts)) → ⊥) → datatype (node m ts) ≡ some d
       → Logs e ins (λ l. HasType l (node m ts)) log (declared d (node m ts) s)
-  unfolding declared HasType Tabled Covered Needed HasParts nameable is_some enter_type write names type_name
+  unfolding declared HasType Tabled Covered Asked Needed HasParts nameable is_some enter_type write names type_name
   declared_logs d m ts s log need inv parts fresh p =
       record {
         later = type t ∷ log;
         grown = grows_next;
-        inv = inv_logged inv s' (type t) cs (extends_type t cs s) parts able fresh (need, able) (type_new s.types t) new has refl spoken;
+        inv = inv_logged inv s' (type t) cs (extends_type t cs s) parts able fresh (need, able) (type_new s.types t) (λ u a h. new u h) inv.entered has refl spoken;
         has = has;
       }
     where
@@ -99,12 +99,12 @@ module _ (e : Enums) (ins : List Tm) where
       go (some d) p = goes (declared_logs d m ts s log need inv parts fresh p)
 
   mutual
-    unfolding encode_type HasType trees children Tabled Covered depths
+    unfolding encode_type HasType trees children Tabled Covered Asked depths
 
     pub encode_type_logs : (t : Ty) (s : State) (log : List Thing) → NeededType ins t → Inv e ins s log → Goes (Logs e ins (λ l. HasType l t) log) (encode_type e t s)
     encode_type_logs (node m ts) s log need inv =
         ends_unless (λ s'. any (eq_ty (node m ts)) s'.types) (◌>>◌ (encode_types e ts) (declare_type e (node m ts))) s
-        (λ k. logs_same inv (inv.covered (type (node m ts)) k))
+        (λ k. logs_same inv (inv.covered (type (node m ts)) tt k))
         (λ k. ends_then (encode_types e ts) (declare_type e (node m ts)) s
         (goes_both
         (λ s₁ o g. ends_map (λ s₂ l. logs_then g.grown l (λ h. h))
@@ -136,13 +136,13 @@ module _ (e : Enums) (ins : List Tm) where
 
   declared_fun_logs : (f : Fun) (s : State) (log : List Thing) → NeededFun ins f → Inv e ins s log → HasParts e log (func f) → (Tabled s (func f) → ⊥)
       → Logs e ins (Memᴰ (func f)) log (declared_fun f s)
-  unfolding declared_fun Tabled Covered Needed nameable enter_fun write names type_name
+  unfolding declared_fun Tabled Covered Asked Needed nameable enter_fun write names type_name
   declared_fun_logs f s log need inv parts fresh =
       record {
         later = func f ∷ log;
         grown = grows_next;
         inv =
-            inv_logged inv (declared_fun f s) (func f) cs (extends_fun f cs s) parts tt fresh need (fun_new s.funs f) new (Memᴰ.head refl) refl
+            inv_logged inv (declared_fun f s) (func f) cs (extends_fun f cs s) parts tt fresh need (fun_new s.funs f) (λ u a h. new u h) inv.entered (Memᴰ.head refl) refl
             (fun_command (names (enter_fun f s)) f);
         has = Memᴰ.head refl;
       }
@@ -156,11 +156,11 @@ module _ (e : Enums) (ins : List Tm) where
       new (type u) h = inl h
 
   comment_inv : (text : Bytes) (s : State) (log : List Thing) → Inv e ins s log → Inv e ins (write (comment text ∷ []) s) log
-  unfolding write Tabled collect silent
+  unfolding write Tabled Asked collect silent
   comment_inv text s log inv =
       inv_quiet inv (write (comment text ∷ []) s)
       (extends s (write (comment text ∷ []) s) [] [] [] (sym (append-nil s.types)) (sym (append-nil s.funs)) (sym (append-nil s.terms)))
-      new (collect_append silent s.commands (comment text ∷ []) ∙ append-nil (collect silent s.commands))
+      (λ th a h. new th h) inv.entered (collect_append silent s.commands (comment text ∷ []) ∙ append-nil (collect silent s.commands))
     where
       new : (th : Thing) → Tabled (write (comment text ∷ []) s) th → Tabled s th ⊎ Covered e log th
       new (term t) h = inl h
@@ -169,9 +169,9 @@ module _ (e : Enums) (ins : List Tm) where
 
   pub encode_uuf_logs : (f : Fun) (s : State) (log : List Thing) → NeededFun ins f → Inv e ins s log
       → Goes (λ s'. Logs e ins (Memᴰ (func f)) log s' × (s'.terms ≡ s.terms)) (encode_uuf e f s)
-  unfolding encode_uuf writing declare_function declared_fun HasParts Tabled Covered write enter_fun
+  unfolding encode_uuf writing declare_function declared_fun HasParts Tabled Covered Asked write enter_fun
   encode_uuf_logs (uuf id arg out) s log need inv =
-      ends_unless (λ s'. any (eq_fun f) s'.funs) (◌>>◌ (writing (comment id ∷ [])) after_comment) s (λ k. (logs_same inv (inv.covered (func f) k), refl))
+      ends_unless (λ s'. any (eq_fun f) s'.funs) (◌>>◌ (writing (comment id ∷ [])) after_comment) s (λ k. (logs_same inv (inv.covered (func f) tt k), refl))
       (λ k. ends_then (writing (comment id ∷ [])) after_comment s
       (goes (ends_then (encode_type e arg) after_argument s₁
       (ends_map (λ s₂ a. ends_then (encode_type e out) (declare_function f) s₂ (ends_map (λ s₃ b. goes (last k s₂ s₃ a b)) (encode_type_step out s₂ a.0.later (of_result need) a.0.inv)))

@@ -108,6 +108,11 @@ module _ {A : Type 0} where
   place p [] = none
   place p (x ∷ xs) = place_from (p x) (place p xs)
 
+  -- the first element that passes
+  unfoldable pub first_of : (A → Bool) → List A → Option A
+  first_of p [] = none
+  first_of p (x ∷ xs) = elim (p x) [ true ↦ some x | false ↦ first_of p xs ]
+
   -- the element at a place
   unfoldable pub at : ℕ → List A → Option A
   at n [] = none

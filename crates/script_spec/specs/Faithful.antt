@@ -1,5 +1,6 @@
 -- Demand 3: what a script says of its term file. The script is read by its bytes alone (`Smtlib`); the file is its records'
--- trees. Nothing here knows of the encoder's tables or of its order.
+-- trees, the inputs taken as their script lists them (`Listing`), so that equal terms are one tree. Nothing here knows of the
+-- encoder's tables or of its order.
 -- Assumes nothing.
 use Rattle.std.specs.Prelude.{ℕ, ◌≡◌, ◌↔◌, Bool, true, false, not, ◌&&◌, T, eqb}
 use mathlib.Core.List.{List, [], ◌∷◌, ◌++◌, map, Memᴰ}
@@ -9,6 +10,7 @@ use Rattle.script_spec.specs.Tree.{Ty, Fun, Tm, Mark, Forest, node, nil, cons, c
 use Rattle.script_spec.specs.File.{TermFile, members, inputs}
 use Rattle.script_spec.specs.Command.{spelled, declare_const, ◌⊹◌}
 use Rattle.script_spec.specs.Spelling.{Names, sort, body, type_declaration, fun_declaration, option_declaration, ext_name, inlined}
+use Rattle.script_spec.specs.Listing.{as_listed}
 use Rattle.script_spec.specs.Smtlib.{Token, word, string, mark, tokens, flat, commands_of}
 
 -- ---- what inputs need
@@ -240,6 +242,6 @@ pub record Says (e : Enums) (ins : List Tm) (cs : List (List Token)) : Type 0 wh
   pub order : T (in_order e names [] roles)
   pub assertions : collect asserted roles ≡ ins  -- as many as inputs, in their order
 
--- demand 3 of a script
+-- demand 3 of a script: it says what the inputs need, each set in them listed as the equal one that the encoder meets first
 unfoldable pub Faithful : TermFile → Bytes → Type 0
-Faithful f script = Says (members f) (inputs f) (commands_of script)
+Faithful f script = Says (members f) (as_listed (inputs f)) (commands_of script)

@@ -1,11 +1,12 @@
--- Types, functions and terms as trees: what the records of a term file name. Equality of trees is document 01's equality: the
--- same mark and equal fields, lists compared item by item, references by what they name.
+-- Types, functions and terms as trees: what the records of a term file name. Equality is document 01's, the same mark and equal fields,
+-- lists compared item by item, references by what they name; but sets are equal that have the same element type and equal elements,
+-- whatever their listing, and so are terms built over them.
 -- Assumes nothing.
-use Rattle.std.specs.Prelude.{ℕ, zero, suc, max, Bool, true, false, List, [], ◌∷◌}
+use Rattle.std.specs.Prelude.{ℕ, zero, suc, max, Bool, true, false, ◌&&◌, List, [], ◌∷◌}
 use Rattle.std.proofs.Math.Decide.{ℕ_discrete}
 use Rattle.std.proofs.Math.Bool.{Bool-discrete}
 use Rattle.std.proofs.Math.Option.{Option, none, some}
-use Rattle.script_spec.specs.Base.{Bytes, is_yes, list_dec, and_then, place, same}
+use Rattle.script_spec.specs.Base.{Bytes, is_yes, list_dec, and_then, place, same, any, all}
 
 -- ---- trees
 
@@ -29,6 +30,10 @@ module _ {A : Type 0} where
   unfoldable pub forest : List (Tree A) → Forest A
   forest [] = nil
   forest (t ∷ ts) = cons t (forest ts)
+
+  -- a type's or a term's mark
+  unfoldable pub mark : Tree A → A
+  mark (node a ts) = a
 
   -- a type's parts or a term's children, in order
   unfoldable pub children : Tree A → List (Tree A)
@@ -230,11 +235,7 @@ mark_dec =
     TermMark-discrete bytes_dec ty_dec Bool-discrete ℕ_discrete (Value-discrete ℕ_discrete) (list_dec bytes_dec)
     (Op-discrete PlainOp-discrete ExtOp-discrete bytes_dec fun_dec ℕ_discrete)
 
--- whether two terms are equal: the same mark and fields, equal children
-unfoldable pub tm_dec : Discrete Tm
-tm_dec = Tree-discrete mark_dec
-
--- equal types, functions and terms
+-- equal types
 unfoldable pub eq_ty : Ty → Ty → Bool
 eq_ty a b = is_yes (ty_dec a b)
 
@@ -242,9 +243,41 @@ eq_ty a b = is_yes (ty_dec a b)
 unfoldable pub eq_fun : Fun → Fun → Bool
 eq_fun a b = is_yes (fun_dec a b)
 
--- equal terms
-unfoldable pub eq_tm : Tm → Tm → Bool
-eq_tm a b = is_yes (tm_dec a b)
+-- an `XC`
+unfoldable pub is_set : {R F : Type 0} → TermMark R F → Bool
+is_set (Var id ty) = false
+is_set (BoolLit b) = false
+is_set (BitVecLit n v) = false
+is_set (StringLit s) = false
+is_set (Entity ty id) = false
+is_set (ExtLit v) = false
+is_set (None ty) = false
+is_set Some = false
+is_set (Set ty) = true
+is_set (Record names) = false
+is_set (App ty op) = false
+
+-- a list item by item: each passes its test, and there are as many items as tests
+unfoldable pub itemwise : {A : Type 0} → List (A → Bool) → List A → Bool
+itemwise [] [] = true
+itemwise [] (x ∷ xs) = false
+itemwise (p ∷ ps) [] = false
+itemwise (p ∷ ps) (x ∷ xs) = p x && itemwise ps xs
+
+-- a list in any order: each test is passed by an item, and each item passes a test
+unfoldable pub any_order : {A : Type 0} → List (A → Bool) → List A → Bool
+any_order ps xs = all (λ p. any p xs) ps && all (λ x. any (λ p. p x) ps) xs
+
+-- equal terms: the same mark and fields, and equal children, one by one; those of a set in any order
+unfoldable mutual
+  pub eq_tm : Tm → Tm → Bool
+  eq_tm (node m ts) u =
+      is_yes (mark_dec m (mark u)) && elim (is_set m) [ true ↦ any_order (equals ts) (children u) | false ↦ itemwise (equals ts) (children u) ]
+
+  -- for each term, whether another is equal to it
+  pub equals : Forest Mark → List (Tm → Bool)
+  equals nil = []
+  equals (cons t ts) = (λ u. eq_tm t u) ∷ equals ts
 
 -- ---- kinds of terms
 

@@ -87,6 +87,7 @@ module _ {file : Bytes} {f : TermFile} {work work' : List ℕ} {k : ℕ} (K : Ke
               type_is = rw (K.others term_type n refl) r.type_is;
               type_first_is = rw (K.others term_type n refl) r.type_first_is;
               place_is = K.others term_place n refl ∙ r.place_is;
+              differ = r.differ;
             };
         enum_row = λ n l. let r = I.enum_row n l in record { stands = rw (K.others enum_offset n refl) r.stands };
         input_row = λ n l. let r = I.input_row n l in record { below = rw (K.others input_term n refl) r.below; is = rw (K.others input_term n refl) r.is };
@@ -128,7 +129,7 @@ name_apart : (work : List ℕ) (k column i v column' j : ℕ) → Apart k column
 unfolding name_in name_stored
 name_apart work k column i v column' j A = ap (λ (m : ℕ). m - 256) (cell_store_apart work k column i (raised v) column' j A)
 
-module _ {A : Type 0} {eq : A → A → Bool} {count : ℕ} {name : ℕ → A} {first : ℕ → ℕ} (F : FirstEqual count name first) where
+module _ {A : Type 0} {eq : A → A → Bool} {count : ℕ} {name : ℕ → A} {first : ℕ → ℕ} (F : FirstEqual eq count name first) where
   -- the record n is entered, and one more than the table's length is stored at the number of its first equal record
   table_stored : (E : Equality eq) (work : List ℕ) (k column : ℕ) {table : List A} → 12 * k ≤ length work → column < 24 → (shared column ≡ column → ⊥) → count ≤ k → (n v : ℕ) → n < count
       → Table eq count name first (name_in work k column) table → name_in work k column (first n) ≡ 0 → v ≡ length table + 1 → v < 4294967040

@@ -9,12 +9,12 @@ use Prim.Native.Nat.{ℕ, zero, suc, ◌<◌}
 use native.Mathlib.Nat.{not-suc-le-zero}
 use native.Mathlib.Decide.{ℕ_discrete}
 use native.Mathlib.Omega.{arith}
-use lib.Dec.{T, eqb}
+use lib.Dec.{eqb}
 use borrow.Author.Tests.{ne_eqb}
 use lib.ListN.{length, length-append}
 use Rattle.script_spec.specs.Base.{place, place_from, any, is_some}
-use Rattle.script_spec.proofs.Laws.{is_true, never}
-use Rattle.index.proofs.Firsts.{FirstEqual, Equality, any_place, first_below, first_injective}
+use Rattle.script_spec.proofs.Laws.{is_true, never, never_true}
+use Rattle.index.proofs.Firsts.{FirstEqual, Equality, any_place, place_equal, first_below, first_injective}
 use Rattle.index.proofs.Empties.{empties_all, empties_same}
 use Rattle.index.specs.Empties.{empties, one_if_empty}
 use Rattle.walk_names.specs.Naming.{num, place_of, Table}
@@ -72,12 +72,12 @@ empties_less column column' i v (suc k) l z s h = go (ℕ_discrete k i) (λ m. e
 
 module _ {A : Type 0} {eq : A → A → Bool} {count : ℕ} {name : ℕ → A} {first : ℕ → ℕ} where
   -- the empty table
-  pub table_start : FirstEqual count name first → (column : ℕ → ℕ) → ((i : ℕ) → i < count → column i ≡ 0) → Table eq count name first column []
+  pub table_start : FirstEqual eq count name first → (column : ℕ → ℕ) → ((i : ℕ) → i < count → column i ≡ 0) → Table eq count name first column []
   unfolding place num
   table_start F column h = record { place_is = λ n l. h (first n) (first_below F n l); taken = omega (arith, empties_all column count h) }
 
   -- a column that has the same entries for the records
-  pub table_same : FirstEqual count name first → {column : ℕ → ℕ} {table : List A} (column' : ℕ → ℕ) → ((i : ℕ) → i < count → column' i ≡ column i)
+  pub table_same : FirstEqual eq count name first → {column : ℕ → ℕ} {table : List A} (column' : ℕ → ℕ) → ((i : ℕ) → i < count → column' i ≡ column i)
       → Table eq count name first column table → Table eq count name first column' table
   table_same F {column} column' h t = record { place_is = λ n l. h (first n) (first_below F n l) ∙ t.place_is n l; taken = rw (empties_same column column' count h) t.taken }
 
@@ -92,14 +92,7 @@ module _ {A : Type 0} {eq : A → A → Bool} {count : ℕ} {name : ℕ → A} {
   table_place {table = table} t n l = sym (place_of_num (place (eq (name n)) table)) ∙ ap place_of (sym (t.place_is n l))
 
   -- a record that is not in the table is entered, and its entry is set
-  module _ (E : Equality eq) (F : FirstEqual count name first) where
-    unlike : (m n : ℕ) → (name m ≡ name n → ⊥) → eq (name m) (name n) ≡ false
-    unlike m n h = go (eq (name m) (name n)) (E.sound (name m) (name n))
-      where
-        go : (b : Bool) → (T b → name m ≡ name n) → b ≡ false
-        go true k = absurd (h (k tt))
-        go false k = refl
-
+  module _ (E : Equality eq) (F : FirstEqual eq count name first) where
     pub table_enter : {column : ℕ → ℕ} {table : List A} (column' : ℕ → ℕ) (n : ℕ) → n < count
         → Table eq count name first column table → column (first n) ≡ 0 → column' (first n) ≡ suc (length table)
         → ((j : ℕ) → (j ≡ first n → ⊥) → column' j ≡ column j) → Table eq count name first column' (table ++ (name n ∷ []))
@@ -115,5 +108,7 @@ module _ {A : Type 0} {eq : A → A → Bool} {count : ℕ} {name : ℕ → A} {
         absent = num_none (place (eq (name n)) table) (sym (t.place_is n l) ∙ z)
 
         entry : (m : ℕ) → m < count → Dec (first m ≡ first n) → column' (first m) ≡ num (place (eq (name m)) (table ++ (name n ∷ [])))
-        entry m q (yes e) = rw (e, first_injective F m n q l e) (s ∙ ap num (sym (place_new (eq (name n)) table (name n) (is_true (eq (name n) (name n)) (E.reflexive (name n))) absent)))
-        entry m q (no e) = h (first m) e ∙ t.place_is m q ∙ ap num (sym (place_other (eq (name m)) table (name n) (unlike m n (λ g. e (F.equal m n g)))))
+        entry m q (yes e) =
+            rw (e, place_equal E (name m) (name n) (first_injective F E m n q l e) (table ++ (name n ∷ [])))
+            (s ∙ ap num (sym (place_new (eq (name n)) table (name n) (is_true (eq (name n) (name n)) (E.reflexive (name n))) absent)))
+        entry m q (no e) = h (first m) e ∙ t.place_is m q ∙ ap num (sym (place_other (eq (name m)) table (name n) (never_true (eq (name m) (name n)) (λ g. e (F.equal m n g)))))

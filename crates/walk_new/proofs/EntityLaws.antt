@@ -6,14 +6,16 @@ use mathlib.Core.Path.{◌≡◌, refl, sym, ap, ◌∙◌, subst}
 use mathlib.Core.Bool.{true, false}
 use mathlib.Core.List.{List}
 use mathlib.Core.Option.{Option, none, some}
+use lib.Dec.{T}
 use Rattle.std.specs.Prelude.{Option as Optional, None, Some, SomeIff, unwrap_or, Result, Ok, Err}
 use Rattle.script_spec.specs.Base.{Bytes, any, and_then, same, place, is_some}
 use Rattle.script_spec.specs.Utf8.{code_points}
-use Rattle.script_spec.specs.Tree.{Ty, Tm, Forest, Mark, node, Entity, Enums, enum_of}
+use Rattle.script_spec.specs.Tree.{Ty, Tm, Forest, Mark, node, Entity, Enums, enum_of, eq_tm}
 use Rattle.script_spec.specs.File.{TermFile, members, type_at, term_at}
 use Rattle.script_spec.specs.Walk as walk
 use Rattle.script_spec.specs.Walk.{State, Step, went, ◌>>◌, refuse_unless, first_high, refuse_high, define_entity}
 use Rattle.script_spec.proofs.Laws.{never, any_place}
+use Rattle.script_spec.proofs.Equal.{eq_tm_sym}
 use Rattle.script_spec.proofs.Steps.{Ends, ends_went, ends_high}
 use Rattle.script_spec.proofs.EnteredTerms.{New}
 use Rattle.refusal.specs.declared.Refusal.TheVariants as refusal
@@ -26,6 +28,7 @@ use Rattle.index.specs.Held.{Becomes}
 use Rattle.index.specs.declared.RecordsMut.{RecordsMut}
 use Rattle.index.proofs.Firsts.{first_below, first_terms}
 use Rattle.walk_names.specs.Naming.{place_of, NoteSays}
+use Rattle.walk_names.proofs.Notes.{note_equal}
 use Rattle.walk_names.specs.Progress.{memory, rows, Advances}
 use Rattle.walk_names.specs.declared.walk.Walk.{Walk}
 use Rattle.walk_names.specs.declared.walk.Stopped.{Stopped}
@@ -123,4 +126,5 @@ module _ {n t : ℕ} {id : Bytes} {v : Walk} {r : Member} (F : FindsMember v.rec
       let is : EntityIs n t id f = s.at.is in
       let first_is : first ≡ first_term f n = at ∙ (J.rows.term_row n is.inside).first in
       let h : Placed (members f) (type_at f t) id (some i) = subst (λ (y : Member). MemberSaid y (members f) (type_at f t) id) e (member_said r (members f) (type_at f t) id (F.go f I is.type_inside)) in
-      rw first_is (first_below (first_terms f) n is.inside, λ q. rw ((first_terms f).names n is.inside, ← is.tree) (note_of_member (members f) (type_at f t) id is.children h (place q))))
+      let same : T (eq_tm (term_at f n) (term_at f (first_term f n))) = eq_tm_sym (term_at f (first_term f n)) (term_at f n) ((first_terms f).names n is.inside) in
+      rw first_is (first_below (first_terms f) n is.inside, λ q. note_equal same (rw (← is.tree) (note_of_member (members f) (type_at f t) id is.children h (place q)))))

@@ -15,7 +15,7 @@ use Rattle.refusal.specs.declared.Refusal.TheVariants as refusal
 use Rattle.refusal.specs.Numbers.{number, option_of}
 use Rattle.index.specs.First.{OpInRange, MarkInRange}
 use Rattle.index.specs.Meaning.{counted}
-use Rattle.index.proofs.Rules.{trees_forest}
+use Rattle.script_spec.proofs.Lists.{trees_forest}
 use Rattle.read_field.specs.Words.{elements}
 use Rattle.read_operator.specs.Operators.{op_of}
 use Rattle.read_operator.specs.declared.Op.{Op}

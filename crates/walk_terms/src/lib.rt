@@ -1,4 +1,5 @@
-// The walk over the terms of a file: each term after its type and its children, and each once.
+// The walk over the terms of a file: each term after its type and its children, and each once. Of equal terms the first that it comes to is
+// encoded, with the children of its own record.
 #![tactic(auto)]
 
 ghost use Rattle.walk_names.specs.Progress.{Advances, Passes};

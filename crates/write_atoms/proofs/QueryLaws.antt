@@ -22,6 +22,7 @@ use Rattle.index.specs.First.{first_term}
 use Rattle.index.specs.declared.Records.{Records}
 use Rattle.index.proofs.Firsts.{first_below, first_terms}
 use Rattle.walk_names.specs.Naming.{place_of, IndexOf, NumbersOf}
+use Rattle.walk_names.proofs.Notes.{note_equal}
 use Rattle.write_atoms.specs.Parts.{term_name_of, SpellsNumbered}
 use Rattle.write_atoms.proofs.Numbered.{name_is}
 use Rattle.walk_queries.specs.Negations.{negation_said, NegationOf}
@@ -84,7 +85,7 @@ module _ {records : Records} {n t : ℕ} {id : Bytes} {i : ℕ} {v w : Writer} (
       let first_is = at ∙ (I.rows.term_row n k.inside).first in
       let is = read ∙ ap (cell records.work.now records.sizes.rows note) first_is in
       let says = N.notes.says (first_term f n) (first_below F n k.inside) (λ z. none-ne-some i (ap place_of (sym (is ∙ z)) ∙ there)) in
-      in_enum (members f) (type_at f t) id (says.entity _ id k.children (F.names n k.inside ∙ sym k.tree) ∙ ap place_of (sym is) ∙ there))
+      in_enum (members f) (type_at f t) id ((note_equal (F.names n k.inside) says).entity _ id k.children (sym k.tree) ∙ ap place_of (sym is) ∙ there))
 
 module _ {records : Records} {n t : ℕ} {id : Bytes} {r : Member} (M : FindsMember records.file.now records.work.now records.sizes t id r) where
   pub entity_by_name : {v w : Writer} → r ≡ member.NoEnum → Writes v w (term_name_of records n) → SpellsEntity records n t id v w

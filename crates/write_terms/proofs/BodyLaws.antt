@@ -27,7 +27,7 @@ use Rattle.index.specs.First.{All, Below, MarkInRange}
 use Rattle.index.specs.Meaning.{counted}
 use Rattle.index.specs.declared.Records.{Records}
 use Rattle.index.proofs.Later.{below_more}
-use Rattle.index.proofs.Rules.{trees_forest}
+use Rattle.script_spec.proofs.Lists.{trees_forest}
 use Rattle.index_entry.specs.Terms.{value_of, children_in, term_said, TermAt}
 use Rattle.index_entry.specs.declared.terms.Compound.{Compound}
 use Rattle.index_entry.specs.declared.terms.Value.{Value}

@@ -10,7 +10,7 @@ use Rattle.script_spec.specs.File.{TermFile, type_at}
 use Rattle.script_spec.specs.Command.{line, script, declare_datatype}
 use Rattle.script_spec.specs.Spelling.{sort, sort_from, datatype_sort, ext_name, ext_constructors, constructors, type_comment, type_declaration}
 use Rattle.script_spec.specs.Walk.{State, letter, names, type_name}
-use Rattle.index.proofs.Rules.{trees_forest}
+use Rattle.script_spec.proofs.Lists.{trees_forest}
 use Rattle.write_types.specs.Records.{record_name, part_sorts}
 use Rattle.write_types.specs.Members.{entity_symbol}
 use Rattle.write_types.specs.Lines.{entity_lines, record_lines}

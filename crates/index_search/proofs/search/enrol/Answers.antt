@@ -1,17 +1,9 @@
--- The search from the home, and a slot where no equal record was met.
+-- A set, or another record.
 -- Assumes nothing.
-use Rattle.index_search.proofs.Probing.{viewed, home_viewed}
-use Rattle.index_search.proofs.Searching.{equal_viewed, enrolled_new, enrolled_old}
 use Rattle.index_search.proofs.search.enrol.Goals as goal
 
 pub returns-in-Some : goal.returns-in-Some
-returns-in-Some c =
-    let S = c.searched-searched.ensures in
-    rw (← S.table, ← S.offsets, ← S.firsts, ← S.count)
-    (enrolled_old c.args.records.now _ _ (home_viewed c.args.records.now c.view.result (viewed c.view.ensures) c.home-b.ensures) (equal_viewed _ _ c.in-Some.ensures.1 c.in-Some.ensures.2) c.get.ensures)
+returns-in-Some c = c.enrol_set.ensures _ c.in-Some.ensures
 
 pub returns-in-None : goal.returns-in-None
-returns-in-None c =
-    let S = c.searched-searched.ensures in
-    rw (← S.table, ← S.offsets, ← S.count)
-    (enrolled_new c.args.records.now _ _ (home_viewed c.args.records.now c.view.result (viewed c.view.ensures) c.home-b.ensures) (equal_viewed _ _ c.in-None.ensures.1 c.in-None.ensures.2))
+returns-in-None c = c.enrol_plain.ensures c.in-None.ensures

@@ -7,4 +7,4 @@ pub returns-in-Ok : goal.returns-in-Ok
 returns-in-Ok g c = let V = viewed c.view.ensures in (c.view.result, V, takes_met V c.in-Ok.ensures)
 
 pub returns-in-Err : goal.returns-in-Err
-returns-in-Err g c = let V = viewed c.view.ensures in (c.view.result, V, takes_none V c.in-Err.ensures c.slot.ensures c.code.ensures c.set_row.ensures)
+returns-in-Err g c = let V = viewed c.view.ensures in (c.view.result, V, takes_none V c.in-Err.ensures c.take.ensures)

@@ -1,0 +1,6 @@
+-- The set at the offset that the column has.
+-- Assumes nothing.
+use Rattle.index_search.proofs.sets.EqualSetTest.is.Goals as goal
+
+pub returns : goal.returns
+returns c = rw c.get.ensures at c.same_set.ensures
