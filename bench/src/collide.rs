@@ -3,7 +3,7 @@ use crate::hash::{hashed, key, Hash, Segment};
 use crate::made::{record, text, word};
 use std::hash::Hasher;
 
-/// The records of a file that have numbers, by which they differ: in their last eight letters, or in the last four of a list's 64 terms.
+/// The records of a file that have numbers, by which they differ: in their last eight letters, or in the last four terms of a list or a set of 64.
 /// Enums are half of their file, the rest being entities of a type that is sought among them; and so are entity types among which the type
 /// of Bool literals is sought.
 #[derive(Clone, Copy)]
@@ -15,6 +15,7 @@ pub enum Records {
     EntityTypes,
     EntityTypesThenBools,
     Lists,
+    Sets,
 }
 
 /// How numbers are found for which the records have nearly one home slot: by the linear hash; by the key of the file without them; by a key
@@ -30,7 +31,7 @@ pub enum Attack {
 }
 
 /// What the files are made of, and how.
-pub const COLLIDING: [(Records, &[Attack]); 7] = [
+pub const COLLIDING: [(Records, &[Attack]); 8] = [
     (Records::Strings, &[Attack::Linear, Attack::KeyWithout, Attack::KeyOne, Attack::LongestRun, Attack::SmallestKey]),
     (Records::LongStrings, &[Attack::Linear, Attack::KeyWithout, Attack::SmallestKey]),
     (Records::Variables, &[Attack::Linear, Attack::KeyWithout, Attack::LongestRun]),
@@ -38,6 +39,7 @@ pub const COLLIDING: [(Records, &[Attack]); 7] = [
     (Records::EntityTypes, &[Attack::Linear, Attack::KeyWithout, Attack::LongestRun]),
     (Records::EntityTypesThenBools, &[Attack::Linear, Attack::KeyWithout]),
     (Records::Lists, &[Attack::Linear, Attack::KeyWithout]),
+    (Records::Sets, &[Attack::Linear, Attack::KeyWithout, Attack::LongestRun]),
 ];
 
 /// A file is made of such numbers that all home slots lie within this part of the slots.
@@ -46,8 +48,13 @@ const PART: usize = 512;
 /// The bytes before the letters of a long string.
 const START: [u8; 248] = [b'a'; 248];
 
-/// The terms of a list.
+/// The terms of a list or a set.
 const LISTED: usize = 64;
+
+/// The terms of a set that differ from one to the next, each among 64 of its own, which stand behind those that all sets have.
+fn last_elements(n: u64) -> impl Iterator<Item = u64> {
+    digits(n, 4).enumerate().map(|(i, d)| (LISTED - 4 + 64 * i) as u64 + d)
+}
 
 /// A number in so many digits of 64, the lowest first.
 fn digits(n: u64, count: u32) -> impl Iterator<Item = u64> {
@@ -87,6 +94,7 @@ impl Records {
             Records::EntityTypes => "entity types",
             Records::EntityTypesThenBools => "entity types, then Bools",
             Records::Lists => "lists",
+            Records::Sets => "sets",
         }
     }
 
@@ -99,6 +107,11 @@ impl Records {
             Records::Lists => {
                 let variables = (0..64).flat_map(|n| record("XV", &[&text(&name(n)), &word(0)]));
                 [record("TB", &[]), variables.collect()].concat()
+            }
+            Records::Sets => {
+                let variables =
+                    (0..LISTED as u64 - 4 + 4 * 64).flat_map(|n| record("XV", &[&text(&name(n)), &word(0)]));
+                [record("TB", &[]), record("TC", &[&word(0)]), variables.collect()].concat()
             }
         }
     }
@@ -114,6 +127,11 @@ impl Records {
             Records::Lists => {
                 let last: Vec<u8> = digits(n, 4).flat_map(|d| word(d as usize)).collect();
                 record("XA", &[&word(0), &[0], &word(LISTED), &word(0).repeat(LISTED - 4), &last])
+            }
+            Records::Sets => {
+                let elements: Vec<u8> =
+                    (0..LISTED as u64 - 4).chain(last_elements(n)).flat_map(|e| word(e as usize)).collect();
+                record("XC", &[&word(0), &word(LISTED), &elements])
             }
         }
     }
@@ -159,6 +177,10 @@ impl Records {
                 let first = [Segment::Type(0), Segment::Plain(&[0]), Segment::Plain(&count)];
                 hash.of("XA", first.into_iter().chain((0..LISTED - 4).map(|_| Segment::Term(0))).collect())
             }
+            Records::Sets => {
+                let start = hash.set_start(0, LISTED as u64);
+                (0..LISTED as u64 - 4).fold(start, |sum, e| hash.add_element(sum, start, e))
+            }
         }
     }
 
@@ -166,6 +188,10 @@ impl Records {
     fn hash(self, hash: Hash, before: u64, n: u64) -> u64 {
         match self {
             Records::Lists => digits(n, 4).fold(before, |h, d| hash.mix_segment(h, Segment::Term(d))),
+            Records::Sets => {
+                let start = hash.set_start(0, LISTED as u64);
+                last_elements(n).fold(before, |sum, e| hash.add_element(sum, start, e))
+            }
             Records::Variables => hash.mix_segment(hash.mix_bytes(before, &letters(n)), Segment::Type(0)),
             _ => hash.mix_bytes(before, &letters(n)),
         }

@@ -78,6 +78,20 @@ impl Hash {
         segments.into_iter().fold(h, |h, segment| self.mix_segment(h, segment))
     }
 
+    /// The hash that a set starts with, by its element type and how many elements it has.
+    pub fn set_start(self, ty: u64, count: u64) -> u64 {
+        self.mix(self.mix_kind(self.mix_bytes(self.start(), b"XC"), 2, ty), count)
+    }
+
+    /// With an element in a set that starts with a hash: a sum, whatever the order.
+    pub fn add_element(self, sum: u64, start: u64, n: u64) -> u64 {
+        let mixed = self.mix_kind(start, 4, n);
+        match self {
+            Hash::Keyed(_) => sum.wrapping_add(folded(mixed, mixed)),
+            Hash::Linear => (sum as u32).wrapping_add(mixed as u32).into(),
+        }
+    }
+
     /// The slot from which what has this hash is looked for, of so many.
     pub fn home(self, h: u64, rows: usize) -> usize {
         match self {

@@ -10,7 +10,7 @@ pub struct Kind {
 }
 
 /// The kinds whose hashes are no matter.
-const OTHERS: [(&str, fn(usize) -> Vec<u8>); 18] = [
+const OTHERS: [(&str, fn(usize) -> Vec<u8>); 21] = [
     ("long string again", |size| string_again("s", size)),
     ("long string again, two bytes", |size| string_again("é", size)),
     ("long string as input again", string_inputs),
@@ -28,6 +28,9 @@ const OTHERS: [(&str, fn(usize) -> Vec<u8>); 18] = [
     ("many members", |size| members("", size)),
     ("wide set", wide_set),
     ("wide sets of one start", wide_sets),
+    ("wide set in two orders", two_orders),
+    ("wide set in many orders", many_orders),
+    ("sets of sets", sets_of_sets),
     ("wide application", wide_application),
 ];
 
@@ -201,4 +204,35 @@ fn wide_application(size: usize) -> Vec<u8> {
 fn wide_sets(size: usize) -> Vec<u8> {
     let one = |n| [set((0..999).chain([n % 500 + 999])), input(1500 + n)].concat();
     filled(size, set_of(1500), one)
+}
+
+/// Three letters for a number.
+fn short(n: usize) -> String {
+    (0..3).map(|d| char::from(b'0' + (n >> (6 * d) & 63) as u8)).collect()
+}
+
+/// A set of as many strings as fit into a file that lists them twice, and the same set in the other order.
+fn two_orders(size: usize) -> Vec<u8> {
+    let count = (size - 200) / 21;
+    let types = [record("TS", &[]), record("TC", &[&word(0)])].concat();
+    let strings: Vec<u8> = (0..count).flat_map(|n| record("XS", &[&text(&short(n))])).collect();
+    [types, strings, set(0..count), set((0..count).rev()), input(count + 1), input(count)].concat()
+}
+
+/// A set of 1,000 elements, listed from each of them on.
+fn many_orders(size: usize) -> Vec<u8> {
+    let one = |n: usize| [set((0..1000).map(|i| (i + n) % 1000)), input(1000 + n)].concat();
+    filled(size, set_of(1000), one)
+}
+
+/// A set of two variables in both orders, one of the first of them, and a set of these two in both orders.
+fn sets_of_sets(size: usize) -> Vec<u8> {
+    let one = |n: usize| {
+        let first = 7 * n;
+        let variables = ["a", "b"].map(|letter| variable(&format!("{letter}{n:06}"))).concat();
+        let of = |ty, terms: &[usize]| record("XC", &[&word(ty), &list(terms.iter().map(|t| first + t))]);
+        let sets = [of(0, &[0, 1]), of(0, &[1, 0]), of(0, &[0]), of(1, &[2, 4]), of(1, &[4, 3])].concat();
+        [variables, sets, input(first + 6)].concat()
+    };
+    filled(size, [record("TB", &[]), record("TC", &[&word(0)]), record("TC", &[&word(1)])].concat(), one)
 }
