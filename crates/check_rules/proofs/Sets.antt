@@ -22,7 +22,6 @@ use Rattle.refusal.specs.Numbers.{number}
 use Rattle.read_field.specs.Reads.{as_read}
 use Rattle.read_field.specs.declared.Cursor.{Cursor}
 use Rattle.read_field.specs.Takes.{TakesTo, RefusesAt}
-use Rattle.index.specs.Lists.{number_at}
 use Rattle.index.specs.Standing.{loose, entry_of, entry_at, mark_at, body_at}
 use Rattle.read_record.specs.Marks.{mark, MarkedAs}
 use Rattle.read_record.specs.declared.mark.Kind.TheVariants as kind
@@ -71,11 +70,6 @@ module _ (mark body : Bytes) {t : ℕ} {rs : List ℕ} (e : entry_of mark body �
       let size : length rs ≡ b.value = (references_read body b.value 8 rs [] reads).size in
       record { type_is = set_type; count_is = rw (size, ← left) (numbered_left w); elements_are = rw (size) reads }
 
--- the word in front of what is left
-numbered_word : (body : Bytes) (at : ℕ) {n : ℕ} {rest : Bytes} → Numbered 4 (drop at body) n rest → number_at body at ≡ n
-unfolding number_at
-numbered_word body at w = rw (number_at, w.fits) w.is
-
 -- ---- the kind
 
 -- an entry is a set
@@ -118,15 +112,6 @@ module _ (file : Bytes) (o : ℕ) {t : ℕ} {rs : List ℕ} (e : entry_at file o
   pub set_mark : mark_at file o ≡ bytes "XC"
   unfolding entry_at mark_of term_bytes
   set_mark = entry_mark (mark_at file o) (body_at file o) e
-
-  pub set_type_word : number_at (body_at file o) 0 ≡ t
-  set_type_word = numbered_word (body_at file o) 0 set_at.type_is
-
-  pub set_count_word : number_at (body_at file o) 4 ≡ length rs
-  set_count_word = numbered_word (body_at file o) 4 set_at.count_is
-
-  pub set_elements : References (body_at file o) 8 rs (length rs)
-  set_elements = references_read (body_at file o) (length rs) 8 rs [] set_at.elements_are
 
   -- by a cursor at the start of the body
   module _ {body : Bor Bytes} {c : Cursor} (is : body.now ≡ body_at file o) (starts : (c.body ≡ body) × (c.at ≡ 0)) where

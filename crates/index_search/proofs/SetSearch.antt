@@ -30,7 +30,7 @@ use Rattle.index_search.specs.Hash.{set_hash}
 use Rattle.index_search.specs.Slots.{term_hash, entry_hash, home_of}
 use Rattle.index_search.specs.Sets.{SetAt, SetHash, NotedSet, SameSet}
 use Rattle.index_search.specs.Storing.{Scales}
-use Rattle.index_search.specs.Probed.{Viewed, Met, Unmet, Probes, SlotTaken}
+use Rattle.index_search.specs.Probed.{Viewed, Unmet, Probes, SlotTaken}
 use Rattle.index_search.specs.Found.{LooksFor, EnrolsIn}
 use Rattle.index_search.specs.Tables.{offsets_of}
 use Rattle.index_search.specs.declared.search.Compared.{Compared}
@@ -56,9 +56,6 @@ module _ {k : ℕ} {column column' : ℕ → ℕ} {kind count : ℕ} {test : ℕ
         empty = record { most = U.empty.most; taken = λ j l e. U.empty.taken j l (same (slot k b j) ∙ e); empty = λ l. sym (same (slot k b d)) ∙ U.empty.empty l };
         passed = record { other = λ j n l m e. U.passed.other j n l m (same (slot k b j) ∙ e) };
       }
-
-  met_same : {n : ℕ} → Met k column' kind count test b n → Met k column kind count test b n
-  met_same M = record { below = M.below; is = M.is }
 
 -- ---- the set that is looked for
 

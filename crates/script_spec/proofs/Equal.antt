@@ -215,10 +215,6 @@ unfolding greatest
 greatest_below [] n h = zero-le
 greatest_below (x ∷ xs) n h = let p = h x (Memᴰ.head refl) in let q = greatest_below xs n (λ y m. h y (Memᴰ.tail m)) in omega arith
 
--- a child is less deep
-pub depth_child : (t : Tm) (ts : Forest Mark) → Memᴰ t (trees ts) → depth t ≤ depths ts
-depth_child t ts m = subst (λ (n : ℕ). depth t ≤ n) (sym (depths_greatest ts)) (greatest_mem t (trees ts) m)
-
 abbrev SameDepth : Tm → Type 0
 SameDepth x = (y : Tm) → T (eq_tm x y) → depth x ≡ depth y
 
