@@ -23,7 +23,7 @@ unfolding rules broken
 fun_entered v o E R more =
     record {
       kept = keeps_counted R _ refl;
-      go = λ f C room g s.
+      go = λ f C room g s below.
           let c = C.sizes_are in
           record {
             rule = refl;

@@ -72,7 +72,7 @@ unfolding rules broken
 input_entered v o {n} {m} {body} {w} hb hn R more =
     record {
       kept = keeps_counted R _ refl;
-      go = λ f C room t s.
+      go = λ f C room t s below.
           let c = C.sizes_are in
           record {
             rule = refl;

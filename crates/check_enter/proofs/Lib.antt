@@ -6,4 +6,5 @@ pub mod Functions
 pub mod Types
 pub mod EnumRules
 pub mod InputRules
+pub mod WrittenTypes
 pub mod TermRules

@@ -4,7 +4,7 @@
 use mathlib.Core.Path.{◌≡◌, sym, ap, ◌∙◌}
 use Prim.Native.Nat.{ℕ, suc}
 use mathlib.Core.List.{List, map}
-use mathlib.Core.Option.{some}
+use mathlib.Core.Option.{Option, some}
 use lib.ListN.{length}
 use Rattle.script_spec.specs.Base.{Bytes}
 use Rattle.script_spec.specs.Tree.{Ty, Tm, node, forest, depth}
@@ -72,12 +72,12 @@ term_value e = cc
 
 module _ {file : Bytes} {f : TermFile} {work : List ℕ} {k o : ℕ} (I : Indexed file f work k) where
   -- the rules by the numbers
-  pub rules_by_lem : {A : Type 0} {make : A → List ℕ → Entry} {x : Named} (P : Parts make file f o x)
-      → rules f x ≡ rules_by f (cell work k type_depth) (cell work k term_first) (cell work k term_type) (cell work k term_depth) (make P.m P.rs)
-  rules_by_lem {make = make} P =
-      sym (ap (rules f) P.names)
+  pub rules_by_lem : {A : Type 0} {make : A → List ℕ → Entry} {x : Named} (P : Parts make file f o x) (ty : Option Ty)
+      → rules f ty x ≡ rules_by f (cell work k type_depth) (cell work k term_first) (cell work k term_type) (cell work k term_depth) ty (make P.m P.rs)
+  rules_by_lem {make = make} P ty =
+      sym (ap (rules f ty) P.names)
       ∙ rules_numbers f (cell work k type_depth) (cell work k term_first) (cell work k term_type) (cell work k term_depth) I.depths.type_depth_is (λ n h. (I.index.term_row n h).first)
-      (λ n h. (I.index.term_row n h).type_is) I.depths.term_depth_is (make P.m P.rs) P.in_range
+      (λ n h. (I.index.term_row n h).type_is) I.depths.term_depth_is ty (make P.m P.rs) P.in_range
 
   pub type_depth_is : {t : Ty} (P : TypeParts file f o t) → suc (deepest work k type_depth P) ≡ depth t
   unfolding named deepest InRange earlier

@@ -8,6 +8,7 @@ use Rattle.std.specs.Prelude.{Ok, Err}
 use mathlib.Core.Bool.{Bool, true, false, ◌&&◌}
 use lib.Dec.{leb, ltb}
 use mathlib.Core.List.{List, [], ◌∷◌, map}
+use mathlib.Core.Option.{Option}
 use borrow.Author.Tests.{lt-ltb, le-ltb, le-leb, lt-leb}
 use lib.ListN.{length}
 use Rattle.script_spec.specs.Base.{Bytes, if_some, ascending}
@@ -53,9 +54,9 @@ type_row_stored v o deep E R more =
 -- ---- the rules
 
 module _ {file : Bytes} {f : TermFile} {work : List ℕ} {k o : ℕ} {t : Ty} (I : Indexed file f work k) (P : TypeParts file f o t) where
-  type_rules : rules f (type t) ≡ (9, if_some ascending (attributes (node P.m nil))) ∷ (13, ltb (length (types f)) 60000 && leb (suc (deepest work k type_depth P)) 256) ∷ []
+  type_rules : (ty : Option Ty) → rules f ty (type t) ≡ (9, if_some ascending (attributes (node P.m nil))) ∷ (13, ltb (length (types f)) 60000 && leb (suc (deepest work k type_depth P)) 256) ∷ []
   unfolding rules_by limits deepest
-  type_rules = rules_by_lem I P
+  type_rules ty = rules_by_lem I P ty
 
   -- the depth that the walk over the body gives
   deepest_is : Octets file → greatest (reference_numbers 2 (map (viewed work k Depth) (segments_at file o))) ≡ deepest work k type_depth P
@@ -69,16 +70,16 @@ ascends_is A P = sym (A.go P.m P.rs P.reads)
 module _ (v : RecordsMut) (o : ℕ) {b : Bool} (A : TypeAscends v.file.now o b) where
   pub type_unordered : b ≡ false → Enters type v v o (Err NotAscending)
   unfolding number
-  type_unordered h = record { kept = keeps_same v; go = λ f C room t s. let P = type_parts s in record { rule = ap broken (type_rules C.indexed P) ∙ broken_here 9 _ (ascends_is A P ∙ h); memory = unchanged v } }
+  type_unordered h = record { kept = keeps_same v; go = λ f C room t s below. let P = type_parts s in record { rule = ap broken (type_rules C.indexed P _) ∙ broken_here 9 _ (ascends_is A P ∙ h); memory = unchanged v } }
 
   pub type_many : b ≡ true → 60000 ≤ v.sizes.types → Enters type v v o (Err TooMany)
   unfolding number
   type_many h g =
       record {
         kept = keeps_same v;
-        go = λ f C room t s.
+        go = λ f C room t s below.
             let P = type_parts s in
-            record { rule = ap broken (type_rules C.indexed P) ∙ broken_later 9 _ (ascends_is A P ∙ h) ∙ broken_here 13 _ (rw (← C.sizes_are.types_are, le-ltb v.sizes.types 60000 g)); memory = unchanged v };
+            record { rule = ap broken (type_rules C.indexed P _) ∙ broken_later 9 _ (ascends_is A P ∙ h) ∙ broken_here 13 _ (rw (← C.sizes_are.types_are, le-ltb v.sizes.types 60000 g)); memory = unchanged v };
       }
 
   module _ {n : ℕ} (octets : Octets v.file.now) (is : n ≡ greatest (reference_numbers 2 (map (viewed v.work.now v.sizes.rows Depth) (segments_at v.file.now o)))) where
@@ -87,11 +88,11 @@ module _ (v : RecordsMut) (o : ℕ) {b : Bool} (A : TypeAscends v.file.now o b) 
     type_deep h g d =
         record {
           kept = keeps_same v;
-          go = λ f C room t s.
+          go = λ f C room t s below.
               let P = type_parts s in
               let q : n ≡ deepest v.work.now v.sizes.rows type_depth P = is ∙ deepest_is C.indexed P octets in
               record {
-                rule = ap broken (type_rules C.indexed P) ∙ broken_later 9 _ (ascends_is A P ∙ h) ∙ broken_here 13 _ (rw (← C.sizes_are.types_are, lt-ltb v.sizes.types 60000 g, ← q, lt-leb (suc n) 256 (omega arith)));
+                rule = ap broken (type_rules C.indexed P _) ∙ broken_later 9 _ (ascends_is A P ∙ h) ∙ broken_here 13 _ (rw (← C.sizes_are.types_are, lt-ltb v.sizes.types 60000 g, ← q, lt-leb (suc n) 256 (omega arith)));
                 memory = unchanged v;
               };
         }
@@ -100,11 +101,11 @@ module _ (v : RecordsMut) (o : ℕ) {b : Bool} (A : TypeAscends v.file.now o b) 
     type_entered h g d S =
         record {
           kept = S.kept;
-          go = λ f C room t s.
+          go = λ f C room t s below.
               let P = type_parts s in
               let q : n ≡ deepest v.work.now v.sizes.rows type_depth P = is ∙ deepest_is C.indexed P octets in
               record {
-                rule = ap broken (type_rules C.indexed P) ∙ broken_later 9 _ (ascends_is A P ∙ h) ∙ broken_later 13 _ (rw (← C.sizes_are.types_are, lt-ltb v.sizes.types 60000 g, ← q, le-leb (suc n) 256 (omega arith))) ∙ none_broken;
+                rule = ap broken (type_rules C.indexed P _) ∙ broken_later 9 _ (ascends_is A P ∙ h) ∙ broken_later 13 _ (rw (← C.sizes_are.types_are, lt-ltb v.sizes.types 60000 g, ← q, le-leb (suc n) 256 (omega arith))) ∙ none_broken;
                 memory = S.go f C room t s (add-one n ∙ ap suc q ∙ type_depth_is C.indexed P) (omega arith);
               };
         }

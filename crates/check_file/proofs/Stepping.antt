@@ -7,7 +7,6 @@ use lib.ListN.{drop}
 use Rattle.std.specs.Prelude.{Result, Ok, Err}
 use Rattle.script_spec.specs.Fields.{Entry}
 use Rattle.script_spec.specs.File.{TermFile, earlier}
-use Rattle.index.specs.Standing.{mark_at}
 use Rattle.index.specs.declared.Records.{Records}
 use Rattle.index.specs.declared.RecordsMut.{RecordsMut}
 use Rattle.refusal.specs.declared.Refusal.{Refusal}
@@ -18,7 +17,7 @@ use Rattle.check_enter.proofs.Rewritten.{keeps_same, unchanged}
 use Rattle.check_file.specs.Reading.{ReadsNext}
 use Rattle.check_file.specs.Stepping.{Before, ReadUpTo, HasMark, EnterTells, StepsOver, Steps}
 use Rattle.check_file.proofs.Reading.{next_bad}
-use Rattle.check_file.proofs.Over.{next_mark}
+use Rattle.check_file.proofs.Over.{mark_as_read}
 
 -- ---- the step over a record of a kind
 
@@ -40,11 +39,11 @@ module _ {v : RecordsMut} {c : Records} (viewed : (c.file.now ≡ v.file.now) ×
 
   module _ {w : RecordsMut} {x : Record} {s : Result (Unit {0}) Refusal} (is : r ≡ Ok x) (S : StepsOver (HasMark x.kind) v w at s) where
     tells : (f : TermFile) → Before f v at → EnterTells f v w at x.end s
-    unfolding Said MarkedAs mark_at
+    unfolding Said MarkedAs
     tells f B =
         let I : IsRecord (earlier f) v.file.now at x.kind x.start x.end = said is f B in
-        let R : ReadUpTo v.file.now f at x.end I.entry = record { read = I.is; further = omega (arith, I.starts, I.ends); within = I.within } in
-        S.go f B x.end I.entry R (sym I.marked.is ∙ next_mark B R)
+        let R : ReadUpTo v.file.now f at x.end I.read.0 = record { ty = I.read.1; read = I.is; further = omega (arith, I.starts, I.ends); within = I.within } in
+        S.go f B x.end I.read.0 R (sym I.marked.is ∙ mark_as_read B R)
 
     pub step_entered : s ≡ Ok tt → Steps v w at (Ok x.end)
     step_entered e = record { kept = S.kept; go = λ f B. subst (λ (s : Result (Unit {0}) Refusal). EnterTells f v w at x.end s) e (tells f B) }

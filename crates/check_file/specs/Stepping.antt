@@ -1,6 +1,7 @@
 -- What a step over the next record promises: the record is entered, or document 01's refusal of it is told.
 -- Assumes nothing.
 use Rattle.std.specs.Prelude.{◌≡◌, ℕ, ◌+◌, ◌*◌, ◌/◌, ◌≤◌, ◌<◌, List, [], ◌∷◌, ◌++◌, length, drop, Result, Ok, Err}
+use Rattle.std.proofs.Math.Option.{Option}
 use Rattle.script_spec.specs.Base.{Bytes, accepted, refused}
 use Rattle.script_spec.specs.Tree.{TypeMark, TermMark}
 use Rattle.script_spec.specs.Fields.{got, bad, Entry, type, enum, func, term, input}
@@ -103,9 +104,10 @@ TermOf kind x = TermRecord x × HasMark kind x
 
 -- ---- the step over a record
 
--- the record x was read after the records f, from one place up to another
+-- the record x was read after the records f, from one place up to another, with a written type or without
 pub record ReadUpTo (file : Bytes) (f : TermFile) (at to : ℕ) (x : Entry) : Type 0 where
-  pub read : read_record (earlier f) (drop at file) ≡ got x (drop to file)
+  pub ty : Option ℕ
+  pub read : read_record (earlier f) (drop at file) ≡ got (x, ty) (drop to file)
   pub further : at + 6 ≤ to
   pub within : to ≤ length file
 

@@ -1,4 +1,4 @@
-// Check: a file's records one after the other, with refusals 1 to 13, and the index that this fills.
+// Check: a file's records one after the other, with refusals 1 to 13 and 21, and the index that this fills.
 #![tactic(auto)]
 
 pub mod next;

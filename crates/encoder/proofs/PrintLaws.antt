@@ -21,7 +21,7 @@ use Rattle.std.specs.Result.{result_unwrap_or}
 use Rattle.refusal.specs.Numbers.{number}
 use Rattle.refusal.specs.Numbers as numbers
 use Rattle.refusal.specs.declared.Refusal.{Refusal}
-use Rattle.refusal.specs.declared.Refusal.TheVariants.{FileTooLong, MemoryTooSmall, CutShort, UnknownMark, Misfit, NotUtf8, OutOfRange, NoSuchRecord, NotAscending, NothingGiven, SecondEnum, TypeNotListed, TooMany, NotMember, HighId, NoAttribute, NotRecord, TypeNotDeclared, NoArgument, NoRoom, HighString, HighPattern}
+use Rattle.refusal.specs.declared.Refusal.TheVariants.{FileTooLong, MemoryTooSmall, CutShort, UnknownMark, Misfit, NotUtf8, OutOfRange, NoSuchRecord, NotAscending, NothingGiven, SecondEnum, TypeNotListed, TooMany, NotMember, HighId, NoAttribute, NotRecord, TypeNotDeclared, NoArgument, NoRoom, WrongType, HighString, HighPattern}
 use Rattle.refusal.specs.declared.Refused.{Refused}
 use Rattle.write_bytes.specs.Writing.{answer, Leaves, length_of}
 use Rattle.write_bytes.specs.Writers.{Writes, Finishes}
@@ -84,6 +84,7 @@ number_short NotRecord = omega arith
 number_short TypeNotDeclared = omega arith
 number_short NoArgument = omega arith
 number_short NoRoom = omega arith
+number_short WrongType = omega arith
 number_short HighString = omega arith
 number_short HighPattern = omega arith
 
@@ -116,6 +117,7 @@ has_none NotRecord a b c = refl
 has_none TypeNotDeclared a b c = refl
 has_none NoArgument a b c = refl
 has_none NoRoom a b c = refl
+has_none WrongType a b c = refl
 has_none HighString a b c = absurd (b refl)
 has_none HighPattern a b c = absurd (c refl)
 

@@ -1,4 +1,4 @@
--- What rules 9, 12 and 13 ask of the terms and types that a record names, said of its numbers: by recursion on the references.
+-- What rules 9, 12, 21 and 13 ask of the terms and types that a record names, said of its numbers: by recursion on the references.
 -- Assumes nothing.
 use Prim.Native.Nat.{ℕ, suc, ◌<◌}
 use mathlib.Core.Path.{◌≡◌, refl, ap}
@@ -9,7 +9,7 @@ use lib.Dec.{eqb, eqb→eq}
 use borrow.Author.Tests.{eq-eqb}
 use lib.ListN.{length}
 use Rattle.script_spec.specs.Base.{any, empty, place, is_some}
-use Rattle.script_spec.specs.Tree.{Tree, Tm, is_set, node, nil, forest, trees, depth, depths, Bool·, Option·, Declared, record_of, eq_ty, eq_tm, type_of, types_of, type_from, datatype, attributes}
+use Rattle.script_spec.specs.Tree.{Tree, Ty, Tm, is_set, node, nil, forest, trees, depth, depths, Bool·, Option·, Declared, record_of, eq_ty, eq_tm, type_of, types_of, type_from, datatype, attributes}
 use Rattle.script_spec.specs.Tree.{TermMark, Var, BoolLit, BitVecLit, StringLit, Entity, ExtLit, None, Some, Set, Record, App}
 use Rattle.script_spec.specs.Fields.{Entry}
 use Rattle.script_spec.specs.Fields as fields
@@ -75,19 +75,19 @@ front_kept true later n h = refl
 front_kept false later n h = never cc
 
 -- the elements of a set that keeps its rules differ
-pub kept_differ : (f : TermFile) (t : Tm) → broken (rules f (term t)) ≡ none → elements_differ t ≡ true
+pub kept_differ : (f : TermFile) (written : Option Ty) (t : Tm) → broken (rules f written (term t)) ≡ none → elements_differ t ≡ true
 unfolding broken rules list_rules elements_differ is_set
-kept_differ f (node (Var id ty) ts) h = refl
-kept_differ f (node (BoolLit b) ts) h = refl
-kept_differ f (node (BitVecLit n v) ts) h = refl
-kept_differ f (node (StringLit s) ts) h = refl
-kept_differ f (node (Entity ty id) ts) h = refl
-kept_differ f (node (ExtLit v) ts) h = refl
-kept_differ f (node (None ty) ts) h = refl
-kept_differ f (node Some ts) h = refl
-kept_differ f (node (Set ty) ts) h = front_kept (distinct (trees ts)) _ 9 h
-kept_differ f (node (Record names) ts) h = refl
-kept_differ f (node (App ty op) ts) h = refl
+kept_differ f written (node (Var id ty) ts) h = refl
+kept_differ f written (node (BoolLit b) ts) h = refl
+kept_differ f written (node (BitVecLit n v) ts) h = refl
+kept_differ f written (node (StringLit s) ts) h = refl
+kept_differ f written (node (Entity ty id) ts) h = refl
+kept_differ f written (node (ExtLit v) ts) h = refl
+kept_differ f written (node (None ty) ts) h = refl
+kept_differ f written (node Some ts) h = refl
+kept_differ f written (node (Set ty) ts) h = front_kept (distinct (trees ts)) _ 9 h
+kept_differ f written (node (Record names) ts) h = refl
+kept_differ f written (node (App ty op) ts) h = refl
 
 -- ---- rule 13
 
@@ -183,11 +183,11 @@ module _ (f : TermFile) (type_depth term_first term_type term_depth : ℕ → �
   -- what a record names keeps the rules where its numbers do
   pub rules_numbers : Agree (length (types f)) type_depth (λ n. depth (type_at f n)) → Agree (length (terms f)) term_first (first_term f)
       → ((n : ℕ) → n < length (terms f) → type_at f (term_type n) ≡ type_of (term_at f n)) → Agree (length (terms f)) term_depth (λ n. depth (term_at f n))
-      → (x : Entry) → InRange (earlier f) x → rules f (named f x) ≡ rules_by f type_depth term_first term_type term_depth x
+      → (ty : Option Ty) (x : Entry) → InRange (earlier f) x → rules f ty (named f x) ≡ rules_by f type_depth term_first term_type term_depth ty x
   unfolding rules rules_by limits named InRange earlier attributes datatype
-  rules_numbers d φ τ δ (fields.type m rs) h = rw (depth_numbers (type_at f) (length (types f)) type_depth d m rs h)
-  rules_numbers d φ τ δ (fields.enum n ms) h = refl
-  rules_numbers d φ τ δ (fields.func id a r) h = refl
-  rules_numbers d φ τ δ (fields.term m rs) h =
-      rw (list_rules_lem f φ m rs h.1, listed_numbers f term_type τ m rs h.1, depth_numbers (term_at f) (length (terms f)) term_depth δ (named_mark f m) rs h.1)
-  rules_numbers d φ τ δ (fields.input n) h = refl
+  rules_numbers d φ τ δ ty (fields.type m rs) h = rw (depth_numbers (type_at f) (length (types f)) type_depth d m rs h)
+  rules_numbers d φ τ δ ty (fields.enum n ms) h = refl
+  rules_numbers d φ τ δ ty (fields.func id a r) h = refl
+  rules_numbers d φ τ δ ty (fields.term m rs) h =
+      rw (list_rules_lem f φ m rs h.1, listed_numbers f term_type τ m rs h.1, type_numbers f term_type τ m rs h.1, depth_numbers (term_at f) (length (terms f)) term_depth δ (named_mark f m) rs h.1)
+  rules_numbers d φ τ δ ty (fields.input n) h = refl

@@ -4,7 +4,7 @@ use Prim.Native.Nat.{ℕ, ◌<◌}
 use native.Mathlib.Omega.{arith}
 use mathlib.Core.Path.{◌≡◌, refl, sym, ap, ◌∙◌}
 use mathlib.Core.Bool.{Bool, true, false, true≢false, ◌&&◌}
-use mathlib.Core.List.{List, [], ◌∷◌, ◌++◌, map, cons≢nil, head-eq_of_cons-eq}
+use mathlib.Core.List.{List, [], ◌∷◌, ◌++◌, map, cons≢nil, head-eq_of_cons-eq, tail-eq_of_cons-eq}
 use denote.Enum.Bare.{sameb, same_true}
 use lib.Dec.{eqb}
 use lib.Pointwise.{pointwise, bytes_decides}
@@ -47,6 +47,14 @@ decides_same d f g = record { true_of = λ q. d.true_of (g q); of_true = λ h. f
 both_true : (a b : Bool) → (a && b) ≡ true → (a ≡ true) × (b ≡ true)
 both_true true b h = (refl, h)
 both_true false b h = absurd (true≢false (sym h))
+
+-- two bytes and two others: by the second where the first agree, else by the first
+module _ {a b c d : ℕ} where
+  pub same_second : a ≡ c → Decides (eqb b d) (a ∷ b ∷ [] ≡ c ∷ d ∷ [])
+  same_second e = record { true_of = λ q. eq-eqb b d (head-eq_of_cons-eq (tail-eq_of_cons-eq q)); of_true = λ h. let f = eqb-true b d h in λ i. e i ∷ f i ∷ [] }
+
+  pub other_first : (a ≡ c → ⊥) → Decides (eqb a c) (a ∷ b ∷ [] ≡ c ∷ d ∷ [])
+  other_first n = record { true_of = λ q. eq-eqb a c (head-eq_of_cons-eq q); of_true = λ h. absurd (n (eqb-true a c h)) }
 
 -- ---- two segments
 

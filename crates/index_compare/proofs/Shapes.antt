@@ -12,8 +12,8 @@ use lib.Seq.{drop-drop, get_or-drop}
 use Rattle.std.specs.Prelude.{Option, Some, None}
 use Rattle.std.specs.Option.{is_some}
 use Rattle.script_spec.specs.Base.{Bytes}
-use Rattle.script_spec.specs.Fields.{low}
-use Rattle.index.specs.Standing.{body_at}
+use Rattle.script_spec.specs.Fields.{low, untyped}
+use Rattle.index.specs.Standing.{mark_at, body_at}
 use Rattle.index_compare.specs.Segment.{Segment, plain, type_ref, term_ref}
 use Rattle.index_compare.specs.Machine.{operand_of, coded_then, operator_then, field_then, item_then, items, count_then, reference, text_then, counted_size, last, walk_start, start_type, start_term, start_list, remaining, segments}
 use Rattle.index_compare.specs.Step.{WordRead}
@@ -23,7 +23,6 @@ use Rattle.index_compare.specs.declared.segments.Operand.{Operand}
 use Rattle.index_compare.specs.declared.shape.Terms.{Terms}
 use Rattle.index_compare.proofs.Steps.{cut_at, word_fits, reference_short, reference_at, operator_with}
 use Rattle.index_compare.specs.View.{segments_at}
-use Rattle.index_compare.proofs.Views.{start_bytes}
 
 -- ---- references to terms, one by one
 
@@ -46,10 +45,10 @@ terms_next (suc n) s p h =
 -- ---- the record at an offset
 
 -- its segments, by the bytes of its mark and its body
-pub segments_by : (file : Bytes) (o : ℕ) {a b : ℕ} {body : Bytes} → a ≡ get_or file o 0 → b ≡ get_or file (o + 1) 0 → body ≡ body_at file o
+pub segments_by : (file : Bytes) (o : ℕ) {a b : ℕ} {body : Bytes} → a ≡ untyped (get_or file o 0) → b ≡ get_or file (o + 1) 0 → body ≡ body_at file o
     → remaining (walk_start a b) body ≡ segments_at file o
-unfolding segments_at segments
-segments_by file o p q e = rw (p, q, e, ← start_bytes file o)
+unfolding segments_at segments mark_at
+segments_by file o p q e = rw (p, q, e)
 
 -- ---- shapes
 

@@ -8,7 +8,7 @@ ghost use Rattle.index_compare.specs.View.{segments_at, viewed, viewed_ahead, De
 
 pub use crate::depth::greatest;
 pub use crate::opening::first_reference;
-use crate::record::body_at;
+use crate::record::{body_at, first_letter};
 use crate::segments::{Referent, Segment, Segments};
 use crate::shape::bare_at;
 use index::{Column, Records};
@@ -36,7 +36,7 @@ pub fn segments_at<'a>(file: &'a [u8], offset: u32) -> Segments<'a>
 {
     let at = offset as usize;
     Segments::of(
-        byte_at(file, at),
+        first_letter(file, offset),
         byte_at(file, at + 1),
         body_at(file, offset),
     )

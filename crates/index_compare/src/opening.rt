@@ -6,7 +6,7 @@ ghost use Rattle.index_compare.specs.View.{segments_at, reference_numbers, viewe
 ghost use Rattle.index_compare.specs.Shape.{Opens, first_cell};
 
 use crate::compare::{View, byte_at, viewed};
-use crate::record::body_at;
+use crate::record::{body_at, first_letter};
 use crate::segments::{Referent, Segment, Segments, read_word};
 use crate::shape::{Shape, shape_by};
 use index::{Column, Records};
@@ -88,7 +88,7 @@ pub fn first_reference(records: Records<'_>, offset: u32) -> u32
 {
     let at = offset as usize;
     let body = body_at(records.file, offset);
-    let a = byte_at(records.file, at);
+    let a = first_letter(records.file, offset);
     let b = byte_at(records.file, at + 1);
     match opening_of(a, b) {
         Some(column) => first_cell(records, body, column),

@@ -7,7 +7,7 @@ ghost use Rattle.index_compare.specs.View.{segments_at};
 ghost use Rattle.index_compare.specs.Shape.{Shaped, IsBare, terms_ahead};
 
 use crate::compare::byte_at;
-use crate::record::body_at;
+use crate::record::{body_at, first_letter};
 use crate::segments::{operand_of, read_word};
 
 // References to terms: how many are left, and the bytes from the first on.
@@ -140,7 +140,7 @@ pub fn shape_at<'a>(file: &'a [u8], offset: u32) -> Option<Shape<'a>>
 {
     let at = offset as usize;
     shape_by(
-        byte_at(file, at),
+        first_letter(file, offset),
         byte_at(file, at + 1),
         body_at(file, offset),
     )

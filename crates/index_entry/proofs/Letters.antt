@@ -3,22 +3,15 @@
 use mathlib.Core.Path.{◌≡◌, refl, sym, ap, ◌∙◌}
 use mathlib.Core.List.{List, [], ◌∷◌}
 use mathlib.Core.Option.{some}
-use Prim.Native.Nat.{ℕ, ◌+◌}
-use native.Mathlib.Omega.{arith}
-use lib.ListN.{get_or, drop}
-use lib.Seq.{get_or-drop, get_or-take}
+use Prim.Native.Nat.{ℕ}
+use lib.ListN.{get_or}
 use Rattle.script_spec.specs.Base.{Bytes, bytes}
 use Rattle.script_spec.specs.Tree.{TypeMark, Bool·, String·, Option·, Set·, BitVec·, Declared, entity, extension, record_of}
 use Rattle.script_spec.specs.Tree.{TermMark, Var, BoolLit, BitVecLit, StringLit, Entity, ExtLit, None, Some, Set, Record, App}
 use Rattle.script_spec.specs.Fields.{type, term}
-use Rattle.index.specs.Standing.{mark_at, entry_of}
+use Rattle.index.specs.Standing.{entry_of}
 use Rattle.check_rules.specs.Marks.{datatype_bytes, type_bytes, term_bytes, mark_of}
 use Rattle.check_rules.proofs.Marks.{entry_mark}
-
--- the second byte of a mark is the one after the first
-pub letter_read : (file : Bytes) (o : ℕ) → get_or file (o + 1) 0 ≡ get_or (mark_at file o) 1 0
-unfolding mark_at
-letter_read file o = sym (get_or-take 2 (drop o file) 1 0 (omega arith) ∙ get_or-drop o file 1 0)
 
 -- the mark with a second byte
 abbrev pub type_marked : ℕ → Bytes

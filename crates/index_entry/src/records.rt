@@ -19,6 +19,7 @@ pub fn number_at(body: &[u8], at: usize) -> u32
 }
 
 // The second byte of the mark of the record at an offset, 0 where there is none.
+#[tactic(auto, unfolding(index::specs::Standing::mark_at))]
 pub fn letter_at(file: &[u8], offset: u32) -> u8
     ensures { result ≡ get_or (mark_at file.now offset) 1 0 }
 {

@@ -4,8 +4,6 @@ use mathlib.Core.Path.{◌≡◌, sym, ap, ◌∙◌}
 use Prim.Native.Nat.{ℕ}
 use mathlib.Core.Bool.{Bool, true, false, true≢false}
 use mathlib.Core.List.{List}
-use lib.Dec.{eqb}
-use lib.Pointwise.{pointwise, bytes_decides}
 use Rattle.script_spec.specs.Base.{Bytes}
 use Rattle.index.specs.Standing.{mark_at, body_at, entry_at}
 use Rattle.index_compare.proofs.Prints.{Octets}
@@ -18,15 +16,11 @@ use Rattle.index_search.proofs.Homes.{mark_canonical}
 use Rattle.index_search.proofs.SetLaws.{same_mark}
 use Rattle.index_search.specs.Found.{SameAt}
 
--- bytes compared one by one are the same list where the answer is true
-pub same_bytes : {a b : Bytes} {r : Bool} → r ≡ pointwise eqb a b → (r ≡ true → a ≡ b) × (a ≡ b → r ≡ true)
-same_bytes {a} {b} e = rw e (bytes_decides a b)
-
-module _ (file : Bytes) (work : List ℕ) (k o p : ℕ) {a b : Bytes} {r : Bool} (is : a ≡ mark_at file o) (is' : b ≡ mark_at file p) (test : (r ≡ true → a ≡ b) × (a ≡ b → r ≡ true)) where
+module _ (file : Bytes) (work : List ℕ) (k o p : ℕ) {r : Bool} (M : Decides r (mark_at file o ≡ mark_at file p)) where
   -- the same mark: the bodies decide
   pub same_marks : {d : Bool} → Octets file → r ≡ true → Decides d (SameSegments file (viewed work k First) o (viewed work k First) p) → SameAt file work k o p d
   same_marks octets h D =
-      let marks : mark_at file o ≡ mark_at file p = sym is ∙ test.0 h ∙ is' in
+      let marks = M.of_true h in
       record {
         go = λ f I x y X Y N.
             let S = same_canonical (index_firsts I) file o p octets marks X.reads Y.reads X.in_range Y.in_range (same_mark file o p marks X.reads Y.reads N) in
@@ -41,8 +35,8 @@ module _ (file : Bytes) (work : List ℕ) (k o p : ℕ) {a b : Bytes} {r : Bool}
         go = λ f I x y X Y N.
             record {
               true_of = λ e.
-                  let marks : a ≡ b = is ∙ entry_mark (mark_at file o) (body_at file o) X.reads ∙ sym (mark_canonical f x) ∙ ap mark_of e ∙ mark_canonical f y ∙ sym (entry_mark (mark_at file p) (body_at file p) Y.reads) ∙ sym is' in
-                  absurd (true≢false (sym (test.1 marks) ∙ h));
+                  let marks = entry_mark (mark_at file o) (body_at file o) X.reads ∙ sym (mark_canonical f x) ∙ ap mark_of e ∙ mark_canonical f y ∙ sym (entry_mark (mark_at file p) (body_at file p) Y.reads) in
+                  absurd (true≢false (sym (M.true_of marks) ∙ h));
               of_true = λ t. absurd (true≢false (sym t ∙ h));
             };
       }

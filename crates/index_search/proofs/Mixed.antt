@@ -41,13 +41,6 @@ folded_halves low high p small e =
 
 -- ---- bytes
 
--- a list of two
-pub two_bytes : (s : List ℕ) → length s ≡ 2 → get_or s 0 0 ∷ get_or s 1 0 ∷ [] ≡ s
-two_bytes [] e = absurd (omega arith)
-two_bytes (a ∷ []) e = absurd (omega arith)
-two_bytes (a ∷ b ∷ []) e = refl
-two_bytes (a ∷ b ∷ c ∷ s) e = absurd (omega arith)
-
 -- the chunk at a place
 chunk_at : (k : ℕ) (s : List ℕ) (i : ℕ) → i < k → get_or (first_chunks 4 k s) i [] ≡ take 4 (drop (4 * i) s)
 chunk_at zero s i l = absurd (omega arith)

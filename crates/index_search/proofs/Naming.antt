@@ -3,9 +3,11 @@
 use mathlib.Core.Path.{◌≡◌, sym, ◌∙◌}
 use Prim.Native.Nat.{ℕ, ◌<◌}
 use native.Mathlib.Omega.{arith}
-use mathlib.Core.Bool.{Bool, true}
+use mathlib.Core.Bool.{Bool}
 use mathlib.Core.List.{List, []}
+use lib.Dec.{eqb}
 use lib.ListN.{get_or}
+use lib.Pointwise.{pointwise, bytes_decides}
 use Rattle.std.specs.Result.{result_ok}
 use Rattle.std.specs.Prelude.{Result, Ok, Err, Option, Some, None}
 use Rattle.script_spec.specs.Base.{Bytes}
@@ -29,13 +31,14 @@ use Rattle.index_search.proofs.EnumLaws.{enum_rows, hit_place, miss_place}
 -- ---- one enum
 
 -- the name that was read, compared
-pub named_at : {file : Bytes} {work : List ℕ} {k n p : ℕ} {s name : Bytes} {r : Bool} → p ≡ cell work k enum_offset n → NameAt file p s → (r ≡ true → s ≡ name) × (s ≡ name → r ≡ true) → IsNamed file work k n name r
+pub named_at : {file : Bytes} {work : List ℕ} {k n p : ℕ} {s name : Bytes} {r : Bool} → p ≡ cell work k enum_offset n → NameAt file p s → r ≡ pointwise eqb s name → IsNamed file work k n name r
 unfolding enum_name
-named_at {n = n} {s = s} row N test =
+named_at {n = n} {s = s} {name = name} row N e =
+    let test = bytes_decides s name in
     record {
       go = λ f I l.
           let q : s ≡ enum_name f n = N.go (get_or (enums f) n ([], [])).0 (get_or (enums f) n ([], [])).1 (rw row (I.row n l).stands) in
-          record { true_of = λ e. test.1 (q ∙ e); of_true = λ t. sym q ∙ test.0 t };
+          record { true_of = λ h. e ∙ test.1 (q ∙ h); of_true = λ t. sym q ∙ test.0 (sym e ∙ t) };
     }
 
 -- the test of an enum by its number

@@ -6,14 +6,14 @@ use mathlib.Core.Path.{◌≡◌, refl, sym, ap, ◌∙◌}
 use mathlib.Core.Bool.{Bool, false}
 use mathlib.Core.List.{List, [], ◌∷◌, map}
 use mathlib.Core.Option.{some}
-use lib.ListN.{length, length-map, take, drop, get_or, drop_of_length-le}
-use lib.Seq.{get_or-drop, drop-cons}
+use lib.ListN.{length, length-map, drop, get_or, drop_of_length-le}
+use lib.Seq.{drop-cons}
 use native.Mathlib.Numerals.{add-one}
 use denote.Ref.{Bor}
 use Rattle.std.specs.Prelude.{None as Nothing, Some as Just}
 use Rattle.script_spec.specs.Base.{Bytes, bytes}
 use Rattle.script_spec.specs.Tree.{Set}
-use Rattle.script_spec.specs.Fields.{Entry, term, u32}
+use Rattle.script_spec.specs.Fields.{Entry, term, u32, untyped}
 use Rattle.script_spec.proofs.Computes
 use Rattle.refusal.specs.declared.Refusal.{Refusal}
 use Rattle.read_field.specs.declared.Cursor.{Cursor}
@@ -33,31 +33,14 @@ use Rattle.index_search.specs.declared.sets.Listed.{Listed}
 
 -- ---- the mark
 
--- the first two bytes are those of the mark
-two_at : (s : Bytes) → get_or s 0 0 ≡ 88 → get_or s 1 0 ≡ 67 → take 2 s ≡ 88 ∷ 67 ∷ []
-two_at [] e q = absurd (omega arith)
-two_at (a ∷ []) e q = absurd (omega arith)
-two_at (a ∷ b ∷ s) e q = λ i. e i ∷ q i ∷ []
-
-at_two : (s : Bytes) → take 2 s ≡ 88 ∷ 67 ∷ [] → (get_or s 0 0 ≡ 88) × (get_or s 1 0 ≡ 67)
-at_two [] e = absurd (omega (arith, ap length e))
-at_two (a ∷ []) e = absurd (omega (arith, ap length e))
-at_two (a ∷ b ∷ s) e = (ap (λ (l : Bytes). get_or l 0 0) e, ap (λ (l : Bytes). get_or l 1 0) e)
-
 module _ (file : Bytes) (o : ℕ) where
-  first_byte : get_or (drop o file) 0 0 ≡ get_or file o 0
-  first_byte = let e : o + 0 ≡ o = omega arith in get_or-drop o file 0 0 ∙ ap (λ (n : ℕ). get_or file n 0) e
-
-  second_byte : get_or (drop o file) 1 0 ≡ get_or file (o + 1) 0
-  second_byte = get_or-drop o file 1 0
-
-  marked : get_or file o 0 ≡ 88 → get_or file (o + 1) 0 ≡ 67 → mark_at file o ≡ bytes "XC"
+  marked : untyped (get_or file o 0) ≡ 88 → get_or file (o + 1) 0 ≡ 67 → mark_at file o ≡ bytes "XC"
   unfolding mark_at Computes.base
-  marked e q = two_at (drop o file) (first_byte ∙ e) (second_byte ∙ q)
+  marked e q = λ i. e i ∷ q i ∷ []
 
-  mark_bytes : mark_at file o ≡ bytes "XC" → (get_or file o 0 ≡ 88) × (get_or file (o + 1) 0 ≡ 67)
+  mark_bytes : mark_at file o ≡ bytes "XC" → (untyped (get_or file o 0) ≡ 88) × (get_or file (o + 1) 0 ≡ 67)
   unfolding mark_at Computes.base
-  mark_bytes e = let p = at_two (drop o file) e in (sym first_byte ∙ p.0, sym second_byte ∙ p.1)
+  mark_bytes e = (ap (λ (l : Bytes). get_or l 0 0) e, ap (λ (l : Bytes). get_or l 1 0) e)
 
 -- an entry under the mark of one that is no set is no set
 pub same_mark : (file : Bytes) (o p : ℕ) {x y : Entry} → mark_at file o ≡ mark_at file p → entry_at file o ≡ some x → entry_at file p ≡ some y → NoSet y → NoSet x
@@ -75,7 +58,7 @@ module _ {file : Bytes} {o : ℕ} where
   none_read : ((t : ℕ) (rs : List ℕ) → entry_at file o ≡ some (term (Set t) rs) → ⊥) → SetAt file o Nothing
   none_read h = record { go = λ y e. record { no = λ t rs q. h t rs (e ∙ ap some q) } }
 
-  pub other_first : {b : ℕ} → b ≡ get_or file o 0 → (b ≡ 88 → ⊥) → SetAt file o Nothing
+  pub other_first : {b : ℕ} → b ≡ untyped (get_or file o 0) → (b ≡ 88 → ⊥) → SetAt file o Nothing
   other_first e h = none_read (λ t rs q. h (e ∙ (mark_bytes file o (set_mark file o q)).0))
 
   pub other_second : {b : ℕ} → b ≡ get_or file (o + 1) 0 → (b ≡ 67 → ⊥) → SetAt file o Nothing
@@ -89,7 +72,7 @@ module _ {file : Bytes} {o : ℕ} where
       pub no_count : {x : Refusal} → RefusesAt u32 d x → SetAt file o Nothing
       no_count r = none_read (λ t rs q. set_count_there file o q is starts first r)
 
-      pub set_read_at : {l : Cursor} {k : ℕ} → get_or file o 0 ≡ 88 → get_or file (o + 1) 0 ≡ 67 → TakesTo u32 d l k → SetAt file o (Just (record { ty = n; count = k; elements = l }))
+      pub set_read_at : {l : Cursor} {k : ℕ} → untyped (get_or file o 0) ≡ 88 → get_or file (o + 1) 0 ≡ 67 → TakesTo u32 d l k → SetAt file o (Just (record { ty = n; count = k; elements = l }))
       set_read_at {l} {k} e q second =
           record {
             go = λ y r.

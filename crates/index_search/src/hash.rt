@@ -9,7 +9,8 @@ ghost use Rattle.index.specs.Names.{folded, mixed, mixed_bytes};
 ghost use Rattle.index_search.specs.Hash.{mixed_segment, mixed_segments, record_hash, type_hash};
 
 use index::Records;
-use index_compare::compare::{View, ViewedSegments};
+use index_compare::compare::{View, ViewedSegments, byte_at};
+use index_compare::record::first_letter;
 use index_compare::segments::{Referent, Segment};
 use index_compare::shape::{Shape, Terms};
 
@@ -101,15 +102,13 @@ pub(crate) fn mark_hash(key: u64, a: u8, b: u8) -> u64
     mix_bytes(key, key, &[a, b])
 }
 
-// The hash of the mark of the record at an offset: two bytes, or those that are left.
+// The hash of the mark of the record at an offset.
+#[tactic(auto, unfolding(index::specs::Standing::mark_at))]
 fn mark_hash_at(key: u64, file: &[u8], offset: u32) -> u64
     ensures { result ≡ mixed_bytes key key (mark_at file.now offset) }
 {
-    let mark = read_field::part_of(file, offset as usize, 2);
-    match mark {
-        [a, b] => mark_hash(key, *a, *b),
-        _ => mix_bytes(key, key, mark),
-    }
+    let b = byte_at(file, offset as usize + 1);
+    mark_hash(key, first_letter(file, offset), b)
 }
 
 // The hash of the record at an offset, which is no set.

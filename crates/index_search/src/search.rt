@@ -66,9 +66,8 @@ fn same_at(records: Records<'_>, offset: u32, other: u32) -> bool
     ensures { SameAt records.entry.file.now records.entry.work.now records.entry.sizes.rows offset other result }
 {
     crate::octets(records.file);
-    let a = read_field::part_of(records.file, offset as usize, 2);
-    let b = read_field::part_of(records.file, other as usize, 2);
-    a == b && index_compare::compare::same_record(records, offset, other)
+    index_compare::record::same_mark(records.file, offset, other)
+        && index_compare::compare::same_record(records, offset, other)
 }
 
 // The records whose offsets a column has and that are equal to the one at an offset, which is no set.

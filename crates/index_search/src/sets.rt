@@ -9,7 +9,7 @@ use crate::slots::Test;
 use check_rules::repeats;
 use index::{Column, Records};
 use index_compare::compare::byte_at;
-use index_compare::record::body_at;
+use index_compare::record::{body_at, first_letter};
 use read_field::Cursor;
 
 // A set as it stands in the file: its element type, how many elements it has, and the references to them.
@@ -24,8 +24,7 @@ pub struct Listed<'a> {
 pub fn set_at<'a>(file: &'a [u8], offset: u32) -> Option<Listed<'a>>
     ensures { SetAt file.now offset result }
 {
-    let at = offset as usize;
-    if byte_at(file, at) != b'X' || byte_at(file, at + 1) != b'C' {
+    if first_letter(file, offset) != b'X' || byte_at(file, offset as usize + 1) != b'C' {
         return None;
     }
     let Ok((ty, after)) = Cursor::new(body_at(file, offset)).u32_le() else {

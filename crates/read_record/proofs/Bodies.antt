@@ -54,7 +54,7 @@ module _ {A : Type 0} (r : Reader A) (q : Reader (Unit {0})) (h : (s : Bytes) �
   two_after f s = skim_map r f s ∙ h s ∙ sym (pure_after q s)
 
   -- a field before what is skimmed apart
-  before : {B : Type 0} (k : A → Reader B) (p : Reader (Unit {0})) → ((a : A) (s : Bytes) → skim (k a) s ≡ p s) → (s : Bytes) → skim (◌>>=◌ r k) s ≡ ◌>>=◌ q (λ u. p) s
+  pub before : {B : Type 0} (k : A → Reader B) (p : Reader (Unit {0})) → ((a : A) (s : Bytes) → skim (k a) s ≡ p s) → (s : Bytes) → skim (◌>>=◌ r k) s ≡ ◌>>=◌ q (λ u. p) s
   before k p g s = skim_bind r k (λ a. p) g s ∙ sym (then_alike p s)
 
 module _ {A B : Type 0} (r₁ : Reader A) (q₁ : Reader (Unit {0})) (h₁ : (s : Bytes) → skim r₁ s ≡ q₁ s)

@@ -3,7 +3,9 @@
 use Rattle.std.specs.Prelude.{ℕ, Bool, ◌&&◌, List, [], ◌∷◌, ltb, length, take, drop, get_or, Result, Ok, Err}
 use Rattle.std.proofs.Math.Option.{Option, none, some}
 use Rattle.script_spec.specs.Base.{Bytes, bytes, same}
-use Rattle.script_spec.specs.Fields.{Read, got, bad, Reader, Entry, Earlier, whole}
+use Rattle.script_spec.specs.Fields.{Read, got, bad, Reader, Entry, Earlier, with_type, whole}
+use Rattle.read_record.specs.Marks.{reader_of}
+use Rattle.read_record.specs.declared.mark.Kind.{Kind}
 use Rattle.refusal.specs.declared.Refusal.{Refusal}
 use Rattle.refusal.specs.Numbers.{number}
 
@@ -26,9 +28,13 @@ valueless (got a rest) = got tt rest
 valueless (bad n) = bad n
 
 -- what a mark's reader makes of a whole body, without its entry; without a reader, refusal 4
-unfoldable pub body_read : Option (Reader Entry) → Bytes → Read (Unit {0})
-body_read none body = bad 4
-body_read (some reader) body = valueless (whole (reader body))
+unfoldable pub read_by : Earlier → Bool → Option (Reader Entry) → Bytes → Read (Unit {0})
+read_by e typed none body = bad 4
+read_by e typed (some reader) body = valueless (whole (with_type e typed reader body))
+
+-- the same by the mark's kind
+unfoldable pub body_read : Earlier → Bool → Kind → Bytes → Read (Unit {0})
+body_read e typed kind body = read_by e typed (reader_of e kind) body
 
 -- the fields have been read: refusal 5 if bytes are left over
 unfoldable pub all_read : Read (Unit {0}) → Read (Unit {0})

@@ -1,6 +1,6 @@
 -- The fields that each mark's body has, and what each field reads.
 -- Assumes nothing.
-use Rattle.std.specs.Prelude.{ℕ, ◌^◌, Bool, List, [], ◌∷◌, ltb}
+use Rattle.std.specs.Prelude.{ℕ, ◌^◌, Bool, true, false, List, [], ◌∷◌, ltb}
 use Rattle.script_spec.specs.Tree.{Value, V4, V6, DecimalV, DatetimeV, DurationV}
 use Rattle.script_spec.specs.Fields.{Reader, ◌>>=◌, pure, ensure, ref, text, width, number, address, prefix, value, operator}
 use Rattle.read_field.specs.Reads.{skim, code}
@@ -40,6 +40,11 @@ fields_of types funs terms kind.XC = row (field.Reference types) (field.List (it
 fields_of types funs terms kind.XR = row (field.List (item.Named terms)) field.Nothing field.Nothing
 fields_of types funs terms kind.XA = row (field.Reference types) (field.Operator funs) (field.List (item.Reference terms))
 fields_of types funs terms kind.IN = row (field.Reference terms) field.Nothing field.Nothing
+
+-- the field of the type that is written behind them, after so many types
+unfoldable pub final_field : ℕ → Bool → Field
+final_field types true = field.Reference types
+final_field types false = field.Nothing
 
 -- a reference to one of `count` types, which has to be an entity type
 unfoldable pub entity : (ℕ → Bool) → ℕ → Reader (Unit {0})
@@ -95,3 +100,7 @@ three a b c = ◌>>=◌ a (λ u. ◌>>=◌ b (λ v. c))
 -- the fields of a body
 unfoldable pub body_reader : (ℕ → Bool) → Fields → Reader (Unit {0})
 body_reader is_entity fs = three (field_reader is_entity fs.0) (field_reader is_entity fs.1) (field_reader is_entity fs.2)
+
+-- and the field that is written behind them
+unfoldable pub typed_reader : (ℕ → Bool) → Fields → Field → Reader (Unit {0})
+typed_reader is_entity fs last = ◌>>=◌ (body_reader is_entity fs) (λ u. field_reader is_entity last)

@@ -3,7 +3,6 @@ ghost use Rattle.std.specs.Prelude.{◌≡◌};
 ghost use Rattle.script_spec.specs.Fields.{value};
 ghost use Rattle.read_field.specs.Reads.{skim, chosen};
 ghost use Rattle.read_field.specs.Takes.{Takes, moved_of};
-ghost use Rattle.read_record.specs.Marks.{reader_of};
 ghost use Rattle.read_record.specs.Fields.{entity, value_below, bit_vec_field, addressed, values, field_reader};
 ghost use Rattle.read_record.specs.Bodies.{is_entity_at, earlier_with, verdict_as, body_read};
 
@@ -90,15 +89,16 @@ fn skip<'a>(c: Cursor<'a>, field: Field, earlier: Earlier<'_>) -> Result<Cursor<
     }
 }
 
-// The body of a record, after what stands before it.
-pub fn read_body(kind: Kind, body: &[u8], earlier: Earlier<'_>) -> Result<(), Refusal>
-    ensures { verdict_as result ≡ body_read (reader_of (earlier_with earlier.entry.types earlier.entry.funs earlier.entry.terms earlier.entry.file.now earlier.entry.offsets.now) kind) body.now }
+// The body of a record, after what stands before it; `typed` is whether a type is written behind its fields.
+pub fn read_body(kind: Kind, typed: bool, body: &[u8], earlier: Earlier<'_>) -> Result<(), Refusal>
+    ensures { verdict_as result ≡ body_read (earlier_with earlier.entry.types earlier.entry.funs earlier.entry.terms earlier.entry.file.now earlier.entry.offsets.now) typed kind body.now }
 {
     let all = fields::fields_of(kind, earlier);
     let first = skip(Cursor::new(body), all.0, earlier)?;
     let second = skip(first, all.1, earlier)?;
     let third = skip(second, all.2, earlier)?;
-    if third.left() == 0 {
+    let last = skip(third, fields::final_field(earlier.types, typed), earlier)?;
+    if last.left() == 0 {
         Ok(())
     } else {
         Err(Refusal::Misfit)

@@ -1,6 +1,6 @@
 // The fields that each mark's body has.
 ghost use Rattle.std.specs.Prelude.{◌≡◌};
-ghost use Rattle.read_record.specs.Fields.{fields_of};
+ghost use Rattle.read_record.specs.Fields.{fields_of, final_field};
 
 use crate::Earlier;
 use crate::mark::Kind;
@@ -85,4 +85,14 @@ pub fn fields_of(kind: Kind, earlier: Earlier<'_>) -> Fields
         ),
         Kind::IN => Fields(Field::Reference(terms), Field::Nothing, Field::Nothing),
     }
+}
+
+// The field of the type that is written behind them, after so many types; nothing where none is.
+pub fn final_field(types: u32, typed: bool) -> Field
+    ensures { result ≡ final_field types typed }
+{
+    if typed {
+        return Field::Reference(types);
+    }
+    Field::Nothing
 }

@@ -13,7 +13,7 @@ use mark::Kind;
 use read_field::Cursor;
 use refusal::Refusal;
 
-// A record: its kind and where its body starts and ends in the file.
+// A record: its kind, which is that of the mark that its own repeats, and where its body starts and ends in the file.
 #[derive(Clone, Copy)]
 pub struct Record {
     pub kind: Kind,
@@ -52,7 +52,7 @@ pub fn next_record(earlier: Earlier<'_>, at: usize) -> Result<Record, Refusal>
     if (Cursor { body: file, at }).left() < 6 {
         return Err(Refusal::CutShort);
     }
-    let Some(kind) = mark::kind_of(file[at], file[at + 1]) else {
+    let Some(kind) = mark::kind_of(mark::untyped(file[at]), file[at + 1]) else {
         return Err(Refusal::UnknownMark);
     };
     let from = at + 2;
@@ -67,6 +67,7 @@ pub fn next_record(earlier: Earlier<'_>, at: usize) -> Result<Record, Refusal>
         return Err(Refusal::CutShort);
     }
     let end = start + size;
-    body::read_body(kind, &file[start..end], earlier)?;
+    let typed = mark::is_typed(file[at]);
+    body::read_body(kind, typed, &file[start..end], earlier)?;
     Ok(Record { kind, start, end })
 }

@@ -1,5 +1,6 @@
 // The marks of records, two fixed bytes each.
-ghost use Rattle.std.specs.Prelude.{[], ◌∷◌};
+ghost use Rattle.std.specs.Prelude.{◌≡◌, [], ◌∷◌};
+ghost use Rattle.script_spec.specs.Fields.{is_typed, untyped};
 ghost use Rattle.read_record.specs.Marks.{Marked};
 
 // A record's mark.
@@ -27,6 +28,23 @@ pub enum Kind {
     XR,
     XA,
     IN,
+}
+
+// Whether a mark that begins with this byte has a type written behind its fields.
+pub fn is_typed(a: u8) -> bool
+    ensures { result ≡ is_typed a }
+{
+    a == b'Y'
+}
+
+// The first byte of the mark whose fields a mark repeats that begins with this byte.
+pub fn untyped(a: u8) -> u8
+    ensures { result ≡ untyped a }
+{
+    if is_typed(a) {
+        return b'X';
+    }
+    a
 }
 
 // The marks of types.
@@ -66,7 +84,7 @@ fn term_kind(b: u8) -> Option<Kind>
     }
 }
 
-// The kind of a mark, by its two bytes, or none.
+// The kind of a mark that has no type written behind its fields, by its two bytes, or none.
 pub fn kind_of(a: u8, b: u8) -> Option<Kind>
     ensures { Marked (a ∷ b ∷ []) result }
 {

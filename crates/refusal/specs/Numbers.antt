@@ -5,7 +5,7 @@ use Rattle.std.specs.Prelude as std
 use Rattle.std.proofs.Math.Option.{Option, none, some}
 use Rattle.script_spec.specs.Base.{Answer, accepted, refused}
 use Rattle.refusal.specs.declared.Refusal.{Refusal}
-use Rattle.refusal.specs.declared.Refusal.TheVariants.{FileTooLong, MemoryTooSmall, CutShort, UnknownMark, Misfit, NotUtf8, OutOfRange, NoSuchRecord, NotAscending, NothingGiven, SecondEnum, TypeNotListed, TooMany, NotMember, HighId, NoAttribute, NotRecord, TypeNotDeclared, NoArgument, NoRoom, HighString, HighPattern}
+use Rattle.refusal.specs.declared.Refusal.TheVariants.{FileTooLong, MemoryTooSmall, CutShort, UnknownMark, Misfit, NotUtf8, OutOfRange, NoSuchRecord, NotAscending, NothingGiven, SecondEnum, TypeNotListed, TooMany, NotMember, HighId, NoAttribute, NotRecord, TypeNotDeclared, NoArgument, NoRoom, WrongType, HighString, HighPattern}
 use Rattle.refusal.specs.declared.Refused.{Refused}
 
 -- the number of a refusal
@@ -30,6 +30,7 @@ number NotRecord = 17
 number TypeNotDeclared = 18
 number NoArgument = 19
 number NoRoom = 20
+number WrongType = 21
 number HighString = 24
 number HighPattern = 25
 

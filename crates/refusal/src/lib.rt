@@ -27,6 +27,7 @@ pub enum Refusal {
     TypeNotDeclared = 18,
     NoArgument = 19,
     NoRoom = 20,
+    WrongType = 21,
     HighString = 24,
     HighPattern = 25,
 }

@@ -1,5 +1,5 @@
--- A refusal's number is from 1 to 20, 24 or 25, and check's from 1 to 13: `checked_numbered`, `encoded_numbered`, `command_numbered`. By the
--- numbers of the readers and of the rules, and recursion over the records.
+-- A refusal's number is from 1 to 21, 24 or 25, and check's from 1 to 13, or 21: `checked_numbered`, `encoded_numbered`, `command_numbered`. By
+-- the numbers of the readers and of the rules, and recursion over the records.
 -- Assumes nothing.
 use Prim.Native.Nat.{ℕ, zero, suc, ◌*◌, ◌≤◌}
 use native.Mathlib.Omega.{arith}
@@ -10,13 +10,13 @@ use mathlib.Core.Option.{Option, none, some, none-ne-some}
 use lib.Dec.{T, eqb, leb, leb→le, eqb→eq}
 use mathlib.Core.Logic.{⊎_elim}
 use borrow.Author.Tests.{le-leb}
-use lib.ListN.{length, take, drop}
+use lib.ListN.{length, take, drop, get_or}
 use Rattle.script_spec.specs.Base.{Bytes, Answer, accepted, refused, between, lookup, all}
 use Rattle.script_spec.specs.Utf8.{is_utf8}
-use Rattle.script_spec.specs.Tree.{Tm, node}
+use Rattle.script_spec.specs.Tree.{Ty, Tm, node}
 use Rattle.script_spec.specs.Tree.{Var, BoolLit, BitVecLit, StringLit, Entity, ExtLit, None, Some, Set, Record, App}
-use Rattle.script_spec.specs.Fields.{Entry, Read, got, bad, Reader, low, marks, whole}
-use Rattle.script_spec.specs.File.{TermFile, Named, type, enum, func, term, input, named, earlier, Rule, list_rules, rules, broken, kept, judged, next_record, records, checked}
+use Rattle.script_spec.specs.Fields.{Entry, Typed, Read, got, bad, Reader, low, marks, is_typed, untyped_mark, with_type, whole}
+use Rattle.script_spec.specs.File.{TermFile, Named, type, enum, func, term, input, named, written, earlier, Rule, list_rules, rules, broken, kept, judged, next_record, records, checked}
 use Rattle.script_spec.specs.Command.{Command, script, fitting, command_written, given, line}
 use Rattle.script_spec.specs.Walk.{encoding, encoded}
 use Rattle.script_spec.specs.Faithful.{Every, every, also}
@@ -24,24 +24,25 @@ use Rattle.script_spec.proofs.Lists.{every_append}
 use Rattle.script_spec.proofs.Demand.{encoding_refusal}
 use Rattle.script_spec.proofs.Laws.{and_parts, or_cases, either_way, never}
 use Rattle.script_spec.proofs.NewLog.{Told, high_id, high_text, high_pattern, no_position}
-use Rattle.sakyelbo.proofs.Readers.{OfField, five, six, seven, eight, Reading, read, refusal, Reads, mark_reads, reading_whole}
+use Rattle.sakyelbo.proofs.Readers.{OfField, five, six, seven, eight, Reading, read, refusal, Reads, mark_reads, typed_reads, reading_whole}
 
 -- the numbers of check's refusals
 unfoldable pub check_number : ℕ → Bool
-check_number n = between 1 13 n
+check_number n = between 1 13 n || eqb n 21
 
 -- and of encode's
 unfoldable pub encode_number : ℕ → Bool
-encode_number n = between 1 20 n || between 24 25 n
+encode_number n = between 1 21 n || between 24 25 n
 
-in_encode : {n : ℕ} → 1 ≤ n → n ≤ 20 → T (encode_number n)
+in_encode : {n : ℕ} → 1 ≤ n → n ≤ 21 → T (encode_number n)
 unfolding encode_number between
-in_encode {n} h k = rw (le-leb 1 n h, le-leb n 20 k) tt
+in_encode {n} h k = rw (le-leb 1 n h, le-leb n 21 k) tt
 
 -- check's are among encode's
 check_encode : (n : ℕ) → T (check_number n) → T (encode_number n)
 unfolding check_number encode_number between
-check_encode n h = let p = and_parts (leb 1 n) (leb n 13) h in in_encode (leb→le 1 n p.0) (omega (arith, leb→le n 13 p.1))
+check_encode n h =
+    ⊎_elim (λ w. let p = and_parts (leb 1 n) (leb n 13) w in in_encode (leb→le 1 n p.0) (omega (arith, leb→le n 13 p.1))) (λ e. rw (eqb→eq n 21 e) tt) (or_cases (between 1 13 n) (eqb n 21) h)
 
 -- so are those of the walk
 walk_encode : {n q : ℕ} {t : Tm} → Told n t q → T (encode_number n)
@@ -94,13 +95,13 @@ list_rules_lem (node (Set ty) ts) = also tt every
 list_rules_lem (node (Record names) ts) = also tt every
 list_rules_lem (node (App ty op) ts) = also tt every
 
-rules_numbered : (f : TermFile) (r : Named) → Ruled (rules f r)
+rules_numbered : (f : TermFile) (ty : Option Ty) (r : Named) → Ruled (rules f ty r)
 unfolding rules check_number between
-rules_numbered f (type t) = also tt (also tt every)
-rules_numbered f (enum n ms) = also tt (also tt (also tt every))
-rules_numbered f (func g) = every
-rules_numbered f (term t) = every_append (list_rules_lem t) (also tt (also tt every))
-rules_numbered f (input t) = every
+rules_numbered f ty (type t) = also tt (also tt every)
+rules_numbered f ty (enum n ms) = also tt (also tt (also tt every))
+rules_numbered f ty (func g) = every
+rules_numbered f ty (term t) = every_append (list_rules_lem t) (also tt (also tt (also tt every)))
+rules_numbered f ty (input t) = every
 
 -- ---- records
 
@@ -108,9 +109,9 @@ rules_numbered f (input t) = every
 abbrev Next : Read Named → Type 0
 Next = Reading (λ n. T (check_number n))
 
-kept_numbered : (f : TermFile) (r : Named) (rest : Bytes) → Next (kept f r rest)
+kept_numbered : (f : TermFile) (ty : Option Ty) (r : Named) (rest : Bytes) → Next (kept f ty r rest)
 unfolding kept
-kept_numbered f r rest = from (broken (rules f r)) (broken_numbered (rules f r) (rules_numbered f r))
+kept_numbered f ty r rest = from (broken (rules f ty r)) (broken_numbered (rules f ty r) (rules_numbered f ty r))
   where
     from : (o : Option ℕ) → ((n : ℕ) → o ≡ some n → T (check_number n)) → Next (elim o as (λ y. Read Named) [ none ↦ got r rest | some n ↦ bad n ])
     from none h = read
@@ -123,25 +124,32 @@ field_number six = tt
 field_number seven = tt
 field_number eight = tt
 
-judged_numbered : (f : TermFile) (rest : Bytes) (x : Read Entry) → Reading OfField x → Next (judged f rest x)
+judged_numbered : (f : TermFile) (rest : Bytes) (x : Read Typed) → Reading OfField x → Next (judged f rest x)
 unfolding judged
-judged_numbered f rest (got e left) read = kept_numbered f (named f e) rest
+judged_numbered f rest (got x left) read = kept_numbered f (written f x.1) (named f x.0) rest
 judged_numbered f rest (bad n) (refusal h) = refusal (field_number h)
 
 next_record_numbered : (f : TermFile) (s : Bytes) → Next (next_record f s)
 unfolding next_record check_number between
-next_record_numbered f s = either_way Next _ _ (leb 6 (length s)) (refusal tt) (from (lookup (take 2 s) (marks (earlier f))) (mark_reads (earlier f) (take 2 s)))
+next_record_numbered f s = either_way Next _ _ (leb 6 (length s)) (refusal tt) (from (lookup (untyped_mark (take 2 s)) (marks (earlier f))) (mark_reads (earlier f) (untyped_mark (take 2 s))))
   where
     size : ℕ
     size = low (take 4 (drop 2 s))
 
+    body : Bytes
+    body = take size (drop 6 s)
+
+    typed : Bool
+    typed = is_typed (get_or s 0 0)
+
     from : (o : Option (Reader Entry)) → ((r : Reader Entry) → o ≡ some r → Reads r)
         → Next (elim o [
           | none ↦ bad 4
-          | some reader ↦ elim (leb size (length (drop 6 s))) [ false ↦ bad 3 | true ↦ judged f (drop size (drop 6 s)) (whole (reader (take size (drop 6 s)))) ]
+          | some reader ↦ elim (leb size (length (drop 6 s))) [ false ↦ bad 3 | true ↦ judged f (drop size (drop 6 s)) (whole (with_type (earlier f) typed reader body)) ]
         ])
     from none h = refusal tt
-    from (some reader) h = either_way Next _ _ (leb size (length (drop 6 s))) (refusal tt) (judged_numbered f (drop size (drop 6 s)) (whole (reader (take size (drop 6 s)))) (reading_whole (reader (take size (drop 6 s))) ((h reader refl).go (take size (drop 6 s)))))
+    from (some reader) h = either_way Next _ _ (leb size (length (drop 6 s))) (refusal tt)
+        (judged_numbered f (drop size (drop 6 s)) (whole (with_type (earlier f) typed reader body)) (reading_whole (with_type (earlier f) typed reader body) ((typed_reads (earlier f) typed (h reader refl)).go body)))
 
 -- ---- answers
 
@@ -156,7 +164,7 @@ records_numbered (suc fuel) f (b ∷ s) = from (next_record f (b ∷ s)) (next_r
     from (got r rest) read later = later r rest
     from (bad n) (refusal w) later = numbered_refusal check_number n (length f) 0 w
 
--- check's refusals are 1 to 13
+-- check's refusals are 1 to 13, and 21
 pub checked_numbered : (file : Bytes) (work : ℕ) → Numbered check_number (checked file work)
 unfolding checked check_number between
 checked_numbered file work =
@@ -167,7 +175,7 @@ fitting_numbered : (s : Bytes) (room : ℕ) → Numbered encode_number (fitting 
 unfolding fitting encode_number between
 fitting_numbered s room = either_way (Numbered encode_number) _ _ (leb (length s) room) (numbered_refusal encode_number 20 0 0 tt) (numbered_result encode_number s)
 
--- encode's refusals are 1 to 20, 24 and 25
+-- encode's refusals are 1 to 21, 24 and 25
 pub encoded_numbered : (file : Bytes) (work room : ℕ) → Numbered encode_number (encoded file work room)
 unfolding encoded
 encoded_numbered file work room = from (checked file work) (checked_numbered file work)

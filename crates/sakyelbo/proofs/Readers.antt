@@ -4,12 +4,13 @@ use Prim.Native.Nat.{ℕ, zero, suc}
 use mathlib.Core.Path.{◌≡◌}
 use mathlib.Core.Bool.{Bool, true, false}
 use mathlib.Core.List.{List, [], ◌∷◌}
-use mathlib.Core.Option.{Option, some, none-ne-some}
+use mathlib.Core.Option.{none, some}
 use lib.Dec.{leb}
 use lib.ListN.{length, take, drop}
-use Rattle.script_spec.specs.Base.{Bytes, same, at, lookup}
-use Rattle.script_spec.specs.Fields.{Read, got, bad, Reader, ◌>>=◌, pure, ensure, present, times, part, byte, number, address, u32, text, list, ref, pair, width, element, prefix, coded, ext_type, ext_op, value, plain, operators, operator, Entry, Earlier, entity_ref, leaf, marks, whole}
+use Rattle.script_spec.specs.Base.{Bytes, at, lookup}
+use Rattle.script_spec.specs.Fields.{Read, got, bad, Reader, ◌>>=◌, pure, ensure, present, times, part, byte, number, address, u32, text, list, ref, pair, width, element, prefix, coded, ext_type, ext_op, value, plain, operators, operator, Entry, Earlier, entity_ref, leaf, marks, final_type, with_type, whole}
 use Rattle.script_spec.specs.Faithful.{Every, every, also}
+use Rattle.script_spec.proofs.Tables.{lookup_every}
 
 -- the number of a field's refusal
 pub data OfField : ℕ → Type 0 where
@@ -154,21 +155,22 @@ marks_read : (e : Earlier) → Every (λ (p : Bytes × Reader Entry). Reads p.1)
 unfolding marks leaf
 marks_read e = search (fields, reads_operator, reads_entity_ref) depth 40 fits 5000
 
--- the reader of a mark, where each reader of a table refuses so
-lookup_reads : (s : Bytes) (ps : List (Bytes × Reader Entry)) → Every (λ (p : Bytes × Reader Entry). Reads p.1) ps → (r : Reader Entry) → lookup s ps ≡ some r → Reads r
-unfolding lookup
-lookup_reads s [] every r e = absurd (none-ne-some r e)
-lookup_reads s (p ∷ ps) (also R Rs) r e = from (same s p.0) e (λ h. lookup_reads s ps Rs r h)
-  where
-    from : (b : Bool) → elim b as (λ y. Option (Reader Entry)) [ true ↦ some p.1 | false ↦ lookup s ps ] ≡ some r → (lookup s ps ≡ some r → Reads r) → Reads r
-    from true h later = let k : p.1 ≡ r = cc in rw k at R
-    from false h later = later h
-
+-- the reader of a mark
 pub mark_reads : (e : Earlier) (s : Bytes) (r : Reader Entry) → lookup s (marks e) ≡ some r → Reads r
-mark_reads e s = lookup_reads s (marks e) (marks_read e)
+mark_reads e s r h = lookup_every Reads s (marks e) (marks_read e) h
+
+-- with the type that is written behind the fields
+reads_final : (e : Earlier) (b : Bool) → Reads (final_type e b)
+unfolding final_type
+reads_final e true = reads_bind (reads_ref e.types) (λ t. reads_pure (some t))
+reads_final e false = reads_pure none
+
+pub typed_reads : (e : Earlier) (b : Bool) {r : Reader Entry} → Reads r → Reads (with_type e b r)
+unfolding with_type
+typed_reads e b R = reads_bind R (λ x. reads_bind (reads_final e b) (λ t. reads_pure (x, t)))
 
 -- a whole body
-pub reading_whole : (x : Read Entry) → Reading OfField x → Reading OfField (whole x)
+pub reading_whole : {A : Type 0} (x : Read A) → Reading OfField x → Reading OfField (whole x)
 unfolding whole
 reading_whole (got e []) read = read
 reading_whole (got e (b ∷ rest)) read = refusal five

@@ -27,11 +27,11 @@ unfolding Tree.trees Tree.forest Tree.children Tree.depth Tree.datatype_mark Tre
 tree = tt
 
 unfoldable pub fields : Unit {0}
-unfolding Fields.◌>>=◌ Fields.pure Fields.ensure Fields.present Fields.times Fields.part Fields.byte Fields.low Fields.high Fields.number Fields.address Fields.u32 Fields.text Fields.list Fields.ref Fields.pair Fields.width Fields.element Fields.prefix Fields.coded Fields.ext_type Fields.ext_op Fields.value Fields.plain Fields.operators Fields.operator Fields.entity_ref Fields.leaf Fields.marks Fields.whole
+unfolding Fields.◌>>=◌ Fields.pure Fields.ensure Fields.present Fields.times Fields.part Fields.byte Fields.low Fields.high Fields.number Fields.address Fields.u32 Fields.text Fields.list Fields.ref Fields.pair Fields.width Fields.element Fields.prefix Fields.coded Fields.ext_type Fields.ext_op Fields.value Fields.plain Fields.operators Fields.operator Fields.entity_ref Fields.leaf Fields.marks Fields.is_typed Fields.untyped Fields.untyped_mark Fields.final_type Fields.with_type Fields.whole
 fields = tt
 
 unfoldable pub file : Unit {0}
-unfolding File.types File.funs File.terms File.inputs File.enums File.members File.type_at File.fun_at File.term_at File.named_op File.named_mark File.named File.earlier File.distinct File.needs_arguments File.list_rules File.rules File.broken File.kept File.judged File.next_record File.records File.checked
+unfolding File.types File.funs File.terms File.inputs File.enums File.members File.type_at File.fun_at File.term_at File.named_op File.named_mark File.named File.written File.earlier File.distinct File.needs_arguments File.list_rules File.rules File.broken File.kept File.judged File.next_record File.records File.checked
 file = tt
 
 unfoldable pub text : Unit {0}

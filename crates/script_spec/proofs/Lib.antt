@@ -1,9 +1,13 @@
 -- The theorems about the definitions, by subject.
--- laws of tests, lists and readers, and a name for each module's definitions
+-- laws of tests, lists, readers and records, and a name for each module's definitions
 pub mod Laws
 pub mod Lists
 pub mod Pigeonhole
 pub mod Readers
+pub mod Tables
+pub mod Fronts
+pub mod Taken
+pub mod Accepted
 pub mod Equal
 pub mod Classes
 pub mod Listings
@@ -46,6 +50,10 @@ pub mod Bare
 pub mod BareEntry
 pub mod BareFile
 pub mod Encoding
+-- records in which a type is written: it is the term's, and without it the record is the same
+pub mod OwnType
+pub mod Written
+pub mod Untyped
 -- the walk over the inputs and the walk over them as listed
 pub mod Tracks
 pub mod TracksTerms

@@ -1,4 +1,4 @@
--- `index_compare::shape::shape_at` meets its contract: the mark is the two bytes at the offset.
+-- `index_compare::shape::shape_at` meets its contract: by the mark at the offset and the body.
 -- Assumes nothing.
 use mathlib.Core.List.{List}
 use mathlib.Core.Path.{subst}
@@ -8,4 +8,4 @@ use Rattle.index_compare.proofs.Shapes.{segments_by}
 use Rattle.index_compare.proofs.shape.shape_at.Goals as goal
 
 pub returns : goal.returns
-returns c = subst (λ (l : List Segment). Shaped l c.shape_by.result) (segments_by _ _ c.byte_at.ensures c.byte_at-2.ensures c.body_at.ensures) c.shape_by.ensures
+returns c = subst (λ (l : List Segment). Shaped l c.shape_by.result) (segments_by _ _ c.first_letter.ensures c.byte_at.ensures c.body_at.ensures) c.shape_by.ensures
