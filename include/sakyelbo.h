@@ -39,7 +39,7 @@ typedef struct sakyelbo_text {
     size_t count;
 } sakyelbo_text;
 
-/* Checks a term file: refusals 1 to 13. */
+/* Checks a term file: refusals 1 to 13 and 21. */
 uint32_t sakyelbo_check(const uint8_t *file, size_t file_count, uint32_t *work, size_t work_count, sakyelbo_where *at);
 
 /* Encodes a term file: check's refusals, then 14 to 19, 24 and 25, then 20 if the script is longer than its buffer. The script is written

@@ -13,7 +13,7 @@ impl TermFile {
     fn new(name: &str, bytes: Vec<u8>) -> TermFile {
         let (mut terms, mut at) = (0, 0);
         while at + 6 <= bytes.len() {
-            terms += usize::from(bytes[at] == b'X');
+            terms += usize::from(matches!(bytes[at], b'X' | b'Y'));
             at += 6 + u32::from_le_bytes(bytes[at + 2..at + 6].try_into().unwrap()) as usize;
         }
         TermFile { name: name.to_string(), bytes, terms }

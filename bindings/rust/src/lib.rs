@@ -31,7 +31,7 @@ pub fn work_entries(file: &[u8]) -> usize {
     }
 }
 
-/// Checks a term file: refusals 1 to 13.
+/// Checks a term file: refusals 1 to 13 and 21.
 pub fn check(file: &[u8]) -> Result<(), Refusal> {
     check_with(file, &mut vec![0; work_entries(file)])
 }

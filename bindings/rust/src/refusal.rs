@@ -2,7 +2,7 @@
 use std::error::Error;
 use std::fmt::{Display, Formatter, Result};
 
-/// A refusal of documents 01 and 02: its number, 1 to 20, 24 or 25; the place of the record, counted from 0 (0 for 1, 2 and 20); and the
+/// A refusal of documents 01 and 02: its number, 1 to 21, 24 or 25; the place of the record, counted from 0 (0 for 1, 2 and 20); and the
 /// position of the first code point above 196607 in an entity's id (15), a string (24) or a pattern (25), counted from 0 in code points, a
 /// wildcard as one (0 for every other refusal).
 #[derive(Clone, Copy, Debug, PartialEq, Eq, Hash)]
@@ -42,6 +42,7 @@ impl Display for Refusal {
             17 => "gets an attribute of a term that is no record",
             18 => "gets an attribute of a term whose type the script does not declare",
             19 => "gets an attribute and has no argument to get it from",
+            21 => "has a written type that is not its term's",
             24 => "is a string with a code point above 196607, which no SMT-LIB string holds",
             25 => "applies a pattern with a code point above 196607, which no SMT-LIB string holds",
             _ => "is refused by an unknown number",
@@ -63,7 +64,7 @@ mod tests {
     #[test]
     fn each_number_has_its_own_words() {
         let mut words: Vec<String> = Vec::new();
-        for number in (1..=21).chain([24, 25]) {
+        for number in (1..=22).chain([24, 25]) {
             let refusal = Refusal { number, place: 4321, position: 8765 };
             let text = refusal.to_string();
             assert!(!words.contains(&text), "{text}");

@@ -27,6 +27,17 @@ fn check_says_the_answer() {
 }
 
 #[test]
+fn a_written_type_that_is_not_the_terms_is_said() {
+    let vector = path("crates/vectors/data/typed/yb-right.term");
+    assert_eq!(run(&["check", vector.to_str().unwrap()], b""), (0, "accepted\n".to_string(), String::new()));
+    let bytes = fs::read(path("crates/vectors/data/typed/yc-wrong.term")).unwrap();
+    let words = "refused 21 record 10: record 10 has a written type that is not its term's\n";
+    for request in ["check", "encode"] {
+        assert_eq!(run(&[request, "-"], &bytes), (1, String::new(), words.to_string()));
+    }
+}
+
+#[test]
 fn encode_writes_the_script() {
     let term = path("crates/vectors/data/rust/address.term").to_str().unwrap().to_string();
     let bytes = fs::read(&term).unwrap();

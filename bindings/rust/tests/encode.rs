@@ -1,8 +1,8 @@
-//! Encode: the vectors, comments, the escapes of code points and the positions of high ones, damaged files, the room for a script, and
-//! lent memory that comes back zero.
+//! Encode: the vectors, comments, the escapes of code points and the positions of high ones, written types, damaged files, the room for a
+//! script, and lent memory that comes back zero.
 mod cases;
 
-use cases::{answer, cases, path, record, refusal, text, used_memory, word};
+use cases::{answer, cases, examples, path, record, records, refusal, text, typed, typed_at, used_memory, word};
 use sakyelbo::{check, encode, encode_with, work_entries, Refusal};
 use std::fs;
 
@@ -91,14 +91,32 @@ fn each_refused_vector_has_its_refusal() {
 }
 
 #[test]
-fn each_high_code_point_has_its_position() {
-    for (name, file, written) in vectors("high", "txt") {
+fn each_vector_of_document_02_has_its_answer() {
+    for (name, file, written) in ["high", "sets", "typed"].into_iter().flat_map(|folder| vectors(folder, "txt")) {
         let expected = match std::str::from_utf8(&written).unwrap() {
             line if line.starts_with("refused ") => Err(answer(line).unwrap_err()),
             _ => Ok(written),
         };
         assert_eq!(encode_lent(&file, work_entries(&file), 65_536), expected, "{name}");
     }
+}
+
+#[test]
+fn a_file_with_written_types_has_the_answer_of_the_file_without() {
+    let folders = [("rust", "smt2"), ("refused", "txt"), ("comments", "txt"), ("high", "txt"), ("sets", "txt")];
+    let mut compared = 0;
+    for (name, file, _) in folders.into_iter().flat_map(|(folder, ending)| vectors(folder, ending)) {
+        if check(&file).is_err() {
+            continue;
+        }
+        let expected = encode_lent(&file, work_entries(&file), 65_536);
+        for made in [typed(&file), typed_at(&file, |place| place % 2 == 0), typed_at(&file, |place| place % 2 == 1)] {
+            assert_eq!(check(&made), Ok(()), "{name}");
+            assert_eq!(encode_lent(&made, work_entries(&made), 65_536), expected, "{name}");
+        }
+        compared += 1;
+    }
+    assert!(compared > 200);
 }
 
 /// The files of an entity whose id is these characters, of a string of them, and of a pattern of them with a wildcard for each star, with
@@ -112,6 +130,18 @@ fn high_files(s: &str) -> [(Vec<u8>, u32, usize); 3] {
     let variable = [record("TB", &[]), record("TS", &[]), record("XV", &[&text("s"), &word(1)])].concat();
     let like = [variable, record("XA", &[&word(0), &operator, &word(1), &word(0)]), input(1)].concat();
     [(entity, 15, 1), (string, 24, 1), (like, 25, 3)]
+}
+
+#[test]
+fn each_example_has_one_script_with_types_and_without() {
+    let examples = examples();
+    assert!(examples.len() >= 4);
+    for (name, file) in examples {
+        let without: Vec<u8> = records(&file).iter().flat_map(|r| r.with(None)).collect();
+        let script = encode(&without);
+        assert!(script.is_ok(), "{name}");
+        assert_eq!((encode(&file), encode(&typed(&file))), (script.clone(), script), "{name}");
+    }
 }
 
 #[test]
@@ -167,6 +197,7 @@ fn the_large_vectors_are_accepted_and_the_plants_script_is_the_rusts() {
     let script = encode(&plant).unwrap();
     // The length and the hash of the script that the Rust wrote.
     assert_eq!((script.len(), fnv(&script)), (545_862, 0x27da_4e6f_9f0f_fdfd));
+    assert!(encode(&typed(&plant)) == Ok(script));
     // The Rust did not finish this one.
     let shared = fs::read(path("crates/check_cases/data/large/shared-1000.term")).unwrap();
     assert_eq!(check(&shared), Ok(()));

@@ -43,10 +43,11 @@ int main(void)
 {
     static const uint8_t file[] = "TB\0\0\0\0XV\x09\0\0\0\1\0\0\0a\1\0\0\0";
     static const uint8_t high[] = "TS\0\0\0\0XS\x0b\0\0\0\7\0\0\0a\xc3\xa9\xf0\xb0\x80\x80IN\4\0\0\0\0\0\0\0";
+    static const uint8_t typed[] = "TB\0\0\0\0TS\0\0\0\0YB\5\0\0\0\1\0\0\0\0YB\5\0\0\0\1\1\0\0\0";
     static const char script[] = "(declare-datatype Option (par (X) (\n  (none)\n  (some (val X)))))\n";
     const sakyelbo_text x = {BYTES("X")}, constructors[] = {{BYTES("(none)")}, {BYTES("(some (val X))")}};
     const sakyelbo_text sorts[] = {{BYTES("E0")}, {BYTES("Bool")}}, names[] = {{BYTES("x")}, {BYTES("y")}, {BYTES("z")}};
-    uint32_t work[2 * sizeof high];
+    uint32_t work[2 * sizeof typed];
     size_t i;
 
     expect(SAKYELBO_LONGEST_FILE == LONGEST_FILE, "the longest file is that of the Rust crate");
@@ -56,7 +57,9 @@ int main(void)
     expect_answer(sakyelbo_check(file, 6, work, 12, &at), 0, 0, 0, "a Bool type is accepted");
     expect_answer(sakyelbo_check(file, sizeof file - 1, work, 2 * sizeof file, &at), 8, 1, 0,
                    "a type that is not there is refusal 8 in record 1");
-    for (i = 0; i < 2 * sizeof file; i++)
+    expect_answer(sakyelbo_check(typed, 23, work, 2 * sizeof typed, &at), 0, 0, 0, "the type of a term may be written in its record");
+    expect_answer(sakyelbo_check(typed, sizeof typed - 1, work, 2 * sizeof typed, &at), 21, 3, 0, "another type is refusal 21");
+    for (i = 0; i < 2 * sizeof typed; i++)
         expect(work[i] == 0, "working memory is zero");
     expect_written(sakyelbo_encode(file, 6, work, 12, OUT, &at), script);
     expect(at.place == 0 && at.position == 0, "acceptance is at no place");

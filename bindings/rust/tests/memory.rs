@@ -2,7 +2,7 @@
 mod cases;
 mod commands;
 
-use cases::{cases, deep, path, record, word};
+use cases::{cases, deep, examples, path, record, typed, word};
 use commands::{compiled, run};
 use std::collections::HashSet;
 use std::fs;
@@ -36,28 +36,18 @@ fn written((name, file, entries): &Vector) -> Vec<u8> {
     [block(name.as_bytes()), word(*entries), word(length), block(file)].concat()
 }
 
-/// The files of a folder and of those in it that have this ending.
-fn files(folder: &Path, ending: &str) -> Vec<PathBuf> {
+/// The term files of a folder and of those in it.
+fn files(folder: &Path) -> Vec<PathBuf> {
     let entries = fs::read_dir(folder).unwrap().map(|e| e.unwrap().path());
-    let found = entries.flat_map(|e| if e.is_dir() { files(&e, ending) } else { vec![e] });
-    found.filter(|f| f.extension().is_some_and(|e| e == ending)).collect()
+    let found = entries.flat_map(|e| if e.is_dir() { files(&e) } else { vec![e] });
+    found.filter(|f| f.extension().is_some_and(|e| e == "term")).collect()
 }
 
 /// The term files of the repository.
 fn term_files() -> Vec<Vector> {
     let folders = ["crates/check_cases/data", "crates/vectors/data"];
-    let found = folders.iter().flat_map(|folder| files(&path(folder), "term"));
+    let found = folders.iter().flat_map(|folder| files(&path(folder)));
     found.map(|f| vector(&f.to_string_lossy(), fs::read(&f).unwrap())).collect()
-}
-
-/// The examples, which tools/termfile writes.
-fn examples() -> Vec<Vector> {
-    let written = files(&path("examples"), "txt").into_iter().map(|text| {
-        let done = Command::new(path("tools/termfile")).arg("write").arg(&text).arg("-").output().unwrap();
-        assert!(done.status.success());
-        vector(&text.to_string_lossy(), done.stdout)
-    });
-    written.collect()
 }
 
 /// An empty set before any term.
@@ -70,8 +60,8 @@ fn empty_set() -> Vector {
 fn vectors() -> Vec<Vector> {
     let mut all = vec![empty_set()];
     all.extend(term_files());
-    all.extend(examples());
-    all.extend(deep::files().into_iter().map(|(name, file)| vector(name, file)));
+    all.extend(examples().into_iter().map(|(name, file)| vector(&name, file)));
+    all.extend(deep::files().into_iter().flat_map(|(name, file)| [vector(name, typed(&file)), vector(name, file)]));
     all.extend(cases().into_iter().map(|c| (c.name, c.file, c.entries)));
     let mut met = HashSet::new();
     all.retain(|(_, file, entries)| met.insert((file.clone(), *entries)));

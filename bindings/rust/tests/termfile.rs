@@ -5,6 +5,7 @@ mod commands;
 use cases::{borders, path, record, text, word};
 use commands::{file, made, run, Ran};
 use std::fs;
+use std::path::PathBuf;
 use std::process::Command;
 
 fn termfile(args: &[&str], input: &[u8]) -> Ran {
@@ -25,15 +26,24 @@ fn dumped(bytes: &[u8]) -> String {
     output
 }
 
+/// The term files of a folder of vectors that have scripts.
+fn accepted(folder: &str) -> Vec<PathBuf> {
+    let mut files: Vec<_> =
+        fs::read_dir(path("crates/vectors/data").join(folder)).unwrap().map(|f| f.unwrap().path()).collect();
+    files.retain(|f| {
+        let answer = ["smt2", "txt"].iter().find_map(|e| fs::read(f.with_extension(e)).ok()).unwrap();
+        f.extension().unwrap() == "term" && !answer.starts_with(b"refused ")
+    });
+    files.sort();
+    files
+}
+
 #[test]
 fn what_is_dumped_is_written_back() {
-    let mut files: Vec<_> =
-        fs::read_dir(path("crates/vectors/data/rust")).unwrap().map(|f| f.unwrap().path()).collect();
-    files.retain(|f| f.extension().unwrap() == "term");
-    files.sort();
-    assert!(files.len() > 100);
+    let (files, typed) = (accepted("rust"), accepted("typed"));
+    assert!(files.len() > 100 && typed.len() > 15);
     // One file of all, so that the tool starts twice only: a reference is there in it, since it is there in its own file.
-    let bytes: Vec<u8> = files.iter().flat_map(|f| fs::read(f).unwrap()).collect();
+    let bytes: Vec<u8> = files.iter().chain(&typed).flat_map(|f| fs::read(f).unwrap()).collect();
     let text = dumped(&bytes);
     let back = written(text.as_bytes(), "back.term");
     let (places, ends) = (borders(&bytes), borders(&back));
@@ -68,6 +78,34 @@ fn numbers_are_written_as_they_stand() {
     let bytes = written(source, "numbers.term");
     assert_eq!(bytes, expected.concat());
     assert_eq!(written(dumped(&bytes).as_bytes(), "numbers.term"), bytes);
+}
+
+#[test]
+fn a_written_type_stands_behind_its_label() {
+    let types =
+        "TB T0\nTS T1\nTV T2 = 64\nTO T3 = T0\nTC T4 = T0\nTE T5 = \"Lot\"\nTX T6 = IPAddr\nTR T7 = \"a\": T0\n";
+    // The mark's second letter, the number of the type, and the other fields, in the text and in the file.
+    let terms = [
+        ("V", 0, "\"a\" T0", [text("a"), word(0)].concat()),
+        ("B", 0, "true", vec![1]),
+        ("N", 2, "64 12", [&word(64)[..], &[12], &[0; 15]].concat()),
+        ("S", 1, "\"text\"", text("text")),
+        ("E", 5, "T5 \"7\"", [word(5), text("7")].concat()),
+        ("X", 6, "V6 ::1", [&[1], &[0; 15][..], &[1, 255]].concat()),
+        ("0", 3, "T0", word(0)),
+        ("1", 3, "X0", word(0)),
+        ("C", 4, "T0: X0, X1", [word(0), word(2), word(0), word(1)].concat()),
+        ("C", 4, "T0", [word(0), word(0)].concat()),
+        ("R", 7, "\"a\": X1", [word(1), text("a"), word(1)].concat()),
+        ("A", 0, "T0 And: X0, X1", [&word(0)[..], &[0], &word(2), &word(0), &word(1)].concat()),
+    ];
+    let (mut source, mut bytes) = (types.to_string(), written(types.as_bytes(), "types.term"));
+    for (n, (letter, ty, line, fields)) in terms.iter().enumerate() {
+        source += &format!("Y{letter} X{n}: T{ty} = {line}\n");
+        bytes.extend(record(&format!("Y{letter}"), &[fields, &word(*ty)]));
+    }
+    assert_eq!(written(source.as_bytes(), "types.term"), bytes);
+    assert_eq!(dumped(&bytes), source);
 }
 
 /// Writes a text with this line to a file: that is an error with these words, and the file is kept.
@@ -124,6 +162,17 @@ fn what_is_not_understood_is_said_with_its_line() {
         (b"XX c = V4 1.2.3", "1.2.3 is no V4 address"),
         (b"XX c = V6 1.2.3.4", "1.2.3.4 is no V6 address"),
         (b"xb c = true", "xb is no mark"),
+        (b"YT c: bool = true", "YT is no mark"),
+        (b"YB c = true", "expected :, found ="),
+        (b"YB c", "expected :, found the end of the line"),
+        (b"YB c: = true", "no type is called = before this line"),
+        (b"YB c: b = true", "no type is called b before this line"),
+        (b"YB c: bool", "expected =, found the end of the line"),
+        (b"YB c: bool: bool = true", "expected =, found :"),
+        (b"YB c: bool = true: bool", ": is left over"),
+        (b"XB c: bool = true", "expected =, found :"),
+        (b"TV c: bool = 64", "expected =, found :"),
+        (b"IN b: bool", ": is left over"),
     ] {
         not_understood(line, words, "kept.term");
     }
@@ -156,6 +205,14 @@ fn what_cannot_be_dumped_is_said_with_its_record() {
         (record("XA", &[&word(0), &[31], &word(0), &word(0)]), "no function 0 stands before it"),
         (record("XA", &[&word(0), &[30], &word(1), &word(0xd800), &word(0)]), "d800 is no code point of a text"),
         (record("XA", &[&word(0), &[30], &word(1), &word(0x110000), &word(0)]), "110000 is no code point of a text"),
+        (record("YT", &[&[1], &word(0)]), "unknown mark 'YT'"),
+        (record("XB", &[&[1], &word(0)]), "bytes are left over"),
+        (record("YB", &[&[1]]), "a field doesn't fit its body"),
+        (record("YB", &[&[1], &word(0)[..3]]), "a field doesn't fit its body"),
+        (record("YB", &[&[1], &word(0), &[0]]), "bytes are left over"),
+        (record("YB", &[&[1], &word(0)])[..10].to_vec(), "it is cut short"),
+        (record("YB", &[&[1], &word(1)]), "no type 1 stands before it"),
+        (record("YB", &[&[2], &word(1)]), "code 2 is out of range"),
     ] {
         let name = file("bad.term", &[record("TB", &[]), bytes].concat());
         let expected = (1, String::new(), format!("termfile: {name}: record 1: {words}\n"));

@@ -1,12 +1,15 @@
-//! The cases of the program check_cases, whose answers were written down from document 01, and term files made by code.
+//! The cases of the program check_cases, whose answers were written down from documents 01 and 02, and term files made by code.
 #![allow(dead_code, unused_imports)]
 pub mod deep;
 pub mod made;
+pub mod typed;
 
 pub use made::{and, record, text, word};
 use sakyelbo::Refusal;
 use std::fs;
 use std::path::PathBuf;
+use std::process::Command;
+pub use typed::{records, typed, typed_at, Record};
 
 /// A file, the entries of working memory that it is checked with, and check's answer.
 pub struct Case {
@@ -77,6 +80,17 @@ fn block<'a>(rest: &mut &'a [u8]) -> &'a [u8] {
     let (head, tail) = rest.split_at(count);
     *rest = tail;
     head
+}
+
+/// The examples with their names, which tools/termfile writes.
+pub fn examples() -> Vec<(String, Vec<u8>)> {
+    let texts = fs::read_dir(path("examples")).unwrap().map(|e| e.unwrap().path());
+    let written = texts.filter(|t| t.extension().is_some_and(|e| e == "txt")).map(|text| {
+        let done = Command::new(path("tools/termfile")).arg("write").arg(&text).arg("-").output().unwrap();
+        assert!(done.status.success());
+        (text.to_string_lossy().into_owned(), done.stdout)
+    });
+    written.collect()
 }
 
 /// Memory that was used: numbers that could be rows, notes, names and slots of an index, and one that could not.
