@@ -8,6 +8,8 @@
  * its type. What is lent for writing overlaps nothing else that is lent. After a refusal all memory that was lent for writing is
  * zero but what is behind `at`; after acceptance working memory is zero, and so are the bytes behind what was written. What it held
  * before does not matter.
+ *
+ * Linking. Of other libraries it needs `memcpy` and `memset` alone.
  */
 #ifndef SAKYELBO_H
 #define SAKYELBO_H

@@ -10,14 +10,15 @@ use refusal::Refusal;
 pub fn enter_enum(records: &mut RecordsMut<'_>, offset: u32) -> Result<(), Refusal>
     ensures { Enters enum_named records.old records.new offset result }
 {
-    if !members::members_ascend(records.file, offset) {
+    let at = offset as usize;
+    if !members::members_ascend(records.file, at) {
         return Err(Refusal::NotAscending);
     }
-    if !members::members_given(records.file, offset) {
+    if !members::members_given(records.file, at) {
         return Err(Refusal::NothingGiven);
     }
     let n = records.sizes.enums;
-    let name = members::name_at(records.file, offset);
+    let name = members::name_at(records.file, at);
     if index_search::enums::enrol(records, name).is_some() {
         return Err(Refusal::SecondEnum);
     }

@@ -25,7 +25,7 @@ pub fn enter_fun(records: &mut RecordsMut<'_>, offset: u32) -> Result<(), Refusa
     ensures { Enters func records.old records.new offset result }
 {
     let n = records.sizes.funs;
-    let first = index_search::search::enrol(records, Compared::Funs, offset);
+    let first = index_search::search::enrol(records, Compared::Funs, offset as usize);
     records.set(Column::FunOffset, n, offset);
     records.set(Column::FunFirst, n, first);
     records.set(Column::FunName, n, 0);
@@ -38,7 +38,7 @@ fn store_type(records: &mut RecordsMut<'_>, offset: u32, depth: u32)
     ensures { StoresType records.old records.new offset depth }
 {
     let n = records.sizes.types;
-    let first = index_search::search::enrol(records, Compared::Types, offset);
+    let first = index_search::search::enrol(records, Compared::Types, offset as usize);
     records.set(Column::TypeOffset, n, offset);
     records.set(Column::TypeFirst, n, first);
     records.set(Column::TypeDepth, n, depth);
@@ -50,14 +50,14 @@ fn store_type(records: &mut RecordsMut<'_>, offset: u32, depth: u32)
 pub fn enter_type(records: &mut RecordsMut<'_>, offset: u32) -> Result<(), Refusal>
     ensures { Enters type records.old records.new offset result }
 {
-    if !check_rules::record::attributes_ascend(records.file, offset) {
+    if !check_rules::record::attributes_ascend(records.file, offset as usize) {
         return Err(Refusal::NotAscending);
     }
     if MOST <= records.sizes.types {
         return Err(Refusal::TooMany);
     }
     index_search::octets(records.file);
-    let deepest = greatest(records.view(), offset, Referent::Type);
+    let deepest = greatest(records.view(), offset as usize, Referent::Type);
     if DEEPEST_PART < deepest {
         return Err(Refusal::TooMany);
     }

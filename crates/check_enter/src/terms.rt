@@ -22,7 +22,7 @@ fn store_term(records: &mut RecordsMut<'_>, offset: u32, ty: u32, depth: u32)
 {
     let n = records.sizes.terms;
     let place = records.sizes.together();
-    let first = index_search::search::enrol(records, Compared::Terms, offset);
+    let first = index_search::search::enrol(records, Compared::Terms, offset as usize);
     let row = NewTerm {
         offset,
         first,
@@ -58,8 +58,8 @@ fn enter_typed(
     ensures { EntersTyped records.old records.new offset kind found result }
 {
     index_search::octets(records.file);
-    let deepest = greatest(records.view(), offset, Referent::Term);
-    check_rules::terms::broken_rule(records, offset, kind, deepest)?;
+    let deepest = greatest(records.view(), offset as usize, Referent::Term);
+    check_rules::terms::broken_rule(records, offset as usize, kind, deepest)?;
     let ty = found.ok_or(Refusal::TypeNotListed)?;
     if writes_other(records.view(), offset, ty) {
         return Err(Refusal::WrongType);
@@ -79,6 +79,6 @@ pub fn enter_term(records: &mut RecordsMut<'_>, offset: u32, kind: Kind) -> Resu
     ensures kept { Keeps records.old records.new }
     ensures entered { Marked (mark_at records.old.file.now offset) (Some kind) → Enters term records.old records.new offset result }
 {
-    let found = check_types::type_of(records.view(), offset, kind);
+    let found = check_types::type_of(records.view(), offset as usize, kind);
     enter_typed(records, offset, kind, found)
 }

@@ -38,21 +38,21 @@ fn list_given(list: Cursor<'_>) -> bool
 }
 
 // Rule 9 of an enum: its members ascend.
-pub fn members_ascend(file: &[u8], offset: u32) -> bool
+pub fn members_ascend(file: &[u8], offset: usize) -> bool
     ensures { EnumAscends file.now offset result }
 {
     list_ascends::<false>(parts_of(body_at(file, offset)).1)
 }
 
 // Rule 10 of an enum: it has members.
-pub fn members_given(file: &[u8], offset: u32) -> bool
+pub fn members_given(file: &[u8], offset: usize) -> bool
     ensures { EnumGiven file.now offset result }
 {
     list_given(parts_of(body_at(file, offset)).1)
 }
 
 // The name of an enum.
-pub fn name_at<'a>(file: &'a [u8], offset: u32) -> &'a [u8]
+pub fn name_at<'a>(file: &'a [u8], offset: usize) -> &'a [u8]
     ensures { NameAt file.now offset result.now }
 {
     parts_of(body_at(file, offset)).0

@@ -31,7 +31,7 @@ pub fn list_differs(list: Cursor<'_>, records: &mut RecordsMut<'_>) -> bool
 }
 
 // Rule 9 of a type: the attributes of a record type ascend.
-pub fn attributes_ascend(file: &[u8], offset: u32) -> bool
+pub fn attributes_ascend(file: &[u8], offset: usize) -> bool
     ensures { TypeAscends file.now offset result }
 {
     let Some(kind) = kind_at(file, offset) else {

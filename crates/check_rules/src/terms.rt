@@ -16,7 +16,7 @@ use refusal::Refusal;
 // Rules 9 and 10 of a term of this kind; `depth` is the greatest of the arguments' depths, 0 where there are none; the memory is as it was.
 pub fn broken_rule(
     records: &mut RecordsMut<'_>,
-    offset: u32,
+    offset: usize,
     kind: Kind,
     depth: u32,
 ) -> Result<(), Refusal>

@@ -26,32 +26,32 @@ enum Sought {
     Extension(u8),
     Option(u32),
     Set(u32),
-    Record(u32),
+    Record(usize),
 }
 
 // The code of the extension type or value at an offset: the first byte of its body, 0 where there is none.
-fn code_at(file: &[u8], offset: u32) -> u8
+fn code_at(file: &[u8], offset: usize) -> u8
     ensures { result ≡ code_at file.now offset }
 {
     byte_at(body_at(file, offset), 0)
 }
 
 // The code of the type of the extension value at an offset.
-fn value_code(file: &[u8], offset: u32) -> u8
+fn value_code(file: &[u8], offset: usize) -> u8
     ensures { result ≡ value_code file.now offset }
 {
     code_at(file, offset).saturating_sub(1)
 }
 
 // The width of the bit-vector type or value at an offset.
-fn width_at(file: &[u8], offset: u32) -> u32
+fn width_at(file: &[u8], offset: usize) -> u32
     ensures { result ≡ width_at file.now offset }
 {
     number_at(body_at(file, offset), 0)
 }
 
 // What is sought as the type of the term at an offset, of this kind; none where the term refers to its type, and for what is no term.
-fn sought_by(records: Records<'_>, offset: u32, kind: Kind) -> Option<Sought>
+fn sought_by(records: Records<'_>, offset: usize, kind: Kind) -> Option<Sought>
     ensures { Marked (mark_at records.entry.file.now offset) (Some kind) → SoughtBy records.entry.file.now records.entry.work.now records.entry.sizes.rows offset result }
 {
     match kind {
@@ -92,14 +92,15 @@ impl Sought {
         if letter_at(records.file, other) != self.letter() {
             return false;
         }
+        let at = other as usize;
         match self {
             Sought::Bool => true,
             Sought::String => true,
-            Sought::BitVec(width) => width_at(records.file, other) == width,
-            Sought::Extension(code) => code_at(records.file, other) == code,
-            Sought::Option(part) => first_reference(records, other) == part,
-            Sought::Set(part) => first_reference(records, other) == part,
-            Sought::Record(offset) => same_listed_type(records, other, offset),
+            Sought::BitVec(width) => width_at(records.file, at) == width,
+            Sought::Extension(code) => code_at(records.file, at) == code,
+            Sought::Option(part) => first_reference(records, at) == part,
+            Sought::Set(part) => first_reference(records, at) == part,
+            Sought::Record(offset) => same_listed_type(records, at, offset),
         }
     }
 
@@ -159,7 +160,7 @@ fn find(records: Records<'_>, sought: Sought) -> Option<u32>
 }
 
 // The number of the first type that is equal to the type of the term at an offset, of this kind, if it is listed.
-pub fn type_of(records: Records<'_>, offset: u32, kind: Kind) -> Option<u32>
+pub fn type_of(records: Records<'_>, offset: usize, kind: Kind) -> Option<u32>
     ensures { Marked (mark_at records.entry.file.now offset) (Some kind) → TypeSought records.entry.file.now records.entry.work.now records.entry.sizes offset result }
 {
     index_search::octets(records.file);

@@ -7,6 +7,7 @@ use mathlib.Core.Logic.{inl, inr}
 use mathlib.Core.Bool.{Bool, true, false}
 use mathlib.Core.List.{List, [], ◌∷◌, map}
 use lib.Dec.{leb, eqb}
+use borrow.Author.Tests.{ne_eqb}
 use lib.ListN.{length, take, drop, get_or}
 use Rattle.std.specs.Prelude.{Some}
 use Rattle.script_spec.specs.Base.{Bytes}
@@ -14,7 +15,7 @@ use Rattle.script_spec.specs.Fields.{low}
 use Rattle.index.specs.Cells.{number, cell, type_first, type_depth, term_type, term_depth}
 use Rattle.index.specs.Rules.{greatest}
 use Rattle.index.specs.declared.Column.{Column}
-use Rattle.index_compare.specs.Segment.{Segment, plain, type_ref, term_ref}
+use Rattle.index_compare.specs.Segment.{Segment, plain, type_ref, fun_ref, term_ref}
 use Rattle.index_compare.specs.Machine.{Then, reference, field_then, last, remaining}
 use Rattle.index_compare.specs.declared.segments.Walk.{Walk}
 use Rattle.index_compare.proofs.Steps.{reference_short, reference_at}
@@ -95,6 +96,15 @@ module _ (work : List ℕ) (k kind : ℕ) where
   greatest_plain : (p : Bytes) (l : List Segment) → greatest (reference_numbers kind (map (viewed work k Depth) (plain p ∷ l))) ≡ greatest (reference_numbers kind (map (viewed work k Depth) l))
   unfolding reference_numbers viewed kind_of reference_number
   greatest_plain p l = greatest_zero (eqb 1 kind) (reference_numbers kind (map (viewed work k Depth) l))
+
+  -- no reference is of another kind
+  pub greatest_other : (kind ≡ 2 → ⊥) → (kind ≡ 3 → ⊥) → (kind ≡ 4 → ⊥) → (l : List Segment) → 0 ≡ greatest (reference_numbers kind (map (viewed work k Depth) l))
+  unfolding reference_numbers greatest viewed term_as kind_of reference_number of_kind
+  greatest_other a b c [] = refl
+  greatest_other a b c (plain p ∷ l) = greatest_other a b c l ∙ sym (greatest_zero (eqb 1 kind) (reference_numbers kind (map (viewed work k Depth) l)))
+  greatest_other a b c (type_ref n ∷ l) = rw (ne_eqb 2 kind (λ e. a (sym e))) (greatest_other a b c l)
+  greatest_other a b c (fun_ref n ∷ l) = rw (ne_eqb 3 kind (λ e. b (sym e))) (greatest_other a b c l)
+  greatest_other a b c (term_ref n ∷ l) = rw (ne_eqb 4 kind (λ e. c (sym e))) (greatest_other a b c l)
 
   pub greatest_none : (most : ℕ) {l : List Segment} → l ≡ [] → most ≡ max most (greatest (reference_numbers kind (map (viewed work k Depth) l)))
   greatest_none most e = greatest_end kind most (rw e)

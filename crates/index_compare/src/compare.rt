@@ -1,12 +1,12 @@
 // Records compared by their bodies: plain bytes as they stand, references by the numbers of first equal records.
 
-ghost use Rattle.std.specs.Prelude.{◌≡◌, map, get_or};
+ghost use Rattle.std.specs.Prelude.{◌≡◌, ◌+◌, map, get_or};
 ghost use Rattle.std.specs.Iterator.{YieldsFirstBy, item_count};
 ghost use Rattle.index_compare.specs.Machine.{ahead};
 ghost use Rattle.index_compare.specs.Step.{told};
 ghost use Rattle.index_compare.specs.View.{segments_at, viewed, viewed_ahead, Decides, SameSegments};
 
-pub use crate::depth::greatest;
+pub use crate::depth::{greatest, greatest_of};
 pub use crate::opening::first_reference;
 use crate::record::{body_at, first_letter};
 use crate::segments::{Referent, Segment, Segments};
@@ -29,15 +29,21 @@ pub fn byte_at(s: &[u8], i: usize) -> u8
     s.get(i).copied().unwrap_or(0)
 }
 
+// The byte after a place, 0 past the end.
+pub fn byte_after(s: &[u8], i: usize) -> u8
+    ensures { result ≡ get_or s.now (i + 1) 0 }
+{
+    byte_at(s, i.saturating_add(1))
+}
+
 // The segments of the record at an offset.
 #[tactic(auto, using(crate::proofs::Shapes::segments_by), unfolding(crate::specs::Machine::ahead))]
-pub fn segments_at<'a>(file: &'a [u8], offset: u32) -> Segments<'a>
+pub fn segments_at<'a>(file: &'a [u8], offset: usize) -> Segments<'a>
     ensures { ahead result ≡ segments_at file.now offset }
 {
-    let at = offset as usize;
     Segments::of(
         first_letter(file, offset),
-        byte_at(file, at + 1),
+        byte_after(file, offset),
         body_at(file, offset),
     )
 }
@@ -84,7 +90,7 @@ impl<'a> Iterator for ViewedSegments<'a> {
 }
 
 // The segments of the record at an offset, in a view.
-pub fn viewed_segments<'a>(records: Records<'a>, view: View, offset: u32) -> ViewedSegments<'a>
+pub fn viewed_segments<'a>(records: Records<'a>, view: View, offset: usize) -> ViewedSegments<'a>
     ensures { viewed_ahead result ≡ map (viewed records.entry.work.now records.entry.sizes.rows view) (segments_at records.entry.file.now offset) }
 {
     ViewedSegments {
@@ -95,7 +101,7 @@ pub fn viewed_segments<'a>(records: Records<'a>, view: View, offset: u32) -> Vie
 }
 
 // Whether the segments of the records at two offsets are equal, each in a view.
-fn same_segments(records: Records<'_>, offset: u32, s: View, other: u32, t: View) -> bool
+fn same_segments(records: Records<'_>, offset: usize, s: View, other: usize, t: View) -> bool
     ensures { Decides result (SameSegments records.entry.file.now (viewed records.entry.work.now records.entry.sizes.rows s) offset (viewed records.entry.work.now records.entry.sizes.rows t) other) }
 {
     viewed_segments(records, s, offset).eq(viewed_segments(records, t, other))
@@ -103,7 +109,7 @@ fn same_segments(records: Records<'_>, offset: u32, s: View, other: u32, t: View
 
 // Whether the records at two offsets, of one mark, agree, references by the numbers of first equal records: where they are no sets, whether they
 // are equal.
-pub fn same_record(records: Records<'_>, offset: u32, other: u32) -> bool
+pub fn same_record(records: Records<'_>, offset: usize, other: usize) -> bool
     ensures { Decides result (SameSegments records.entry.file.now (viewed records.entry.work.now records.entry.sizes.rows View.First) offset (viewed records.entry.work.now records.entry.sizes.rows View.First) other) }
 {
     if let Some(a) = bare_at(records.file, offset)
@@ -115,7 +121,7 @@ pub fn same_record(records: Records<'_>, offset: u32, other: u32) -> bool
 }
 
 // Whether the record type at an offset is the type of the record term at the offset `other`.
-pub fn same_listed_type(records: Records<'_>, offset: u32, other: u32) -> bool
+pub fn same_listed_type(records: Records<'_>, offset: usize, other: usize) -> bool
     ensures { Decides result (SameSegments records.entry.file.now (viewed records.entry.work.now records.entry.sizes.rows View.First) offset (viewed records.entry.work.now records.entry.sizes.rows View.Listed) other) }
 {
     same_segments(records, offset, View::First, other, View::Listed)

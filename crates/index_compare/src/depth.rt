@@ -66,7 +66,7 @@ fn greatest_listed(records: Records<'_>, t: u32, terms: Terms<'_>, kind: Referen
 }
 
 // The greatest depth that the index has for the references of a record of a kind, which is that of types or of terms.
-pub fn greatest(records: Records<'_>, offset: u32, kind: Referent) -> u32
+pub fn greatest(records: Records<'_>, offset: usize, kind: Referent) -> u32
     ensures { result ≡ greatest (reference_numbers (kind_number kind) (map (viewed records.entry.work.now records.entry.sizes.rows View.Depth) (segments_at records.entry.file.now offset))) }
 {
     match shape_at(records.file, offset) {
@@ -76,5 +76,17 @@ pub fn greatest(records: Records<'_>, offset: u32, kind: Referent) -> u32
         Some(Shape::Named(_, t)) => type_depth(records, t, kind),
         Some(Shape::Bare(_)) => 0,
         None => greatest_ahead(records, segments_at(records.file, offset), kind),
+    }
+}
+
+// The same of a kind by its number, 0 where references have no such kind.
+pub fn greatest_of(records: Records<'_>, offset: usize, kind: u32) -> u32
+    ensures { result ≡ greatest (reference_numbers kind (map (viewed records.entry.work.now records.entry.sizes.rows View.Depth) (segments_at records.entry.file.now offset))) }
+{
+    match kind {
+        2 => greatest(records, offset, Referent::Type),
+        3 => greatest(records, offset, Referent::Fun),
+        4 => greatest(records, offset, Referent::Term),
+        _ => 0,
     }
 }

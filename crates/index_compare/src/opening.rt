@@ -5,7 +5,7 @@ ghost use Rattle.index_compare.specs.Machine.{ahead, remaining, walk_start};
 ghost use Rattle.index_compare.specs.View.{segments_at, reference_numbers, viewed};
 ghost use Rattle.index_compare.specs.Shape.{Opens, first_cell};
 
-use crate::compare::{View, byte_at, viewed};
+use crate::compare::{View, byte_after, viewed};
 use crate::record::{body_at, first_letter};
 use crate::segments::{Referent, Segment, Segments, read_word};
 use crate::shape::{Shape, shape_by};
@@ -83,13 +83,12 @@ fn first_shaped(records: Records<'_>, a: u8, b: u8, body: &[u8]) -> u32
 
 // The first type that a record refers to, or that a term has to which it refers, by the number of the first equal type; 0 where there is none.
 #[inline(always)]
-pub fn first_reference(records: Records<'_>, offset: u32) -> u32
+pub fn first_reference(records: Records<'_>, offset: usize) -> u32
     ensures { result ≡ get_or (reference_numbers 2 (map (viewed records.entry.work.now records.entry.sizes.rows View.Listed) (segments_at records.entry.file.now offset))) 0 0 }
 {
-    let at = offset as usize;
     let body = body_at(records.file, offset);
     let a = first_letter(records.file, offset);
-    let b = byte_at(records.file, at + 1);
+    let b = byte_after(records.file, offset);
     match opening_of(a, b) {
         Some(column) => first_cell(records, body, column),
         None => first_shaped(records, a, b, body),

@@ -6,7 +6,7 @@ ghost use Rattle.index_compare.specs.Machine.{remaining, walk_start};
 ghost use Rattle.index_compare.specs.View.{segments_at};
 ghost use Rattle.index_compare.specs.Shape.{Shaped, IsBare, terms_ahead};
 
-use crate::compare::byte_at;
+use crate::compare::byte_after;
 use crate::record::{body_at, first_letter};
 use crate::segments::{operand_of, read_word};
 
@@ -135,19 +135,18 @@ pub fn shape_by<'a>(a: u8, b: u8, body: &'a [u8]) -> Option<Shape<'a>>
 
 // The shape of the record at an offset.
 #[inline(always)]
-pub fn shape_at<'a>(file: &'a [u8], offset: u32) -> Option<Shape<'a>>
+pub fn shape_at<'a>(file: &'a [u8], offset: usize) -> Option<Shape<'a>>
     ensures { Shaped (segments_at file.now offset) result }
 {
-    let at = offset as usize;
     shape_by(
         first_letter(file, offset),
-        byte_at(file, at + 1),
+        byte_after(file, offset),
         body_at(file, offset),
     )
 }
 
 // The body of the record at an offset, where it is told to be bytes alone.
-pub fn bare_at<'a>(file: &'a [u8], offset: u32) -> Option<&'a [u8]>
+pub fn bare_at<'a>(file: &'a [u8], offset: usize) -> Option<&'a [u8]>
     ensures { IsBare (segments_at file.now offset) result }
 {
     match shape_at(file, offset) {

@@ -1,13 +1,13 @@
 -- What the terms that are read again are.
 -- Assumes nothing.
-use Rattle.std.specs.Prelude.{ℕ, zero, suc, ◌≡◌, true, false, List, [], ◌∷◌, drop}
+use Rattle.std.specs.Prelude.{ℕ, zero, suc, ◌≡◌, ◌<◌, ◌^◌, true, false, List, [], ◌∷◌, drop}
 use Rattle.std.proofs.Math.Option.{Option, none, some}
 use Rattle.script_spec.specs.Base.{Bytes, firsts, seconds}
 use Rattle.script_spec.specs.Tree as tree
 use Rattle.script_spec.specs.Tree.{TermMark}
 use Rattle.script_spec.specs.Fields.{Entry, term}
 use Rattle.index.specs.Standing.{entry_of, entry_at}
-use Rattle.read_field.specs.Takes.{prefix_number}
+use Rattle.read_field.specs.Takes.{prefix_number, IsPrefix}
 use Rattle.read_operator.specs.Operators.{op_of}
 use Rattle.index.specs.Lists.{number_at}
 use Rattle.index_entry.specs.Places.{named_items}
@@ -58,10 +58,35 @@ term_said (entry.Record c) = some (term (tree.Record (names_in c)) (children_in 
 term_said (entry.App t o c) = some (term (tree.App t (op_of o)) (children_in c))
 term_said entry.Unreadable = none
 
+-- an extension value as it is read: an address has its bits, and none is `None` alone
+abbrev pub ValueFits : Value → Type 0
+ValueFits (value.V4 a p) = (a < 2 ^ 32) × IsPrefix p
+ValueFits (value.V6 a p) = IsPrefix p
+ValueFits (value.Decimal n) = Unit {0}
+ValueFits (value.Datetime n) = Unit {0}
+ValueFits (value.Duration n) = Unit {0}
+
+-- so is the value of a term
+abbrev pub TermFits : TermEntry → Type 0
+TermFits (entry.Var id t) = Unit {0}
+TermFits (entry.BoolLit b) = Unit {0}
+TermFits (entry.BitVecLit n v) = Unit {0}
+TermFits (entry.StringLit s) = Unit {0}
+TermFits (entry.Entity t id) = Unit {0}
+TermFits (entry.ExtLit v) = ValueFits v
+TermFits (entry.None t) = Unit {0}
+TermFits (entry.Some n) = Unit {0}
+TermFits (entry.Set t c) = Unit {0}
+TermFits (entry.Record c) = Unit {0}
+TermFits (entry.App t o c) = Unit {0}
+TermFits entry.Unreadable = Unit {0}
+
 -- a body that is a term under a mark is this term
 pub record IsTerm (mark : Option Bytes) (body : Bytes) (r : TermEntry) : Type 0 where
   pub go : (m : Bytes) (t : TermMark ℕ ℕ) (rs : List ℕ) → mark ≡ some m → entry_of m body ≡ some (term t rs) → term_said r ≡ some (term t rs)
+  pub fits : TermFits r
 
 -- a record that is a term at an offset of a file is this term
 pub record TermAt (file : Bytes) (offset : ℕ) (r : TermEntry) : Type 0 where
   pub go : (t : TermMark ℕ ℕ) (rs : List ℕ) → entry_at file offset ≡ some (term t rs) → term_said r ≡ some (term t rs)
+  pub fits : TermFits r

@@ -1,12 +1,16 @@
 // The records of an accepted file, read again by their offsets.
 ghost use Rattle.std.specs.Prelude.{◌≡◌, get_or};
-ghost use Rattle.index.specs.Standing.{mark_at};
+ghost use Rattle.index.specs.Standing.{mark_at, body_at};
 ghost use Rattle.index.specs.Lists.{number_at};
 
 use read_field::Cursor;
 
 // The body of the record at an offset, as the file's own bytes.
-pub use index_compare::record::body_at;
+pub fn body_at<'a>(file: &'a [u8], offset: u32) -> &'a [u8]
+    ensures { result.now ≡ body_at file.now offset }
+{
+    index_compare::record::body_at(file, offset as usize)
+}
 
 // The number in the four bytes at a place; 0 where there are fewer.
 pub fn number_at(body: &[u8], at: usize) -> u32

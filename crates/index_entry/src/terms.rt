@@ -37,7 +37,7 @@ pub struct Compound<'a> {
 // An extension value: an address and its prefix, or 64 bits.
 #[derive(Clone, Copy)]
 pub enum Value {
-    V4(u32, Option<u32>),
+    V4(u64, Option<u32>),
     V6(u128, Option<u32>),
     Decimal(u64),
     Datetime(u64),

@@ -3,7 +3,7 @@ ghost use Rattle.std.specs.Prelude.{◌≡◌, ◌+◌, ◌*◌, ◌^◌, get_or
 ghost use Rattle.index.specs.Lists.{number_at};
 ghost use Rattle.std.proofs.Math.Option.{some};
 ghost use Rattle.script_spec.specs.Base.{bytes};
-ghost use Rattle.read_field.specs.Takes.{prefix_number};
+ghost use Rattle.read_field.specs.Takes.{prefix_number, IsPrefix};
 ghost use Rattle.index_entry.specs.Terms.{IsTerm};
 
 use crate::records::number_at;
@@ -36,7 +36,8 @@ fn low_eight(body: &[u8]) -> u64
 
 // The prefix at a place, if there is one.
 fn prefix_at(body: &[u8], at: usize) -> Option<u32>
-    ensures { prefix_number result ≡ get_or body.now at 0 }
+    ensures is { prefix_number result ≡ get_or body.now at 0 }
+    ensures given { IsPrefix result }
 {
     match byte_at(body, at) {
         NO_PREFIX => None,
@@ -49,7 +50,7 @@ pub fn ext_lit(body: &[u8]) -> TermEntry<'_>
     ensures { IsTerm (some (bytes "XX")) body.now result }
 {
     match byte_at(body, 0) {
-        0 => TermEntry::ExtLit(Value::V4(high_four(body), prefix_at(body, 5))),
+        0 => TermEntry::ExtLit(Value::V4(u64::from(high_four(body)), prefix_at(body, 5))),
         1 => {
             let address = write_bitvec::reading::high_first(read_field::part_of(body, 1, 16));
             TermEntry::ExtLit(Value::V6(address, prefix_at(body, 17)))

@@ -3,7 +3,6 @@
 -- Assumes nothing.
 use mathlib.Core.Path.{◌≡◌, refl, sym, ap, ◌∙◌, subst}
 use Prim.Native.Nat.{ℕ, ◌+◌, ◌-◌, ◌/◌, ◌≤◌, ◌<◌}
-use native.Mathlib.Nat.{le_refl}
 use native.Mathlib.Decide.{dec_lt, ℕ_discrete}
 use native.Mathlib.Omega.{arith}
 use mathlib.Core.Bool.{Bool, true, false, true≢false}
@@ -27,7 +26,7 @@ use Rattle.index_search.specs.declared.slots.Table.{Table}
 use Rattle.index_search.specs.declared.slots.Table.TheVariants.{Types, Funs, Terms, Enums}
 use Rattle.index_search.specs.Tables.{slot_kind}
 use Rattle.index_search.specs.Probed.{Viewed, Other, Met, Unmet, ProbeTold, Probes, SlotTaken, TakesSlot}
-use Rattle.index_search.proofs.Ring.{code_number, empties_some, empty_near, Taken, taken_none, taken_more, empty_here}
+use Rattle.index_search.proofs.Ring.{code_number, empties_some, empty_near, Taken, taken_none, taken_more, empty_here, empty_nowhere}
 
 -- the tables have numbers below 4
 pub kind_small : (t : Table) → slot_kind t < 4
@@ -83,7 +82,7 @@ module _ {work : List ℕ} {k kind count : ℕ} {test : ℕ → Bool → Type 0}
   ends_nowhere P h =
       record {
         told = record {
-          empty = record { most = le_refl k; taken = λ j l. P.slots.taken j (omega arith); empty = λ l. absurd (omega arith) };
+          empty = empty_nowhere P.slots h;
           passed = record { other = λ j n l. P.other.other j n (omega arith) };
         };
       }
@@ -98,8 +97,12 @@ module _ {work : List ℕ} {k kind count : ℕ} {test : ℕ → Bool → Type 0}
 pub viewed : {m : RecordsMut} {v : Records} → (v.file.now ≡ m.file.now) × (v.work.now ≡ m.work.now) × (v.sizes ≡ m.sizes) → Viewed m v
 viewed e = record { file_is = e.0; work_is = e.1; sizes_are = e.2 }
 
-pub slot_taken : {m w : RecordsMut} {kind count b d s code : ℕ} → s ≡ slot m.sizes.rows b d → (count < 1048576 → code ≡ code_of count kind) → Becomes m w (store m.work.now m.sizes.rows hash s code) → SlotTaken m w kind count b d
-slot_taken {m} e q B = record { stays = stays_store _ _ _ _ (stays_same m) B; is = λ h. B.memory ∙ (λ i. store m.work.now m.sizes.rows hash (e i) (q h i)) }
+-- the code of a record of a table
+pub code_is : {code count kind : ℕ} (t : Table) → kind ≡ slot_kind t → (count < 1048576 → kind < 4 → code ≡ code_of count kind) → count < 1048576 → code ≡ code_of count (slot_kind t)
+code_is {count = count} t e q h = q h (omega (arith, kind_small t)) ∙ ap (code_of count) e
+
+pub slot_taken : {m w : RecordsMut} {kind count b d code : ℕ} → (count < 1048576 → code ≡ code_of count kind) → Becomes m w (store m.work.now m.sizes.rows hash (slot m.sizes.rows b d) code) → SlotTaken m w kind count b d
+slot_taken {m} {b = b} {d} q B = record { stays = stays_store _ _ _ _ (stays_same m) B; is = λ h. B.memory ∙ ap (store m.work.now m.sizes.rows hash (slot m.sizes.rows b d)) (q h) }
 
 module _ {m : RecordsMut} {v : Records} {kind count : ℕ} {test : ℕ → Bool → Type 0} {b : ℕ} (V : Viewed m v) where
   -- what the search tells of the records as they are read is so of the records
@@ -144,6 +147,17 @@ module _ {A : Type 0} {k : ℕ} {column : ℕ → ℕ} {kind count : ℕ} {test 
 -- the home of a record, by the records as they are read
 pub home_viewed : (m : RecordsMut) (v : Records) {o b : ℕ} → Viewed m v → Home v.file.now v.work.now v.sizes.rows o b → Home m.file.now m.work.now m.sizes.rows o b
 home_viewed m v V H = rw (V.file_is, V.work_is, V.sizes_are) at H
+
+-- ---- a slot, by its number
+
+module _ (work : List ℕ) (k : ℕ) {column s t : ℕ} (c : column ≡ hash) (e : s ≡ t) where
+  -- what was read in it
+  pub slot_read : {v : ℕ} → v ≡ cell work k column s → v ≡ cell work k hash t
+  slot_read q = q ∙ (λ i. cell work k (c i) (e i))
+
+  -- what is stored in it
+  pub slot_stored : (v : ℕ) {work' : List ℕ} → work' ≡ store work k column s v → work' ≡ store work k hash t v
+  slot_stored v q = q ∙ (λ i. store work k (c i) (e i) v)
 
 -- what was taken is stored in the first empty slot
 pub taken_stored : {work work' : List ℕ} {k b d v : ℕ} → FirstEmpty k (cell work k hash) b d → (0 < k → b < k) → 0 < empties (cell work k hash) k → work' ≡ store work k hash (slot k b d) v → Stored work work' k b v

@@ -2,7 +2,7 @@
 -- Assumes nothing.
 use mathlib.Core.Path.{◌≡◌, refl, sym, ◌∙◌}
 use Prim.Native.Nat.{ℕ, zero, suc, ◌+◌, ◌-◌, ◌/◌, ◌≤◌, ◌<◌}
-use native.Mathlib.Nat.{not-suc-le-zero, div-add-mod', mod-lt}
+use native.Mathlib.Nat.{not-suc-le-zero, le_refl, div-add-mod', mod-lt}
 use native.Mathlib.Decide.{ℕ_discrete, dec_lt}
 use native.Mathlib.Omega.{arith}
 use borrow.Author.Count.{below_more}
@@ -104,3 +104,7 @@ module _ {k : ℕ} {column : ℕ → ℕ} {b : ℕ} where
 
     pub empty_here : v ≡ 0 → FirstEmpty k column b d
     empty_here e = record { most = T.most; taken = T.taken; empty = λ l. sym is ∙ e }
+
+  -- all slots were passed
+  pub empty_nowhere : {d : ℕ} → Taken k column b d → k ≤ d → FirstEmpty k column b k
+  empty_nowhere T h = record { most = le_refl k; taken = λ j l. T.taken j (omega arith); empty = λ l. absurd (omega arith) }

@@ -10,6 +10,7 @@ use Rattle.index.specs.First.{canonical, InRange, NoSet}
 use Rattle.index.specs.Standing.{entry_at}
 use Rattle.index.specs.Meaning.{Rows}
 use Rattle.index.specs.Names.{slot, key_of, scaled, name_home}
+use Rattle.index.specs.Empties.{empties}
 use Rattle.index_search.specs.Slots.{home_of}
 
 -- b is the home slot of a hash, of `rows` slots
@@ -40,3 +41,7 @@ pub record Stored (work work' : List ℕ) (rows b v : ℕ) : Type 0 where
   pub near : distance < rows
   pub first : FirstEmpty rows (cell work rows hash) b distance
   pub is : work' ≡ store work rows hash (slot rows b distance) v
+
+-- v is stored from slot b on, if a slot is empty
+pub record Stores (work work' : List ℕ) (rows b v : ℕ) : Type 0 where
+  pub go : (0 < rows → b < rows) → 0 < empties (cell work rows hash) rows → Stored work work' rows b v

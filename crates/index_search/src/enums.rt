@@ -16,7 +16,7 @@ impl Test for Named<'_> {
     ghost tells = { λ named records n r. IsNamed records.file.now records.work.now records.sizes.rows n named.name.now r };
 
     fn is(&self, records: Records<'_>, n: u32) -> bool {
-        let offset = records.get(Column::EnumOffset, n);
+        let offset = records.get(Column::EnumOffset, n) as usize;
         check_rules::members::name_at(records.file, offset) == self.name
     }
 }

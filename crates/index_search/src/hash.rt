@@ -9,7 +9,7 @@ ghost use Rattle.index.specs.Names.{folded, mixed, mixed_bytes};
 ghost use Rattle.index_search.specs.Hash.{mixed_segment, mixed_segments, record_hash, type_hash};
 
 use index::Records;
-use index_compare::compare::{View, ViewedSegments, byte_at};
+use index_compare::compare::{View, ViewedSegments, byte_after};
 use index_compare::record::first_letter;
 use index_compare::segments::{Referent, Segment};
 use index_compare::shape::{Shape, Terms};
@@ -104,15 +104,15 @@ pub(crate) fn mark_hash(key: u64, a: u8, b: u8) -> u64
 
 // The hash of the mark of the record at an offset.
 #[tactic(auto, unfolding(index::specs::Standing::mark_at))]
-fn mark_hash_at(key: u64, file: &[u8], offset: u32) -> u64
+fn mark_hash_at(key: u64, file: &[u8], offset: usize) -> u64
     ensures { result ≡ mixed_bytes key key (mark_at file.now offset) }
 {
-    let b = byte_at(file, offset as usize + 1);
+    let b = byte_after(file, offset);
     mark_hash(key, first_letter(file, offset), b)
 }
 
 // The hash of the record at an offset, which is no set.
-pub fn record_hash(records: Records<'_>, offset: u32) -> u64
+pub fn record_hash(records: Records<'_>, offset: usize) -> u64
     ensures { result ≡ record_hash records.entry.file.now records.entry.work.now records.entry.sizes.rows offset }
 {
     let key = records.key();
@@ -146,7 +146,7 @@ pub fn segment_hash(key: u64, letter: u8, x: Segment<'_>) -> u64
 }
 
 // The hash of the type of the record term at an offset.
-pub fn listed_hash(key: u64, records: Records<'_>, offset: u32) -> u64
+pub fn listed_hash(key: u64, records: Records<'_>, offset: usize) -> u64
     ensures { result ≡ type_hash key 82 (map (viewed records.entry.work.now records.entry.sizes.rows Listed) (segments_at records.entry.file.now offset)) }
 {
     mix_ahead(

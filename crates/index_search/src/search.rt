@@ -62,7 +62,7 @@ impl Compared {
 
 // Whether the records at two offsets, the second no set, are equal: the same mark, and bodies that agree by the index. Out of line, since most searches meet no record.
 #[inline(never)]
-fn same_at(records: Records<'_>, offset: u32, other: u32) -> bool
+fn same_at(records: Records<'_>, offset: usize, other: usize) -> bool
     ensures { SameAt records.entry.file.now records.entry.work.now records.entry.sizes.rows offset other result }
 {
     crate::octets(records.file);
@@ -74,20 +74,20 @@ fn same_at(records: Records<'_>, offset: u32, other: u32) -> bool
 #[derive(Drop)]
 struct EqualTo {
     offsets: Column,
-    offset: u32,
+    offset: usize,
 }
 
 impl Test for EqualTo {
     ghost tells = { λ equal records n r. SameAt records.file.now records.work.now records.sizes.rows (cell records.work.now records.sizes.rows (number equal.offsets) n) equal.offset r };
 
     fn is(&self, records: Records<'_>, n: u32) -> bool {
-        same_at(records, records.get(self.offsets, n), self.offset)
+        same_at(records, records.get(self.offsets, n) as usize, self.offset)
     }
 }
 
 // The number of the first record of a table that is equal to one that is no set; where there is none, how many the table has, and a slot is taken
 // for the record with that number.
-fn enrol_plain(records: &mut RecordsMut<'_>, table: Compared, offset: u32) -> u32
+fn enrol_plain(records: &mut RecordsMut<'_>, table: Compared, offset: usize) -> u32
     ensures { SetAt records.old.file.now offset None → EnrolsIn records.old records.new (offsets_of table) (firsts_of table) (slot_kind (table_of table)) (counted table records.old.sizes) offset result }
 {
     let searched = table.searched(records.sizes);
@@ -130,7 +130,7 @@ fn enrol_set(records: &mut RecordsMut<'_>, table: Compared, set: Listed<'_>) -> 
 
 // The number of the first record of a table that is equal to the one at an offset; where there is none, how many the table has, and a slot is
 // taken for the record with that number.
-pub fn enrol(records: &mut RecordsMut<'_>, table: Compared, offset: u32) -> u32
+pub fn enrol(records: &mut RecordsMut<'_>, table: Compared, offset: usize) -> u32
     ensures { EnrolsIn records.old records.new (offsets_of table) (firsts_of table) (slot_kind (table_of table)) (counted table records.old.sizes) offset result }
 {
     match sets::set_at(records.file, offset) {

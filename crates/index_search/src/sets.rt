@@ -8,7 +8,7 @@ use crate::hash;
 use crate::slots::Test;
 use check_rules::repeats;
 use index::{Column, Records};
-use index_compare::compare::byte_at;
+use index_compare::compare::byte_after;
 use index_compare::record::{body_at, first_letter};
 use read_field::Cursor;
 
@@ -21,10 +21,10 @@ pub struct Listed<'a> {
 }
 
 // The set at an offset, if what stands there is one.
-pub fn set_at<'a>(file: &'a [u8], offset: u32) -> Option<Listed<'a>>
+pub fn set_at<'a>(file: &'a [u8], offset: usize) -> Option<Listed<'a>>
     ensures { SetAt file.now offset result }
 {
-    if first_letter(file, offset) != b'X' || byte_at(file, offset as usize + 1) != b'C' {
+    if first_letter(file, offset) != b'X' || byte_after(file, offset) != b'C' {
         return None;
     }
     let Ok((ty, after)) = Cursor::new(body_at(file, offset)).u32_le() else {
@@ -75,7 +75,7 @@ pub fn set_hash(records: Records<'_>, set: Listed<'_>) -> u64
 // Whether a set stands at an offset, with this first equal number of its element type and so many elements, each of which has a note. Out of
 // line, since most searches meet no record.
 #[inline(never)]
-fn same_set(records: Records<'_>, offset: u32, ty: u32, count: u32) -> bool
+fn same_set(records: Records<'_>, offset: usize, ty: u32, count: u32) -> bool
     ensures { SameSet records.entry.file.now records.entry.work.now records.entry.sizes.rows offset ty count result }
 {
     let Some(set) = set_at(records.file, offset) else {
@@ -103,6 +103,11 @@ impl Test for EqualSet {
     ghost tells = { λ equal records n r. SameSet records.file.now records.work.now records.sizes.rows (cell records.work.now records.sizes.rows (number equal.offsets) n) equal.ty equal.count r };
 
     fn is(&self, records: Records<'_>, n: u32) -> bool {
-        same_set(records, records.get(self.offsets, n), self.ty, self.count)
+        same_set(
+            records,
+            records.get(self.offsets, n) as usize,
+            self.ty,
+            self.count,
+        )
     }
 }

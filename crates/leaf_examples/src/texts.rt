@@ -51,12 +51,7 @@ pub fn ids(rt: &impl Print) -> io::Result<()> {
 // A comment's text in two pieces.
 fn comment(rt: &impl Print, s: &[u8], t: &[u8]) -> io::Result<()> {
     line(rt, |w| {
-        let mut text = Comment {
-            writer: w,
-            points: 0,
-        };
-        text.put(s);
-        text.put(t)
+        Comment { points: 0 }.put(w, s).put(w, t);
     })
 }
 

@@ -38,6 +38,16 @@ abbrev pub prefix_of : Result (Option ℕ × Cursor) Refusal → Result (ℕ × 
 prefix_of (Ok v) = Ok (prefix_number v.0, v.1)
 prefix_of (Err e) = Err e
 
+-- a prefix that is given is not 255, so that none is `None` alone
+unfoldable pub IsPrefix : Option ℕ → Type 0
+IsPrefix None = Unit {0}
+IsPrefix (Some n) = n ≡ 255 → ⊥
+
+-- so is the prefix of an answer
+abbrev pub PrefixOnOk : Result (Option ℕ × Cursor) Refusal → Type 0
+PrefixOnOk (Ok v) = IsPrefix v.0
+PrefixOnOk (Err e) = Unit {0}
+
 -- an answer that is the moved cursor alone
 abbrev pub moved_of : Result Cursor Refusal → Result (Unit {0} × Cursor) Refusal
 moved_of (Ok c) = Ok (tt, c)

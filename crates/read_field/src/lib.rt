@@ -8,7 +8,7 @@ ghost use Rattle.script_spec.specs.Base.{between};
 ghost use Rattle.script_spec.specs.Fields.{low, byte, part, u32, text, ref, width, element, prefix, ensure};
 ghost use Rattle.refusal.specs.Numbers.{number};
 ghost use Rattle.read_field.specs.Reads.{code, is_element};
-ghost use Rattle.read_field.specs.Takes.{Takes, bytes_of, prefix_of};
+ghost use Rattle.read_field.specs.Takes.{Takes, bytes_of, prefix_of, PrefixOnOk};
 
 use refusal::Refusal;
 
@@ -126,7 +126,8 @@ impl<'a> Cursor<'a> {
 
     // A prefix below `bound`, or none.
     pub fn prefix(self, bound: u32) -> Result<(Option<u32>, Cursor<'a>), Refusal>
-        ensures { Takes (prefix bound) self.entry (prefix_of result) }
+        ensures takes { Takes (prefix bound) self.entry (prefix_of result) }
+        ensures given { PrefixOnOk result }
     {
         let (n, c) = self.byte()?;
         if n == NO_PREFIX {

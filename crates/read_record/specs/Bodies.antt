@@ -1,10 +1,10 @@
 -- What reading a whole body answers.
 -- Assumes nothing.
-use Rattle.std.specs.Prelude.{ℕ, Bool, ◌&&◌, List, [], ◌∷◌, ltb, length, take, drop, get_or, Result, Ok, Err}
+use Rattle.std.specs.Prelude.{ℕ, Bool, ◌&&◌, List, [], ◌∷◌, ltb, length, take, drop, get_or, Option as Optional, Result, Ok, Err}
 use Rattle.std.proofs.Math.Option.{Option, none, some}
 use Rattle.script_spec.specs.Base.{Bytes, bytes, same}
 use Rattle.script_spec.specs.Fields.{Read, got, bad, Reader, Entry, Earlier, with_type, whole}
-use Rattle.read_record.specs.Marks.{reader_of}
+use Rattle.read_record.specs.Marks.{reader_of, reader_if}
 use Rattle.read_record.specs.declared.mark.Kind.{Kind}
 use Rattle.refusal.specs.declared.Refusal.{Refusal}
 use Rattle.refusal.specs.Numbers.{number}
@@ -35,6 +35,10 @@ read_by e typed (some reader) body = valueless (whole (with_type e typed reader 
 -- the same by the mark's kind
 unfoldable pub body_read : Earlier → Bool → Kind → Bytes → Read (Unit {0})
 body_read e typed kind body = read_by e typed (reader_of e kind) body
+
+-- and by the kind of a mark: refusal 4 where there is no kind
+unfoldable pub marked_read : Earlier → Bool → Optional Kind → Bytes → Read (Unit {0})
+marked_read e typed kind body = read_by e typed (reader_if e kind) body
 
 -- the fields have been read: refusal 5 if bytes are left over
 unfoldable pub all_read : Read (Unit {0}) → Read (Unit {0})

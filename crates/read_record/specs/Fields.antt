@@ -1,6 +1,6 @@
 -- The fields that each mark's body has, and what each field reads.
 -- Assumes nothing.
-use Rattle.std.specs.Prelude.{ℕ, ◌^◌, Bool, true, false, List, [], ◌∷◌, ltb}
+use Rattle.std.specs.Prelude.{ℕ, ◌^◌, Bool, true, false, List, [], ◌∷◌, ltb, Option, None, Some}
 use Rattle.script_spec.specs.Tree.{Value, V4, V6, DecimalV, DatetimeV, DurationV}
 use Rattle.script_spec.specs.Fields.{Reader, ◌>>=◌, pure, ensure, ref, text, width, number, address, prefix, value, operator}
 use Rattle.read_field.specs.Reads.{skim, code}
@@ -40,6 +40,11 @@ fields_of types funs terms kind.XC = row (field.Reference types) (field.List (it
 fields_of types funs terms kind.XR = row (field.List (item.Named terms)) field.Nothing field.Nothing
 fields_of types funs terms kind.XA = row (field.Reference types) (field.Operator funs) (field.List (item.Reference terms))
 fields_of types funs terms kind.IN = row (field.Reference terms) field.Nothing field.Nothing
+
+-- the same by the kind of a mark, and no fields where there is no kind
+unfoldable pub fields_if : ℕ → ℕ → ℕ → Option Kind → Option Fields
+fields_if types funs terms None = None
+fields_if types funs terms (Some k) = Some (fields_of types funs terms k)
 
 -- the field of the type that is written behind them, after so many types
 unfoldable pub final_field : ℕ → Bool → Field

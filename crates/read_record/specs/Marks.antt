@@ -44,3 +44,8 @@ pub record Marked (s : Bytes) (k : Optional Kind) : Type 0 where
 -- the reader of a kind's mark
 unfoldable pub reader_of : Earlier → Kind → Option (Reader Entry)
 reader_of e k = lookup (mark k) (marks e)
+
+-- the same, and no reader where there is no kind
+unfoldable pub reader_if : Earlier → Optional Kind → Option (Reader Entry)
+reader_if e None = none
+reader_if e (Some k) = reader_of e k

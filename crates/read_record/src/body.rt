@@ -4,7 +4,7 @@ ghost use Rattle.script_spec.specs.Fields.{value};
 ghost use Rattle.read_field.specs.Reads.{skim, chosen};
 ghost use Rattle.read_field.specs.Takes.{Takes, moved_of};
 ghost use Rattle.read_record.specs.Fields.{entity, value_below, bit_vec_field, addressed, values, field_reader};
-ghost use Rattle.read_record.specs.Bodies.{is_entity_at, earlier_with, verdict_as, body_read};
+ghost use Rattle.read_record.specs.Bodies.{is_entity_at, earlier_with, verdict_as, body_read, marked_read};
 
 use crate::fields::Field;
 use crate::mark::Kind;
@@ -89,11 +89,16 @@ fn skip<'a>(c: Cursor<'a>, field: Field, earlier: Earlier<'_>) -> Result<Cursor<
     }
 }
 
-// The body of a record, after what stands before it; `typed` is whether a type is written behind its fields.
-pub fn read_body(kind: Kind, typed: bool, body: &[u8], earlier: Earlier<'_>) -> Result<(), Refusal>
+// The body of a record of a kind, after what stands before it; `typed` is whether a type is written behind its fields.
+pub(crate) fn read_under(
+    kind: Kind,
+    typed: bool,
+    body: &[u8],
+    earlier: Earlier<'_>,
+) -> Result<(), Refusal>
     ensures { verdict_as result ≡ body_read (earlier_with earlier.entry.types earlier.entry.funs earlier.entry.terms earlier.entry.file.now earlier.entry.offsets.now) typed kind body.now }
 {
-    let all = fields::fields_of(kind, earlier);
+    let all = fields::row_of(kind, earlier);
     let first = skip(Cursor::new(body), all.0, earlier)?;
     let second = skip(first, all.1, earlier)?;
     let third = skip(second, all.2, earlier)?;
@@ -102,5 +107,20 @@ pub fn read_body(kind: Kind, typed: bool, body: &[u8], earlier: Earlier<'_>) -> 
         Ok(())
     } else {
         Err(Refusal::Misfit)
+    }
+}
+
+// The body of a record by the kind of its mark; under two bytes that are no mark it is refused.
+pub fn read_body(
+    kind: Option<Kind>,
+    typed: bool,
+    body: &[u8],
+    earlier: Earlier<'_>,
+) -> Result<(), Refusal>
+    ensures { verdict_as result ≡ marked_read (earlier_with earlier.entry.types earlier.entry.funs earlier.entry.terms earlier.entry.file.now earlier.entry.offsets.now) typed kind body.now }
+{
+    match kind {
+        None => Err(Refusal::UnknownMark),
+        Some(kind) => read_under(kind, typed, body, earlier),
     }
 }

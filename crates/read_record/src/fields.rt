@@ -1,6 +1,6 @@
 // The fields that each mark's body has.
 ghost use Rattle.std.specs.Prelude.{◌≡◌};
-ghost use Rattle.read_record.specs.Fields.{fields_of, final_field};
+ghost use Rattle.read_record.specs.Fields.{fields_of, fields_if, final_field};
 
 use crate::Earlier;
 use crate::mark::Kind;
@@ -32,7 +32,7 @@ pub enum Field {
 pub struct Fields(pub Field, pub Field, pub Field);
 
 // The fields of a kind's body, after what stands before it.
-pub fn fields_of(kind: Kind, earlier: Earlier<'_>) -> Fields
+pub(crate) fn row_of(kind: Kind, earlier: Earlier<'_>) -> Fields
     ensures { result ≡ fields_of earlier.entry.types earlier.entry.funs earlier.entry.terms kind }
 {
     let Earlier {
@@ -84,6 +84,16 @@ pub fn fields_of(kind: Kind, earlier: Earlier<'_>) -> Fields
             Field::List(Item::Reference(terms)),
         ),
         Kind::IN => Fields(Field::Reference(terms), Field::Nothing, Field::Nothing),
+    }
+}
+
+// The fields of a body by the kind of its mark; under two bytes that are no mark a body has none.
+pub fn fields_of(kind: Option<Kind>, earlier: Earlier<'_>) -> Option<Fields>
+    ensures { result ≡ fields_if earlier.entry.types earlier.entry.funs earlier.entry.terms kind }
+{
+    match kind {
+        None => None,
+        Some(kind) => Some(row_of(kind, earlier)),
     }
 }
 

@@ -68,6 +68,6 @@ pub fn next_record(earlier: Earlier<'_>, at: usize) -> Result<Record, Refusal>
     }
     let end = start + size;
     let typed = mark::is_typed(file[at]);
-    body::read_body(kind, typed, &file[start..end], earlier)?;
+    body::read_under(kind, typed, &file[start..end], earlier)?;
     Ok(Record { kind, start, end })
 }

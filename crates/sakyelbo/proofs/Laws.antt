@@ -25,7 +25,7 @@ use Rattle.encoder.specs.Promise.{encoded_as, Encodes}
 use Rattle.sakyelbo.specs.Answers.{number_of, where_of, Says, SaysSize}
 use Rattle.sakyelbo.specs.declared.Where.{Where}
 use Rattle.sakyelbo.specs.Promise.{ChecksFile, EncodesFile, WritesCommand}
-use Rattle.sakyelbo.proofs.Numbers.{check_number, encode_number, Numbered, checked_numbered, encoded_numbered, command_numbered}
+use Rattle.sakyelbo.proofs.Numbers.{check_number, encode_number, Numbered, checked_numbered, encoded_numbered, command_among}
 
 -- a length is said by itself, with the number 0
 pub says_length : {a : Answer ℕ} {n : ℕ} → a ≡ accepted n → SaysSize a n 0
@@ -109,7 +109,7 @@ writes_command {c} {x} {n = n} {r = r} k s =
     record {
       says = says;
       nowhere = command_nowhere c (length x);
-      accepts = starts_zero (command_written c (length x)) (length x) says k.leaves.holds (command_numbered c (length x));
+      accepts = starts_zero (command_written c (length x)) (length x) says k.leaves.holds (command_among c (length x));
       holds = k.leaves.holds;
     }
 

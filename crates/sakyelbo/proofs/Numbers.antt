@@ -1,5 +1,5 @@
--- A refusal's number is from 1 to 21, 24 or 25, and check's from 1 to 13, or 21: `checked_numbered`, `encoded_numbered`, `command_numbered`. By
--- the numbers of the readers and of the rules, and recursion over the records.
+-- A refusal's number is from 1 to 21, 24 or 25, check's from 1 to 13, or 21, and a command's 6 or 20: `checked_numbered`, `encoded_numbered`,
+-- `command_numbered`, `command_among`. By the numbers of the readers and of the rules, and recursion over the records.
 -- Assumes nothing.
 use Prim.Native.Nat.{ℕ, zero, suc, ◌*◌, ◌≤◌}
 use native.Mathlib.Omega.{arith}
@@ -34,6 +34,10 @@ check_number n = between 1 13 n || eqb n 21
 unfoldable pub encode_number : ℕ → Bool
 encode_number n = between 1 21 n || between 24 25 n
 
+-- and of a command's: a text that is not UTF-8, or too little room
+unfoldable pub command_number : ℕ → Bool
+command_number n = eqb n 6 || eqb n 20
+
 in_encode : {n : ℕ} → 1 ≤ n → n ≤ 21 → T (encode_number n)
 unfolding encode_number between
 in_encode {n} h k = rw (le-leb 1 n h, le-leb n 21 k) tt
@@ -44,7 +48,12 @@ unfolding check_number encode_number between
 check_encode n h =
     ⊎_elim (λ w. let p = and_parts (leb 1 n) (leb n 13) w in in_encode (leb→le 1 n p.0) (omega (arith, leb→le n 13 p.1))) (λ e. rw (eqb→eq n 21 e) tt) (or_cases (between 1 13 n) (eqb n 21) h)
 
--- so are those of the walk
+-- so are a command's
+command_encode : (n : ℕ) → T (command_number n) → T (encode_number n)
+unfolding command_number encode_number between
+command_encode n h = ⊎_elim (λ e. rw (eqb→eq n 6 e) tt) (λ e. rw (eqb→eq n 20 e) tt) (or_cases (eqb n 6) (eqb n 20) h)
+
+-- and those of the walk
 walk_encode : {n q : ℕ} {t : Tm} → Told n t q → T (encode_number n)
 unfolding encode_number between
 walk_encode (high_id h) = tt
@@ -171,9 +180,9 @@ checked_numbered file work =
     either_way (Numbered check_number) _ _ (leb (length file) 1048576) (numbered_refusal check_number 1 0 0 tt)
     (either_way (Numbered check_number) _ _ (leb (2 * length file) work) (numbered_refusal check_number 2 0 0 tt) (records_numbered (length file) [] file))
 
-fitting_numbered : (s : Bytes) (room : ℕ) → Numbered encode_number (fitting s room)
-unfolding fitting encode_number between
-fitting_numbered s room = either_way (Numbered encode_number) _ _ (leb (length s) room) (numbered_refusal encode_number 20 0 0 tt) (numbered_result encode_number s)
+fitting_numbered : (test : ℕ → Bool) → T (test 20) → (s : Bytes) (room : ℕ) → Numbered test (fitting s room)
+unfolding fitting
+fitting_numbered test h s room = either_way (Numbered test) _ _ (leb (length s) room) (numbered_refusal test 20 0 0 h) (numbered_result test s)
 
 -- encode's refusals are 1 to 21, 24 and 25
 pub encoded_numbered : (file : Bytes) (work room : ℕ) → Numbered encode_number (encoded file work room)
@@ -182,14 +191,18 @@ encoded_numbered file work room = from (checked file work) (checked_numbered fil
   where
     walked : (f : TermFile) (x : Answer (List Command)) → encoding f ≡ x → Numbered {A = Bytes} encode_number (elim x as (λ y. Answer Bytes) [ refused n p q ↦ refused n p q | accepted cs ↦ fitting (script cs) room ])
     walked f (refused n p q) e = numbered_refusal encode_number n p q (walk_encode (encoding_refusal f n p q e).1.told)
-    walked f (accepted cs) e = fitting_numbered (script cs) room
+    walked f (accepted cs) e = fitting_numbered encode_number (in_encode {n = 20} (omega arith) (omega arith)) (script cs) room
 
     from : (x : Answer TermFile) → Numbered check_number x
         → Numbered {A = Bytes} encode_number (elim x as (λ y. Answer Bytes) [ refused n p q ↦ refused n p q | accepted f ↦ elim (encoding f) as (λ y. Answer Bytes) [ refused n p q ↦ refused n p q | accepted cs ↦ fitting (script cs) room ] ])
     from (refused n p q) h = numbered_refusal encode_number n p q (check_encode n (h.number n p q refl))
     from (accepted f) h = walked f (encoding f) refl
 
--- so are those of writing a command
-pub command_numbered : (c : Command) (room : ℕ) → Numbered encode_number (command_written c room)
-unfolding command_written encode_number between
-command_numbered c room = either_way (Numbered encode_number) _ _ (all is_utf8 (given c)) (numbered_refusal encode_number 6 0 0 tt) (fitting_numbered (line c) room)
+-- those of writing a command are 6 and 20
+pub command_numbered : (c : Command) (room : ℕ) → Numbered command_number (command_written c room)
+unfolding command_written command_number
+command_numbered c room = either_way (Numbered command_number) _ _ (all is_utf8 (given c)) (numbered_refusal command_number 6 0 0 tt) (fitting_numbered command_number tt (line c) room)
+
+-- and so among encode's
+pub command_among : (c : Command) (room : ℕ) → Numbered encode_number (command_written c room)
+command_among c room = record { number = λ n p q e. command_encode n ((command_numbered c room).number n p q e) }

@@ -121,6 +121,7 @@ fn put_set_option(w: &mut Writer<'_>, option: &[u8], value: &[u8])
 
 impl Command<'_> {
     // Whether each of its texts is UTF-8.
+    #[inline(always)]
     #[tactic(auto, using(crate::proofs::Laws::all_append), unfolding(crate::specs::Commands::command_of, script_spec::specs::Command::given, script_spec::specs::Base::all))]
     fn is_utf8(self) -> bool
         ensures { result ≡ all is_utf8 (given (command_of self.entry)) }
@@ -148,6 +149,7 @@ impl Command<'_> {
     }
 
     // Writes its line.
+    #[inline(always)]
     #[tactic(auto, unfolding(crate::specs::Commands::command_of))]
     pub fn put(self, w: &mut Writer<'_>)
         ensures { Writes w.old w.new (line (command_of self.entry)) }
@@ -172,7 +174,9 @@ impl Command<'_> {
         }
     }
 
-    // Writes its line alone into a buffer, if its texts are UTF-8 and it fits: the length, and zeros past it; else zeros alone.
+    // Writes its line alone into a buffer, if its texts are UTF-8 and it fits: the length, and zeros past it; else zeros alone. In line each of the
+    // twelve functions keeps what its command needs.
+    #[inline(always)]
     pub fn write(self, out: &mut [u8]) -> Result<usize, Refusal>
         ensures { WritesAlone (command_of self.entry) out.old out.new result }
     {

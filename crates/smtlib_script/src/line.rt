@@ -51,10 +51,6 @@ pub fn comment(w: &mut Writer<'_>, text: &[u8])
     ensures { Writes w.old w.new (line (commented text.now)) }
 {
     put_word(w, Word::Comment);
-    let mut comment = Comment {
-        writer: w,
-        points: 0,
-    };
-    comment.put(text);
+    Comment { points: 0 }.put(w, text);
     w.put_byte(b'\n')
 }

@@ -60,11 +60,7 @@ fn put_line(w: &mut Writer<'_>, line: &[u8]) {
     match comment_of(line) {
         Some(text) => {
             w.put(b"; ");
-            Comment {
-                writer: w,
-                points: 0,
-            }
-            .put(text);
+            Comment { points: 0 }.put(w, text);
             w.put_byte(b'\n');
         }
         None => w.put(line),

@@ -36,13 +36,26 @@ impl Named {
 // How much more a name is stored with: the greatest depth.
 const RAISE: u32 = 256;
 
+// The number of the name of the record with number n, by the columns of first equal records and of names, if it has one.
+pub fn get_in(work: &[u32], rows: usize, first: usize, names: usize, n: usize) -> Option<u32>
+    ensures { option_of result ≡ place_of (name_at work.now rows first names n) }
+{
+    let at = index::get(work, rows, first, n);
+    index::get(work, rows, names, at as usize).checked_sub(RAISE + 1)
+}
+
 // The number of the name of the record with number n, if it has one.
 pub fn get(records: Records<'_>, named: Named, n: u32) -> Option<u32>
     ensures { option_of result ≡ place_of (name_at records.entry.work.now records.entry.sizes.rows (first_of named) (names_of named) n) }
 {
     let (first, names) = named.columns();
-    let at = records.get(first, n);
-    records.get(names, at).checked_sub(RAISE + 1)
+    get_in(
+        records.work,
+        records.sizes.rows,
+        first.number(),
+        names.number(),
+        n as usize,
+    )
 }
 
 // What is stored for a name, 0 where that does not fit.
@@ -52,13 +65,27 @@ fn raised(v: u32) -> u32
     v.checked_add(RAISE).unwrap_or(0)
 }
 
+// Names the record with number n, by the columns of first equal records and of names.
+pub fn set_in(work: &mut [u32], rows: usize, first: usize, names: usize, n: usize, v: u32)
+    ensures { work.new ≡ name_stored work.old rows names (cell work.old rows first n) v }
+{
+    let at = index::get(work, rows, first, n);
+    index::set(work, rows, names, at as usize, raised(v))
+}
+
 // Names the record with number n.
 pub fn set(records: &mut RecordsMut<'_>, named: Named, n: u32, v: u32)
     ensures { Becomes records.old records.new (name_stored records.old.work.now records.old.sizes.rows (names_of named) (cell records.old.work.now records.old.sizes.rows (first_of named) n) v) }
 {
     let (first, names) = named.columns();
-    let at = records.get(first, n);
-    records.set(names, at, raised(v))
+    set_in(
+        &mut *records.work,
+        records.sizes.rows,
+        first.number(),
+        names.number(),
+        n as usize,
+        v,
+    )
 }
 
 // Writes a name: its letter and its number. Nothing is written where there is no name.

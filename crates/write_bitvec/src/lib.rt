@@ -18,7 +18,7 @@ pub struct BitVec {
 }
 
 // 2^k, or 0 where that is not below 2^128.
-fn power(k: u32) -> u128
+pub fn power(k: u32) -> u128
     ensures { result ≡ 2 ^ k % 2 ^ 128 }
 {
     if k < 128 { 1 << k } else { 0 }
@@ -35,7 +35,7 @@ pub fn fits(width: u32, value: u128) -> bool
 }
 
 // A value's last `width` bits.
-fn wrap(width: u32, value: u128) -> u128
+pub fn wrap(width: u32, value: u128) -> u128
     ensures { result ≡ value % 2 ^ width }
 {
     if width < 128 {

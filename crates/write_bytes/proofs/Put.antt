@@ -5,12 +5,24 @@ use mathlib.Core.List.{[], ◌∷◌, ◌++◌}
 use Prim.Native.Nat.{ℕ, zero, suc, ◌+◌, ◌-◌, ◌≤◌, ◌<◌, min}
 use native.Mathlib.Nat.{not-suc-le-zero}
 use native.Mathlib.Omega.{arith}
-use lib.ListN.{length, take, drop, set, length-append, length-take, length-drop, length-set}
+use lib.ListN.{length, take, drop, set, get_or, length-append, length-take, length-drop, length-set}
+use lib.Seq.{take_all}
+use Rattle.std.proofs.lemmas.List.{take_more, take_more_set}
 use Rattle.script_spec.specs.Base.{Bytes}
 use Rattle.write_bytes.specs.declared.writer.Writer.{Writer}
 use Rattle.write_bytes.specs.Writing.{laid, longest, ceiling}
 use Rattle.write_bytes.specs.Writers.{Writes}
 use Rattle.write_bytes.proofs.Laws.{length_laid, laid_nil, laid_full}
+
+-- ---- bytes copied over a part
+
+-- one byte more
+pub copied_more : (x s : Bytes) (i : ℕ) → i < length x → i < length s → take i x ≡ take i s → take (i + 1) (set x i (get_or s i 0)) ≡ take (i + 1) s
+copied_more x s i h k e = take_more_set x i (get_or s i 0) h ∙ ap (λ (t : Bytes). t ++ (get_or s i 0 ∷ [])) e ∙ sym (take_more s i 0 k)
+
+-- all of them
+pub copied_all : (x s : Bytes) (i : ℕ) → length x ≡ length s → length s ≤ i → take i x ≡ take i s → x ≡ s
+copied_all x s i h k e = sym (take_all i x (omega arith)) ∙ e ∙ take_all i s k
 
 -- ---- bytes laid over a part
 

@@ -28,6 +28,16 @@ pub trait Line: Drop {
         ensures { written self w.old w.new };
 }
 
+// Copies a text over a part of its length. Of the loop the compiler makes a `memcpy`, and a fixed move where the length is known.
+fn copy(out: &mut [u8], s: &[u8])
+    requires { length out.old ≡ length s.now }
+    ensures { out.new ≡ s.now }
+{
+    for i in 0..s.len() {
+        out[i] = s[i];
+    }
+}
+
 impl<'a> Writer<'a> {
     // A writer at the start of a buffer, all of which counts.
     pub fn new(out: &'a mut [u8]) -> Writer<'a>
@@ -61,7 +71,7 @@ impl<'a> Writer<'a> {
         let end = self.end();
         let from = self.at.min(end);
         if s.len() <= end - from {
-            self.out[from..from + s.len()].copy_from_slice(s);
+            copy(&mut self.out[from..from + s.len()], s);
             self.at += s.len();
             return;
         }
@@ -76,7 +86,7 @@ impl<'a> Writer<'a> {
         let end = self.end();
         let from = self.at.min(end);
         let n = s.len().min(end - from);
-        self.out[from..from + n].copy_from_slice(&s[..n]);
+        copy(&mut self.out[from..from + n], &s[..n]);
         self.at = self.after(s.len());
     }
 

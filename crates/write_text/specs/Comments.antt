@@ -15,19 +15,18 @@ pub record Cuts (s : Bytes) (n : ℕ) (c : Cut) : Type 0 where
   pub kept : (r : Bytes) → cut_after n (s ++ r) ≡ take c.end s ++ cut_after c.points r
 
 -- nothing is written of a comment's text any more
-unfoldable pub over : Comment → Bool
-over c = ltb 200 c.points || ltb (ceiling c.writer.now.limit) c.writer.now.at
+unfoldable pub over : Writer → Comment → Bool
+over w c = ltb 200 c.points || ltb (ceiling w.limit) w.at
 
--- from the writer v on the text t of a comment is written; unless the place is past the limit, whatever text follows t is cut as after
--- the code points of c
-pub record Commented (v : Writer) (c : Comment) (t : Bytes) : Type 0 where
-  pub wrote : Writes v c.writer.now (one_line t)
-  pub counted : c.writer.now.at ≤ ceiling c.writer.now.limit → (r : Bytes) → cut_after 0 (t ++ r) ≡ cut_after 0 t ++ cut_after c.points r
+-- from the writer u to the writer v the text t of a comment is written; unless the place is past the limit, whatever text follows t is
+-- cut as after the code points of c
+pub record Commented (u v : Writer) (c : Comment) (t : Bytes) : Type 0 where
+  pub wrote : Writes u v (one_line t)
+  pub counted : v.at ≤ ceiling v.limit → (r : Bytes) → cut_after 0 (t ++ r) ≡ cut_after 0 t ++ cut_after c.points r
 
--- what going on with the text s does to a comment, whatever was written before it
-pub record Comments (c d : Comment) (s : Bytes) : Type 0 where
-  pub lent : d.writer.ghost_name ≡ c.writer.ghost_name
-  pub same : d.writer.now.out.ghost_name ≡ c.writer.now.out.ghost_name
-  pub limit_is : d.writer.now.limit ≡ c.writer.now.limit
-  pub size : length d.writer.now.out.now ≡ length c.writer.now.out.now
-  pub go : (v : Writer) (t : Bytes) → Commented v c t → Commented v d (t ++ s)
+-- what going on with the text s does to a writer v with the comment c, whatever was written before it
+pub record Comments (v : Writer) (c : Comment) (w : Writer) (d : Comment) (s : Bytes) : Type 0 where
+  pub same : w.out.ghost_name ≡ v.out.ghost_name
+  pub limit_is : w.limit ≡ v.limit
+  pub size : length w.out.now ≡ length v.out.now
+  pub go : (u : Writer) (t : Bytes) → Commented u v c t → Commented u w d (t ++ s)

@@ -7,11 +7,10 @@ ghost use Rattle.write_text.specs.Comments.{over, Cuts, Comments};
 use crate::Place;
 use write_bytes::writer::Writer;
 
-// A comment's text as far as it is written: where it is written, and how many code points it has; one more than the most where it is
-// cut. It begins as `Comment { writer, points: 0 }`.
-#[derive(Drop)]
-pub struct Comment<'w, 'o> {
-    pub writer: &'w mut Writer<'o>,
+// A comment's text as far as it is written: how many code points it has; one more than the most where it is cut. It begins as
+// `Comment { points: 0 }`.
+#[derive(Clone, Copy)]
+pub struct Comment {
     pub points: usize,
 }
 
@@ -72,24 +71,26 @@ fn cut_text(s: &[u8], points: usize) -> Cut
     }
 }
 
-impl<'w, 'o> Comment<'w, 'o> {
+impl Comment {
     // Whether nothing is written of the text any more, since it is cut or past the limit.
     #[tactic(auto, unfolding(crate::specs::Comments::over))]
-    pub fn is_over(&self) -> bool
-        ensures { result ≡ over self.now }
+    pub fn is_over(self, w: &Writer<'_>) -> bool
+        ensures { result ≡ over w.now self }
     {
-        crate::MOST < self.points || self.writer.is_past()
+        crate::MOST < self.points || w.is_past()
     }
 
     // Goes on with the text. Past its end and past the limit the piece is not looked at.
-    pub fn put(&mut self, s: &[u8])
-        ensures { Comments self.old self.new s.now }
+    pub fn put(self, w: &mut Writer<'_>, s: &[u8]) -> Comment
+        ensures { Comments w.old self w.new result s.now }
     {
-        if self.is_over() {
-            return;
+        if self.is_over(w) {
+            return self;
         }
         let kept = cut_text(s, self.points);
-        put_blanked(self.writer, &s[..kept.end]);
-        self.points = kept.points;
+        put_blanked(w, &s[..kept.end]);
+        Comment {
+            points: kept.points,
+        }
     }
 }

@@ -4,6 +4,7 @@ use mathlib.Core.Path.{◌≡◌, sym, ap, ◌∙◌}
 use mathlib.Core.Bool.{Bool, true}
 use mathlib.Core.List.{List, [], ◌∷◌, ◌++◌, append-nil, append_assoc}
 use Rattle.script_spec.specs.Base.{Bytes, bytes, joined, collect}
+use Rattle.write_bytes.specs.declared.writer.Writer.{Writer}
 use Rattle.write_text.specs.Comments.{Comments, over}
 use Rattle.write_text.specs.declared.comment.Comment.{Comment}
 use Rattle.write_text.proofs.CommentLaws.{◌also◌, text_says, comment_over}
@@ -20,22 +21,22 @@ joined_led x (y ∷ ys) = ap (λ (s : Bytes). x ++ (bytes ", " ++ s)) (joined_le
 
 -- ---- loops
 
--- a comment went on from c to d, and `todo` is what is left of the whole
-pub record Led (c d : Comment) (todo whole : Bytes) : Type 0 where
+-- a writer with a comment went on from v and c to w and d, and `todo` is what is left of the whole
+pub record Led (v : Writer) (c : Comment) (w : Writer) (d : Comment) (todo whole : Bytes) : Type 0 where
   pub done : Bytes
-  pub wrote : Comments c d done
+  pub wrote : Comments v c w d done
   pub rest : done ++ todo ≡ whole
 
-pub led_start : {c d : Comment} {s x : Bytes} (xs : List Bytes) → s ≡ x → Comments c d s → Led c d (led xs) (joined (bytes ", ") (x ∷ xs))
+pub led_start : {v w : Writer} {c d : Comment} {s x : Bytes} (xs : List Bytes) → s ≡ x → Comments v c w d s → Led v c w d (led xs) (joined (bytes ", ") (x ∷ xs))
 led_start {s = s} {x = x} xs e A = record { done = s; wrote = A; rest = rw e (sym (joined_led x xs)) }
 
-pub led_step : {c d e : Comment} {s x whole : Bytes} (xs : List Bytes) → s ≡ x → Led c d (led (x ∷ xs)) whole → Comments d e (bytes ", " ++ s) → Led c e (led xs) whole
+pub led_step : {v w y : Writer} {c d e : Comment} {s x whole : Bytes} (xs : List Bytes) → s ≡ x → Led v c w d (led (x ∷ xs)) whole → Comments w d y e (bytes ", " ++ s) → Led v c y e (led xs) whole
 unfolding led collect
 led_step {s = s} xs q l A = record { done = l.done ++ (bytes ", " ++ s); wrote = l.wrote also A; rest = append_assoc l.done (bytes ", " ++ s) (led xs) ∙ (rw (← q) at l.rest) }
 
-pub led_end : {c d : Comment} {whole : Bytes} → Led c d (led []) whole → Comments c d whole
+pub led_end : {v w : Writer} {c d : Comment} {whole : Bytes} → Led v c w d (led []) whole → Comments v c w d whole
 unfolding led collect
 led_end l = text_says (sym (append-nil l.done) ∙ l.rest) l.wrote
 
-pub led_over : {c d : Comment} {b : Bool} {todo whole : Bytes} → Led c d todo whole → b ≡ over d → b ≡ true → Comments c d whole
+pub led_over : {v w : Writer} {c d : Comment} {b : Bool} {todo whole : Bytes} → Led v c w d todo whole → b ≡ over w d → b ≡ true → Comments v c w d whole
 led_over l e h = text_says l.rest (l.wrote also comment_over e h)

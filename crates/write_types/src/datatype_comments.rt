@@ -16,13 +16,7 @@ pub fn put_enum_comment(w: &mut Writer<'_>, name: &[u8], members: Texts<'_>)
     ensures { Writes w.old w.new (line (comment (entity_comment name.now (some (texts_in members.entry))))) }
 {
     smtlib_script::line::put_word(w, Word::Comment);
-    let mut text = Comment {
-        writer: w,
-        points: 0,
-    };
-    text.put(name);
-    text.put(b"::[");
-    comments::put_texts(&mut text, members);
-    text.put(b"]");
+    let text = Comment { points: 0 }.put(w, name).put(w, b"::[");
+    comments::put_texts(w, text, members).put(w, b"]");
     w.put_byte(b'\n')
 }

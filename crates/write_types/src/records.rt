@@ -90,12 +90,7 @@ pub fn put_record_comment(w: &mut Writer<'_>, attributes: Children<'_>)
     ensures { Writes w.old w.new (line (comment (bytes "{" ⊹ joined (bytes ", ") (names_in attributes.entry) ⊹ bytes "}"))) }
 {
     smtlib_script::line::put_word(w, Word::Comment);
-    let mut text = Comment {
-        writer: w,
-        points: 0,
-    };
-    text.put(b"{");
-    comments::put_texts(&mut text, attributes.names());
-    text.put(b"}");
+    let text = Comment { points: 0 }.put(w, b"{");
+    comments::put_texts(w, text, attributes.names()).put(w, b"}");
     w.put_byte(b'\n')
 }

@@ -15,8 +15,8 @@ returns-in_default c = next_unknown _ c.args.earlier.file.now c.args.at (omega a
 pub returns-then-file-start : goal.returns-then-file-start
 returns-then-file-start c = next_past _ c.args.earlier.file.now c.args.at (omega arith) c.untyped.ensures c.in-Some.kind c.in-Some.ensures _ c.word-size.ensures c.if-file-start.true
 
-pub returns-in_err-read_body : goal.returns-in_err-read_body
-returns-in_err-read_body c = rw (handed_on _ c.from_residual.ensures.1) (next_bad _ c.args.earlier.file.now c.args.at (omega arith) c.untyped.ensures c.in-Some.kind c.in-Some.ensures _ c.word-size.ensures c.if-file-start.false _ (add-sub_cancel_left _ _) c.is_typed-typed.ensures c.in_err-read_body.ensures)
+pub returns-in_err-read_under : goal.returns-in_err-read_under
+returns-in_err-read_under c = rw (handed_on _ c.from_residual.ensures.1) (next_bad _ c.args.earlier.file.now c.args.at (omega arith) c.untyped.ensures c.in-Some.kind c.in-Some.ensures _ c.word-size.ensures c.if-file-start.false _ (add-sub_cancel_left _ _) c.is_typed-typed.ensures c.in_err-read_under.ensures)
 
 pub returns : goal.returns
-returns c = next_fine _ c.args.earlier.file.now c.args.at (omega arith) c.untyped.ensures c.in-Some.kind c.in-Some.ensures _ c.word-size.ensures c.if-file-start.false _ (add-sub_cancel_left _ _) c.is_typed-typed.ensures c.in_ok-read_body.ensures
+returns c = next_fine _ c.args.earlier.file.now c.args.at (omega arith) c.untyped.ensures c.in-Some.kind c.in-Some.ensures _ c.word-size.ensures c.if-file-start.false _ (add-sub_cancel_left _ _) c.is_typed-typed.ensures c.in_ok-read_under.ensures

@@ -8,4 +8,4 @@ use Rattle.index_compare.proofs.Shapes.{segments_by}
 use Rattle.index_compare.proofs.shape.shape_at.Goals as goal
 
 pub returns : goal.returns
-returns c = subst (λ (l : List Segment). Shaped l c.shape_by.result) (segments_by _ _ c.first_letter.ensures c.byte_at.ensures c.body_at.ensures) c.shape_by.ensures
+returns c = subst (λ (l : List Segment). Shaped l c.shape_by.result) (segments_by _ _ c.first_letter.ensures c.byte_after.ensures c.body_at.ensures) c.shape_by.ensures

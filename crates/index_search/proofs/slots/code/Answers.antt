@@ -4,9 +4,8 @@ use mathlib.Core.Path.{◌∙◌}
 use native.Mathlib.Omega.{arith}
 use Rattle.index.specs.Names.{code_of}
 use Rattle.index_search.proofs.Narrow.{narrowed}
-use Rattle.index_search.proofs.Probing.{kind_small}
 use Rattle.index_search.proofs.slots.code.Goals as goal
 
 pub returns : goal.returns
 unfolding code_of
-returns c = λ h. narrowed _ _ c.try_from.ensures c.unwrap_or.ensures (omega (arith, kind_small c.args.table, c.code_of.ensures)) ∙ c.code_of.ensures
+returns c = λ h small. narrowed _ _ c.try_from.ensures c.unwrap_or.ensures (omega (arith, c.code_of.ensures)) ∙ c.code_of.ensures

@@ -20,7 +20,7 @@ loop-d-preserved g c =
     passed_more c.loop-d.invariant (c.get_row-v.ensures ∙ ap (cell _ _ hash) c.slot.ensures) c.loop-d-test.true c.if-v-eq0.false
     (elim c.else-n-count.branch [
       | else-n-count-via-then-n-count+then-has+else-is w ↦ fails_test (kind_small c.args.table) c.number_of-n.ensures w.is.ensures w.if-is.false
-      | else-n-count-via-then-n-count+else-has w ↦ fails_other (kind_small c.args.table) c.number_of-n.ensures w.has.ensures w.if-has.false
+      | else-n-count-via-then-n-count+else-has w ↦ fails_other (kind_small c.args.table) c.number_of-n.ensures (rw w.kind.ensures at w.has.ensures) w.if-has.false
       | else-n-count-via-else-n-count w ↦ fails_past (kind_small c.args.table) c.number_of-n.ensures w.if-n-count.false
     ])
 

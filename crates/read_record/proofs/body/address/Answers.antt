@@ -11,8 +11,8 @@ returns-in_err-rest c = rw (handed_on _ c.from_residual.ensures.1) (refuses_stop
 
 pub returns-in_err-prefix : goal.returns-in_err-prefix
 unfolding addressed address
-returns-in_err-prefix c = rw (handed_on _ c.from_residual-in_err-prefix.ensures.1) (refuses_next _ (takes_next _ c.in_ok-rest.ensures (takes_pure _)) (skims_not c.in_err-prefix.ensures))
+returns-in_err-prefix c = rw (handed_on _ c.from_residual-in_err-prefix.ensures.1) (refuses_next _ (takes_next _ c.in_ok-rest.ensures (takes_pure _)) (skims_not c.in_err-prefix.ensures.takes))
 
 pub returns : goal.returns
 unfolding addressed address
-returns c = takes_next _ (takes_next _ c.in_ok-rest.ensures (takes_pure _)) (skims c.in_ok-prefix.ensures)
+returns c = takes_next _ (takes_next _ c.in_ok-rest.ensures (takes_pure _)) (skims c.in_ok-prefix.ensures.takes)

@@ -6,4 +6,6 @@ use Rattle.write_bitvec.proofs.Division.{decimal_next}
 use Rattle.write_bitvec.proofs.spelling.+put_decimal128.Goals as goal
 
 pub returns : goal.returns
-returns t c = says (decimal_next _ (omega arith)) (c.put_decimal128.ensures then c.put_last_ten.ensures)
+returns t c =
+    let d = c.by_ten_digits-rest.ensures in
+    says (decimal_next _ (omega arith) d.rest d.last) (c.put_decimal128.ensures then c.put_last_ten.ensures)

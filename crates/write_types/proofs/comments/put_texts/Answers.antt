@@ -6,18 +6,18 @@ use Rattle.write_text.proofs.CommentLaws.{◌also◌, no_text}
 use Rattle.write_types.proofs.CommentLaws.{led_start, led_step, led_end, led_over}
 use Rattle.write_types.proofs.comments.put_texts.Goals as goal
 
-pub loop-text-init : goal.loop-text-init
-loop-text-init c = (tt, tt, rw (c.into_iter-text-iterator.ensures.into_iter_gives, c.in-Some.ensures.steps) (led_start _ refl c.put.ensures))
+pub loop-item-init : goal.loop-item-init
+loop-item-init c = (tt, tt, rw (c.into_iter-item-iterator.ensures.into_iter_gives, c.in-Some.ensures.steps) (led_start _ refl c.put-text.ensures))
 
 pub returns-then-is_over : goal.returns-then-is_over
-returns-then-is_over c = led_over c.loop-text.invariant.2 c.is_over.ensures c.if-is_over.true
+returns-then-is_over c = led_over c.loop-item.invariant.2 c.is_over.ensures c.if-is_over.true
 
-pub loop-text-preserved : goal.loop-text-preserved
+pub loop-item-preserved : goal.loop-item-preserved
 unfolding bytes
-loop-text-preserved c = (tt, tt, led_step _ refl (rw c.in-Some-text.ensures.steps at c.loop-text.invariant.2) (c.put-in-loop-text.ensures also c.put-in-loop-text-2.ensures))
+loop-item-preserved c = (tt, tt, led_step _ refl (rw c.in-Some-item.ensures.steps at c.loop-item.invariant.2) (c.put.ensures also c.put-text-in-loop-item.ensures))
 
-pub returns-in-None : goal.returns-in-None
-returns-in-None c = led_end (rw c.in-None.ensures.steps.0 at c.loop-text.invariant.2)
+pub returns : goal.returns
+returns c = led_end (rw c.in-None.ensures.steps.0 at c.loop-item.invariant.2)
 
 pub returns-in_default : goal.returns-in_default
 unfolding joined

@@ -5,7 +5,7 @@ use Rattle.index_entry.specs.Places.{texts_in}
 use Rattle.write_types.proofs.CommentLaws.{led, Led}
 use Rattle.write_types.proofs.comments.put_texts.Given as goal
 
-abbrev pub invariant-loop-text : goal.invariant-loop-text
-invariant-loop-text l =
-    (goal.iterator-loop-text).can_next l.text-iterator × (goal.iterator-loop-text).is_finite l.text-iterator
-    × Led l.fn.comment l.comment (led (texts_in l.text-iterator)) (joined (bytes ", ") (texts_in l.fn.texts))
+abbrev pub invariant-loop-item : goal.invariant-loop-item
+invariant-loop-item l =
+    (goal.iterator-loop-item).can_next l.item-iterator × (goal.iterator-loop-item).is_finite l.item-iterator
+    × Led l.fn.w l.fn.comment l.w l.text (led (texts_in l.item-iterator)) (joined (bytes ", ") (texts_in l.fn.texts))

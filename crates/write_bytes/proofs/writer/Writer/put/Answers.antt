@@ -9,4 +9,4 @@ use Rattle.write_bytes.proofs.writer.Writer.put.Goals as goal
 
 pub returns-then-s-end : goal.returns-then-s-end
 returns-then-s-end c =
-    put_writes {k = length c.args.s.now} (omega arith) c.end-end.ensures c.min-from.ensures (omega arith) (omega arith) (c.copy_from_slice.ensures.after ∙ sym (take_all _ _ (omega arith))) refl
+    put_writes {k = length c.args.s.now} (omega arith) c.end-end.ensures c.min-from.ensures (omega arith) (omega arith) (c.copy.ensures ∙ sym (take_all _ _ (omega arith))) refl

@@ -1,8 +1,8 @@
--- `index::store` meets its contract: a store past the end changes nothing.
+-- `index::set` meets its contract: a store past the end changes nothing.
 -- Assumes nothing.
 use Rattle.index.specs.Cells.{store}
 use Rattle.index.proofs.Cells.{store_nowhere}
-use Rattle.index.proofs.store.Goals as goal
+use Rattle.index.proofs.set.Goals as goal
 
 pub returns-in-Some : goal.returns-in-Some
 unfolding store

@@ -1,8 +1,8 @@
--- `index::Records::get_row` meets its contract: the list has 0 past its end.
+-- `index::get` meets its contract: the list has 0 past its end.
 -- Assumes nothing.
 use Rattle.index.specs.Cells.{cell}
 use Rattle.index.proofs.Cells.{read_nowhere}
-use Rattle.index.proofs.Records.get_row.Goals as goal
+use Rattle.index.proofs.get.Goals as goal
 
 pub returns-in-Some : goal.returns-in-Some
 unfolding cell
