@@ -65,14 +65,14 @@ module _ {body : Bytes} where
   pub term_some : {n : ℕ} → n ≡ number_at body 0 → IsTerm (some (bytes "X1")) body (entry.Some n)
   unfolding marks lookup same bytes term_said ref pure
   term_some {n} number-is =
-      is_term_lem (bytes "X1") _ _ tt refl (λ e h.
+      is_term_lem (bytes "X1") _ _ refl (λ e h.
       bind_inverse (ref loose.terms) _ body h (λ x mid p q. tested_inverse 8 _ body p (λ v d.
       ap (λ (t : ℕ). some (term tree.Some (t ∷ []))) (number-is ∙ v) ∙ ap some (got_value (term tree.Some (x ∷ [])) e mid [] q))))
 
   pub term_set : {n : ℕ} {c : Children} → n ≡ number_at body 0 → ListedAt body 4 false c → IsTerm (some (bytes "XC")) body (entry.Set n c)
   unfolding marks lookup same bytes term_said ref pure number_at
   term_set {n} {c} number-is L =
-      is_term_lem (bytes "XC") _ _ tt refl (λ e h.
+      is_term_lem (bytes "XC") _ _ refl (λ e h.
       bind_inverse (ref loose.types) _ body h (λ x mid p q. tested_inverse 8 _ body p (λ v d.
       bind_inverse (list (ref loose.terms)) _ mid q (λ rs end i j. listed_inverse loose.terms mid i (λ r.
       let typed : n ≡ x = number-is ∙ v in
@@ -84,7 +84,7 @@ module _ {body : Bytes} where
   pub term_record : {c : Children} → ListedAt body 0 true c → IsTerm (some (bytes "XR")) body (entry.Record c)
   unfolding marks lookup same bytes term_said names_in ref pure list
   term_record {c} L =
-      is_term_lem (bytes "XR") _ _ tt refl (λ e h.
+      is_term_lem (bytes "XR") _ _ refl (λ e h.
       bind_inverse (list (pair text (ref loose.terms))) _ body h (λ ps end i j.
       bind_inverse u32 _ body i (λ m mid a b. u32_inverse body a (λ v d.
       let size : c.left ≡ m = L.count ∙ v in
@@ -111,7 +111,7 @@ module _ {body : Bytes} where
     pub term_app : {n : ℕ} {o : Op} {d : Cursor} {c : Children} → r ≡ Ok (o, d) → n ≡ number_at body 0 → ListedAt body d.at false c → IsTerm (some (bytes "XA")) body (entry.App n o c)
     unfolding marks lookup same bytes term_said as_read loose
     term_app {n} {o} {d} {c} e number-is L =
-        is_term_lem (bytes "XA") _ _ tt refl (λ e' h. app_parts body h (λ x y end rs v op listed whole.
+        is_term_lem (bytes "XA") _ _ refl (λ e' h. app_parts body h (λ x y end rs v op listed whole.
         let read : got (op_of o) (drop d.at body) ≡ got y end = rw inside at (again e y end op) in
         let op-is : op_of o ≡ y = got_value (op_of o) y (drop d.at body) end read in
         let typed : n ≡ x = number-is ∙ v in
@@ -120,4 +120,4 @@ module _ {body : Bytes} where
 
     pub no_app : {f : Refusal} → r ≡ Err f → IsTerm (some (bytes "XA")) body entry.Unreadable
     unfolding marks lookup same bytes as_read loose
-    no_app {f} e = is_term_lem (bytes "XA") _ _ tt refl (λ e' h. app_parts body h (λ x y end rs v op listed whole. absurd (again e y end op)))
+    no_app {f} e = is_term_lem (bytes "XA") _ _ refl (λ e' h. app_parts body h (λ x y end rs v op listed whole. absurd (again e y end op)))

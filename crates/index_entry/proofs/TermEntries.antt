@@ -38,7 +38,6 @@ module _ {l : ℕ} (v : l ≡ 86 → ⊥) (b : l ≡ 66 → ⊥) (n : l ≡ 78 �
     go = λ m t rs h g.
         let same : m ≡ term_marked l = cc in
         absurd (other_letter t (term_letter body (rw same at g)));
-    fits = tt;
   }
 
 -- the record at an offset
@@ -46,4 +45,4 @@ pub term_at_lem : {file body : Bytes} {o l : ℕ} {r : TermEntry} → l ≡ get_
 unfolding entry_at
 term_at_lem {file} {body} {o} {l} {r} i e T =
     let here : IsTerm (some (term_marked l)) (body_at file o) r = subst (λ (b : Bytes). IsTerm (some (term_marked l)) b r) e T in
-    record { go = λ t rs g. here.go (mark_at file o) t rs (ap (λ (n : ℕ). some (term_marked n)) i ∙ ap some (term_marked_lem (mark_at file o) (body_at file o) g)) g; fits = T.fits }
+    record { go = λ t rs g. here.go (mark_at file o) t rs (ap (λ (n : ℕ). some (term_marked n)) i ∙ ap some (term_marked_lem (mark_at file o) (body_at file o) g)) g }

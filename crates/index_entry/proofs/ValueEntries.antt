@@ -3,7 +3,7 @@
 use mathlib.Core.Path.{◌≡◌, refl, sym, ap, ◌∙◌}
 use mathlib.Core.List.{[], ◌∷◌}
 use mathlib.Core.Option.{some}
-use Prim.Native.Nat.{ℕ, ◌+◌, ◌*◌, ◌^◌, ◌<◌, ◌≤◌}
+use Prim.Native.Nat.{ℕ, ◌+◌, ◌*◌, ◌^◌, ◌≤◌}
 use native.Mathlib.Omega.{arith}
 use native.Mathlib.Nat.{le_refl}
 use lib.ListN.{length, take, drop, get_or, length-drop}
@@ -15,12 +15,12 @@ use Rattle.script_spec.specs.Fields as fields
 use Rattle.script_spec.specs.Fields.{Entry, got, Reader, ◌>>=◌, pure, byte, number, address, prefix, low, high, part, leaf, marks}
 use Rattle.script_spec.proofs.Readers.{bad_not_got, got_value, got_rest}
 use Rattle.std.specs.Prelude as std
-use Rattle.read_field.specs.Takes.{prefix_number, IsPrefix}
+use Rattle.read_field.specs.Takes.{prefix_number}
 use Rattle.read_field.proofs.Coded.{at_past}
 use Rattle.read_record.specs.Fields.{values}
 use Rattle.index.specs.Lists.{number_at}
 use Rattle.index_entry.proofs.Inverse.{bind_inverse, ensure_inverse, part_inverse, coded_at, coded_none}
-use Rattle.index_entry.specs.Terms.{value_of, term_said, ValueFits, IsTerm}
+use Rattle.index_entry.specs.Terms.{value_of, term_said, IsTerm}
 use Rattle.index_entry.specs.declared.terms.Value.{Value}
 use Rattle.index_entry.specs.declared.terms.Value.TheVariants as val
 use Rattle.index_entry.specs.declared.terms.TermEntry.TheVariants as entry
@@ -95,20 +95,20 @@ abbrev xx : Reader Entry
 xx = ◌>>=◌ fields.value (λ v. pure (leaf (tree.ExtLit v)))
 
 module _ {body : Bytes} {code : ℕ} (r : code ≡ get_or body 0 0) where
-  value_known : (i : ℕ) (reader : Reader tree.Value) {v : Value} → ValueFits v → code ≡ i → at i values ≡ some reader
+  value_known : (i : ℕ) (reader : Reader tree.Value) {v : Value} → code ≡ i → at i values ≡ some reader
       → ((x : tree.Value) (rest : Bytes) → reader (drop 1 body) ≡ got x rest → value_of v ≡ x) → IsTerm (some (bytes "XX")) body (entry.ExtLit v)
   unfolding marks lookup same bytes term_said pure values leaf fields.value
-  value_known i reader {v} given e h is =
-      is_term_lem (bytes "XX") xx _ given refl (λ y g.
+  value_known i reader {v} e h is =
+      is_term_lem (bytes "XX") xx _ refl (λ y g.
       bind_inverse fields.value _ body g (λ x mid p q.
       let known : value_of v ≡ x = is x mid (coded_at values body p (sym e ∙ r) reader h) in
       ap (λ (x : tree.Value). some (leaf (tree.ExtLit x))) known ∙ ap some (got_value (leaf (tree.ExtLit x)) y mid [] q)))
 
   pub value_v4 : {a : ℕ} (p : std.Option ℕ) → code ≡ 0
-      → a ≡ ((get_or body 1 0 * 256 + get_or body 2 0) * 256 + get_or body 3 0) * 256 + get_or body 4 0 → prefix_number p ≡ get_or body 5 0 → (a < 2 ^ 32) × IsPrefix p → IsTerm (some (bytes "XX")) body (entry.ExtLit (val.V4 a p))
+      → a ≡ ((get_or body 1 0 * 256 + get_or body 2 0) * 256 + get_or body 3 0) * 256 + get_or body 4 0 → prefix_number p ≡ get_or body 5 0 → IsTerm (some (bytes "XX")) body (entry.ExtLit (val.V4 a p))
   unfolding values at value_of pure
-  value_v4 {a} p e four short given =
-      value_known 0 _ given e refl (λ x rest g.
+  value_v4 {a} p e four short =
+      value_known 0 _ e refl (λ x rest g.
       bind_inverse (address 4) _ (drop 1 body) g (λ n mid u w. address_inverse 4 (drop 1 body) u (λ l v d.
       bind_inverse (prefix 32) _ mid w (λ m left y z. prefix_inverse 32 mid y (λ b.
       let n-is : a ≡ n = four ∙ sym (four_after body l) ∙ v in
@@ -116,10 +116,10 @@ module _ {body : Bytes} {code : ℕ} (r : code ≡ get_or body 0 0) where
       (λ i. tree.V4 (n-is i) (m-is i)) ∙ got_value (tree.V4 n m) x left rest z)))))
 
   pub value_v6 : {a : ℕ} (p : std.Option ℕ) {s : Bytes} → code ≡ 1 → s ≡ take 16 (drop 1 body) → a ≡ high 0 (take 16 s)
-      → prefix_number p ≡ get_or body 17 0 → IsPrefix p → IsTerm (some (bytes "XX")) body (entry.ExtLit (val.V6 a p))
+      → prefix_number p ≡ get_or body 17 0 → IsTerm (some (bytes "XX")) body (entry.ExtLit (val.V6 a p))
   unfolding values at value_of pure
-  value_v6 {a} p e bs is short given =
-      value_known 1 _ given e refl (λ x rest g.
+  value_v6 {a} p e bs is short =
+      value_known 1 _ e refl (λ x rest g.
       bind_inverse (address 16) _ (drop 1 body) g (λ n mid u w. address_inverse 16 (drop 1 body) u (λ l v d.
       bind_inverse (prefix 128) _ mid w (λ m left y z. prefix_inverse 128 mid y (λ b.
       let n-is : a ≡ n = is ∙ ap (λ (s : Bytes). high 0 (take 16 s)) bs ∙ ap (high 0) (take-take 16 16 (drop 1 body) (le_refl 16)) ∙ v in
@@ -127,16 +127,16 @@ module _ {body : Bytes} {code : ℕ} (r : code ≡ get_or body 0 0) where
       (λ i. tree.V6 (n-is i) (m-is i)) ∙ got_value (tree.V6 n m) x left rest z)))))
 
   -- 64 bits
-  pub value_bits : {n : ℕ} (i : ℕ) (k : ℕ → tree.Value) (v : Value) → ValueFits v → code ≡ i → at i values ≡ some (◌>>=◌ (number 8) (λ n. pure (k n)))
+  pub value_bits : {n : ℕ} (i : ℕ) (k : ℕ → tree.Value) (v : Value) → code ≡ i → at i values ≡ some (◌>>=◌ (number 8) (λ n. pure (k n)))
       → value_of v ≡ k n → n ≡ number_at body 1 + number_at body 5 * 2 ^ 32 → IsTerm (some (bytes "XX")) body (entry.ExtLit v)
   unfolding pure
-  value_bits i k v given e h is bits =
-      value_known i _ given e h (λ x rest g.
+  value_bits i k v e h is bits =
+      value_known i _ e h (λ x rest g.
       bind_inverse (number 8) _ (drop 1 body) g (λ m mid u w. number_inverse 8 (drop 1 body) u (λ l t.
       is ∙ ap k (bits ∙ eight_after body l ∙ t) ∙ got_value (k m) x mid rest w)))
 
   pub value_unknown : 5 ≤ code → IsTerm (some (bytes "XX")) body entry.Unreadable
   unfolding marks lookup same bytes values fields.value
   value_unknown h =
-      is_term_lem (bytes "XX") xx _ tt refl (λ y g.
+      is_term_lem (bytes "XX") xx _ refl (λ y g.
       bind_inverse fields.value _ body g (λ x mid p q. absurd (coded_none values body p r (at_past values code h))))

@@ -84,9 +84,7 @@ TermFits entry.Unreadable = Unit {0}
 -- a body that is a term under a mark is this term
 pub record IsTerm (mark : Option Bytes) (body : Bytes) (r : TermEntry) : Type 0 where
   pub go : (m : Bytes) (t : TermMark ℕ ℕ) (rs : List ℕ) → mark ≡ some m → entry_of m body ≡ some (term t rs) → term_said r ≡ some (term t rs)
-  pub fits : TermFits r
 
 -- a record that is a term at an offset of a file is this term
 pub record TermAt (file : Bytes) (offset : ℕ) (r : TermEntry) : Type 0 where
   pub go : (t : TermMark ℕ ℕ) (rs : List ℕ) → entry_at file offset ≡ some (term t rs) → term_said r ≡ some (term t rs)
-  pub fits : TermFits r

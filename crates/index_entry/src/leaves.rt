@@ -1,7 +1,7 @@
 // Terms that refer to no terms, by the fields of their bodies; extension values apart.
 ghost use Rattle.std.proofs.Math.Option.{some};
 ghost use Rattle.script_spec.specs.Base.{bytes};
-ghost use Rattle.index_entry.specs.Terms.{IsTerm};
+ghost use Rattle.index_entry.specs.Terms.{IsTerm, TermFits};
 
 use crate::lists::{past_text, text_at};
 use crate::records::number_at;
@@ -10,7 +10,8 @@ use index_compare::compare::byte_at;
 
 // A variable: its id and its type.
 pub fn variable(body: &[u8]) -> TermEntry<'_>
-    ensures { IsTerm (some (bytes "XV")) body.now result }
+    ensures is { IsTerm (some (bytes "XV")) body.now result }
+    ensures fits { TermFits result }
 {
     let t = number_at(body, past_text(body, 0));
     TermEntry::Var(text_at(body, 0), t)
@@ -18,7 +19,8 @@ pub fn variable(body: &[u8]) -> TermEntry<'_>
 
 // A truth value: 0 false, 1 true.
 pub fn bool_lit(body: &[u8]) -> TermEntry<'_>
-    ensures { IsTerm (some (bytes "XB")) body.now result }
+    ensures is { IsTerm (some (bytes "XB")) body.now result }
+    ensures fits { TermFits result }
 {
     match byte_at(body, 0) {
         0 => TermEntry::BoolLit(false),
@@ -29,7 +31,8 @@ pub fn bool_lit(body: &[u8]) -> TermEntry<'_>
 
 // A bit vector: its width and 16 bytes, low byte first.
 pub fn bit_vec_lit(body: &[u8]) -> TermEntry<'_>
-    ensures { IsTerm (some (bytes "XN")) body.now result }
+    ensures is { IsTerm (some (bytes "XN")) body.now result }
+    ensures fits { TermFits result }
 {
     let width = number_at(body, 0);
     let value = write_bitvec::reading::low_first(read_field::part_of(body, 4, 16));
@@ -38,14 +41,16 @@ pub fn bit_vec_lit(body: &[u8]) -> TermEntry<'_>
 
 // A text.
 pub fn string_lit(body: &[u8]) -> TermEntry<'_>
-    ensures { IsTerm (some (bytes "XS")) body.now result }
+    ensures is { IsTerm (some (bytes "XS")) body.now result }
+    ensures fits { TermFits result }
 {
     TermEntry::StringLit(text_at(body, 0))
 }
 
 // An entity: its type and its id.
 pub fn entity_lit(body: &[u8]) -> TermEntry<'_>
-    ensures { IsTerm (some (bytes "XE")) body.now result }
+    ensures is { IsTerm (some (bytes "XE")) body.now result }
+    ensures fits { TermFits result }
 {
     let t = number_at(body, 0);
     let id = text_at(body, 4);
@@ -54,7 +59,8 @@ pub fn entity_lit(body: &[u8]) -> TermEntry<'_>
 
 // The empty option: the type of what it could have.
 pub fn none_of(body: &[u8]) -> TermEntry<'_>
-    ensures { IsTerm (some (bytes "X0")) body.now result }
+    ensures is { IsTerm (some (bytes "X0")) body.now result }
+    ensures fits { TermFits result }
 {
     TermEntry::None(number_at(body, 0))
 }

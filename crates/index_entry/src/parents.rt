@@ -2,7 +2,7 @@
 ghost use Rattle.std.specs.Prelude.{true, false};
 ghost use Rattle.std.proofs.Math.Option.{some};
 ghost use Rattle.script_spec.specs.Base.{bytes};
-ghost use Rattle.index_entry.specs.Terms.{IsTerm};
+ghost use Rattle.index_entry.specs.Terms.{IsTerm, TermFits};
 ghost use Rattle.index_entry.specs.Children.{ListedAt, IsChildren};
 
 use crate::records::number_at;
@@ -11,7 +11,8 @@ use read_field::Cursor;
 
 // An option that has a value.
 pub fn some_of(body: &[u8]) -> TermEntry<'_>
-    ensures { IsTerm (some (bytes "X1")) body.now result }
+    ensures is { IsTerm (some (bytes "X1")) body.now result }
+    ensures fits { TermFits result }
 {
     TermEntry::Some(number_at(body, 0))
 }
@@ -25,7 +26,8 @@ pub fn set_children(body: &[u8]) -> Children<'_>
 
 // A set: the type of its items, and the items.
 pub fn set_of(body: &[u8]) -> TermEntry<'_>
-    ensures { IsTerm (some (bytes "XC")) body.now result }
+    ensures is { IsTerm (some (bytes "XC")) body.now result }
+    ensures fits { TermFits result }
 {
     TermEntry::Set(number_at(body, 0), set_children(body))
 }
@@ -39,14 +41,16 @@ pub fn record_children(body: &[u8]) -> Children<'_>
 
 // A record: each attribute with its value.
 pub fn record_of(body: &[u8]) -> TermEntry<'_>
-    ensures { IsTerm (some (bytes "XR")) body.now result }
+    ensures is { IsTerm (some (bytes "XR")) body.now result }
+    ensures fits { TermFits result }
 {
     TermEntry::Record(record_children(body))
 }
 
 // An application: its type, the operator and the arguments.
 pub fn app_of(body: &[u8]) -> TermEntry<'_>
-    ensures { IsTerm (some (bytes "XA")) body.now result }
+    ensures is { IsTerm (some (bytes "XA")) body.now result }
+    ensures fits { TermFits result }
 {
     let t = number_at(body, 0);
     match read_operator::operator_again(Cursor { body, at: 4 }) {

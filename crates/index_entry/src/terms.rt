@@ -3,7 +3,7 @@ ghost use Rattle.std.specs.Prelude.{◌≡◌, [], ◌∷◌, drop};
 ghost use Rattle.std.specs.Iterator.{YieldsFirst, item_count};
 ghost use Rattle.std.proofs.Math.Option.{some};
 ghost use Rattle.index.specs.Lists.{number_at};
-ghost use Rattle.index_entry.specs.Terms.{children_in, names_of, IsTerm, TermAt};
+ghost use Rattle.index_entry.specs.Terms.{children_in, names_of, IsTerm, TermAt, TermFits};
 ghost use Rattle.index_entry.specs.Children.{past_name, ListedAt};
 
 use crate::lists::{self, Texts};
@@ -145,7 +145,8 @@ impl Iterator for Children<'_> {
 
 // The term of a body under a mark that begins with X, by its second byte.
 fn term_of(letter: u8, body: &[u8]) -> TermEntry<'_>
-    ensures { IsTerm (some (88 ∷ letter ∷ [])) body.now result }
+    ensures is { IsTerm (some (88 ∷ letter ∷ [])) body.now result }
+    ensures fits { TermFits result }
 {
     match letter {
         b'V' => crate::leaves::variable(body),
@@ -165,7 +166,8 @@ fn term_of(letter: u8, body: &[u8]) -> TermEntry<'_>
 
 // The term at an offset of the file.
 pub fn term_at(file: &[u8], offset: u32) -> TermEntry<'_>
-    ensures { TermAt file.now offset result }
+    ensures is { TermAt file.now offset result }
+    ensures fits { TermFits result }
 {
     let letter = records::letter_at(file, offset);
     term_of(letter, records::body_at(file, offset))

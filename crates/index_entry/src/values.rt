@@ -4,7 +4,7 @@ ghost use Rattle.index.specs.Lists.{number_at};
 ghost use Rattle.std.proofs.Math.Option.{some};
 ghost use Rattle.script_spec.specs.Base.{bytes};
 ghost use Rattle.read_field.specs.Takes.{prefix_number, IsPrefix};
-ghost use Rattle.index_entry.specs.Terms.{IsTerm};
+ghost use Rattle.index_entry.specs.Terms.{IsTerm, TermFits};
 
 use crate::records::number_at;
 use crate::terms::{TermEntry, Value};
@@ -47,7 +47,8 @@ fn prefix_at(body: &[u8], at: usize) -> Option<u32>
 
 // An extension value by its code.
 pub fn ext_lit(body: &[u8]) -> TermEntry<'_>
-    ensures { IsTerm (some (bytes "XX")) body.now result }
+    ensures is { IsTerm (some (bytes "XX")) body.now result }
+    ensures fits { TermFits result }
 {
     match byte_at(body, 0) {
         0 => TermEntry::ExtLit(Value::V4(u64::from(high_four(body)), prefix_at(body, 5))),

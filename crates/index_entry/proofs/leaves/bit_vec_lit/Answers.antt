@@ -3,5 +3,5 @@
 use Rattle.index_entry.proofs.LeafEntries.{term_bits}
 use Rattle.index_entry.proofs.leaves.bit_vec_lit.Goals as goal
 
-pub returns : goal.returns
-returns c = term_bits c.number_at-width.ensures c.part_of.ensures c.low_first-value.ensures
+pub returns-clause-is : goal.returns-clause-is
+returns-clause-is c = term_bits c.number_at-width.ensures c.part_of.ensures c.low_first-value.ensures

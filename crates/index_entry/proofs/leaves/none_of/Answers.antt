@@ -3,5 +3,5 @@
 use Rattle.index_entry.proofs.LeafEntries.{term_none}
 use Rattle.index_entry.proofs.leaves.none_of.Goals as goal
 
-pub returns : goal.returns
-returns c = term_none c.number_at.ensures
+pub returns-clause-is : goal.returns-clause-is
+returns-clause-is c = term_none c.number_at.ensures

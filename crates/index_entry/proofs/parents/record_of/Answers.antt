@@ -3,5 +3,5 @@
 use Rattle.index_entry.proofs.ParentEntries.{term_record}
 use Rattle.index_entry.proofs.parents.record_of.Goals as goal
 
-pub returns : goal.returns
-returns c = term_record c.record_children.ensures
+pub returns-clause-is : goal.returns-clause-is
+returns-clause-is c = term_record c.record_children.ensures

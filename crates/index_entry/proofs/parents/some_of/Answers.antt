@@ -3,5 +3,5 @@
 use Rattle.index_entry.proofs.ParentEntries.{term_some}
 use Rattle.index_entry.proofs.parents.some_of.Goals as goal
 
-pub returns : goal.returns
-returns c = term_some c.number_at.ensures
+pub returns-clause-is : goal.returns-clause-is
+returns-clause-is c = term_some c.number_at.ensures

@@ -5,50 +5,50 @@ use Rattle.script_spec.specs.Base.{bytes}
 use Rattle.index_entry.proofs.TermEntries.{under, no_terms}
 use Rattle.index_entry.proofs.terms.term_of.Goals as goal
 
-pub returns-in-86 : goal.returns-in-86
+pub returns-in-86-clause-is : goal.returns-in-86-clause-is
 unfolding bytes
-returns-in-86 c = under c.in-86.is c.variable.ensures
+returns-in-86-clause-is c = under c.in-86.is c.variable.ensures.is
 
-pub returns-in-66 : goal.returns-in-66
+pub returns-in-66-clause-is : goal.returns-in-66-clause-is
 unfolding bytes
-returns-in-66 c = under c.in-66.is c.bool_lit.ensures
+returns-in-66-clause-is c = under c.in-66.is c.bool_lit.ensures.is
 
-pub returns-in-78 : goal.returns-in-78
+pub returns-in-78-clause-is : goal.returns-in-78-clause-is
 unfolding bytes
-returns-in-78 c = under c.in-78.is c.bit_vec_lit.ensures
+returns-in-78-clause-is c = under c.in-78.is c.bit_vec_lit.ensures.is
 
-pub returns-in-83 : goal.returns-in-83
+pub returns-in-83-clause-is : goal.returns-in-83-clause-is
 unfolding bytes
-returns-in-83 c = under c.in-83.is c.string_lit.ensures
+returns-in-83-clause-is c = under c.in-83.is c.string_lit.ensures.is
 
-pub returns-in-69 : goal.returns-in-69
+pub returns-in-69-clause-is : goal.returns-in-69-clause-is
 unfolding bytes
-returns-in-69 c = under c.in-69.is c.entity_lit.ensures
+returns-in-69-clause-is c = under c.in-69.is c.entity_lit.ensures.is
 
-pub returns-in-88 : goal.returns-in-88
+pub returns-in-88-clause-is : goal.returns-in-88-clause-is
 unfolding bytes
-returns-in-88 c = under c.in-88.is c.ext_lit.ensures
+returns-in-88-clause-is c = under c.in-88.is c.ext_lit.ensures.is
 
-pub returns-in-48 : goal.returns-in-48
+pub returns-in-48-clause-is : goal.returns-in-48-clause-is
 unfolding bytes
-returns-in-48 c = under c.in-48.is c.none_of.ensures
+returns-in-48-clause-is c = under c.in-48.is c.none_of.ensures.is
 
-pub returns-in-49 : goal.returns-in-49
+pub returns-in-49-clause-is : goal.returns-in-49-clause-is
 unfolding bytes
-returns-in-49 c = under c.in-49.is c.some_of.ensures
+returns-in-49-clause-is c = under c.in-49.is c.some_of.ensures.is
 
-pub returns-in-67 : goal.returns-in-67
+pub returns-in-67-clause-is : goal.returns-in-67-clause-is
 unfolding bytes
-returns-in-67 c = under c.in-67.is c.set_of.ensures
+returns-in-67-clause-is c = under c.in-67.is c.set_of.ensures.is
 
-pub returns-in-82 : goal.returns-in-82
+pub returns-in-82-clause-is : goal.returns-in-82-clause-is
 unfolding bytes
-returns-in-82 c = under c.in-82.is c.record_of.ensures
+returns-in-82-clause-is c = under c.in-82.is c.record_of.ensures.is
 
-pub returns-in-65 : goal.returns-in-65
+pub returns-in-65-clause-is : goal.returns-in-65-clause-is
 unfolding bytes
-returns-in-65 c = under c.in-65.is c.app_of.ensures
+returns-in-65-clause-is c = under c.in-65.is c.app_of.ensures.is
 
-pub returns-in_default : goal.returns-in_default
-returns-in_default c =
+pub returns-in_default-clause-is : goal.returns-in_default-clause-is
+returns-in_default-clause-is c =
     no_terms (λ e. omega arith) (λ e. omega arith) (λ e. omega arith) (λ e. omega arith) (λ e. omega arith) (λ e. omega arith) (λ e. omega arith) (λ e. omega arith) (λ e. omega arith) (λ e. omega arith) (λ e. omega arith)
